@@ -1,0 +1,32 @@
+-- Document 01, "Answer numbers, in checking order": the number of each refusal, and for each answer its number with its length or place.
+use Prim.Native.Nat.{ℕ}
+use Rattle.answers.specs.declared.Reason.{Reason}
+use Rattle.answers.specs.declared.Reason.the-variants.{OptionsLength, OptionsValue, TreeLength, TreeDepth, TreeLayout, ChunkLayout, NotAscii, WorkRoom, TextRoom}
+use Rattle.answers.specs.declared.Answer.{Answer}
+use Rattle.answers.specs.declared.Answer.the-variants.{Accepted, Refused}
+use Rattle.answers.specs.declared.Checked.{Checked}
+use Rattle.answers.specs.declared.Checked.the-variants.{Passed, Failed}
+
+abbrev pub number : Reason → ℕ
+number OptionsLength = 1
+number OptionsValue = 2
+number TreeLength = 3
+number TreeDepth = 4
+number TreeLayout = 5
+number ChunkLayout = 6
+number NotAscii = 7
+number WorkRoom = 8
+number TextRoom = 9
+
+-- "Acceptance is 0 with the text's length"; "A refusal is a number and a place."
+abbrev pub numbers : Answer → ℕ × ℕ
+numbers (Accepted length) = (0, length)
+numbers (Refused refusal) = (number (refusal .reason), refusal .place)
+
+-- a judgement has no text: where it is passed its number and value are 0
+abbrev pub answerOf : Checked → Answer
+answerOf Passed = Accepted 0
+answerOf (Failed refusal) = Refused refusal
+
+abbrev pub numbersChecked : Checked → ℕ × ℕ
+numbersChecked checked = numbers (answerOf checked)

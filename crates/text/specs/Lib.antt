@@ -1,0 +1,5 @@
+pub mod Ink
+pub mod Lines
+pub mod Accepted
+pub mod Numbers
+pub mod Stores

@@ -1,0 +1,16 @@
+// Which bytes are blank.
+ghost use mathlib.Core.Path.{_≡_};
+ghost use Rattle.text.specs.Ink.{blank};
+
+// Whether a byte is blank: 9 to 13 or 32.
+pub fn is_blank(b: u8) -> bool
+    ensures { λ r. ⌜ r ≡ blank b ⌝ }
+{
+    if b == 32 {
+        return true;
+    }
+    if b < 9 {
+        return false;
+    }
+    b <= 13
+}

@@ -1,0 +1,62 @@
+// Scans of a slice, or of a part of one: blanks at either end, the first newline, the first byte that is not accepted.
+use crate::blanks;
+ghost use mathlib.Core.Path.{_≡_};
+ghost use Rattle.text.specs.Ink.{leadingBlanks, inkEnd};
+ghost use Rattle.text.specs.Lines.{newlineAt};
+ghost use Rattle.text.specs.Accepted.{faultAt};
+
+// How many blanks stand before the first ink.
+pub fn leading_blanks(bytes: &[u8]) -> usize
+    ensures { λ r. ⌜ r ≡ leadingBlanks (now (bytes .entry)) ⌝ }
+{
+    let mut i = 0;
+    while i < bytes.len() {
+        if !blanks::is_blank(bytes[i]) {
+            return i;
+        }
+        i += 1;
+    }
+    i
+}
+
+// The length up to the last ink, 0 where there is none.
+pub fn ink_end(bytes: &[u8]) -> usize
+    ensures { λ r. ⌜ r ≡ inkEnd (now (bytes .entry)) ⌝ }
+{
+    let mut end = bytes.len();
+    while 0 < end {
+        if !blanks::is_blank(bytes[end - 1]) {
+            return end;
+        }
+        end -= 1;
+    }
+    0
+}
+
+// The place of the first newline, or the length where there is none.
+pub fn newline_at(bytes: &[u8]) -> usize
+    ensures { λ r. ⌜ r ≡ newlineAt (now (bytes .entry)) ⌝ }
+{
+    let mut i = 0;
+    while i < bytes.len() {
+        if bytes[i] == 10 {
+            return i;
+        }
+        i += 1;
+    }
+    i
+}
+
+// The place of the first byte that no text may hold, or the length where there is none.
+pub fn fault_at(bytes: &[u8]) -> usize
+    ensures { λ r. ⌜ r ≡ faultAt (now (bytes .entry)) ⌝ }
+{
+    let mut i = 0;
+    while i < bytes.len() {
+        if 127 < bytes[i] {
+            return i;
+        }
+        i += 1;
+    }
+    i
+}
