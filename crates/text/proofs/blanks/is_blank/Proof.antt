@@ -1,19 +1,20 @@
+-- Each answer is the one that the definition has after the same three tests.
+use borrow.Author.Tests.{eq-eqb, ne-eqb, le-leb, lt-leb}
+use Rattle.text.specs.Ink.{blank}
 use Rattle.text.proofs.blanks.is_blank.Statement.{statement}
 use Rattle.text.proofs.blanks.is_blank.Tie as tie
-use Rattle.text.proofs.blanks.is_blank.Reads as reads
-use Rattle.text.proofs.blanks.is_blank.Lts as lts
 
--- src/blanks.rt:10:9
 returns : tie.Need-returns
-returns c = ?
+unfolding blank
+returns c = simp (eq-eqb _ _ (c .if1 .taken))
 
--- src/blanks.rt:13:9
 returns-2 : tie.Need-returns-2
-returns-2 c = ?
+unfolding blank
+returns-2 c = simp (ne-eqb _ _ (c .before .if1 .left), lt-leb _ _ (c .if2 .taken))
 
--- src/blanks.rt:6:1
 returns-3 : tie.Need-returns-3
-returns-3 c = ?
+unfolding blank
+returns-3 c = simp (ne-eqb _ _ (c .before .if1 .left), le-leb _ _ (c .if2 .left))
 
 pub is-blank-spec : {M : Type 1} → statement M
 is-blank-spec = tie.close (tie.spec returns returns-2 returns-3)

@@ -1,50 +1,59 @@
+-- What stands from `end` on is blank, so up to `end` the ink ends where it ends in the whole.
+use Prim.Native.Nat.{_≤_}
+use mathlib.Core.Path.{_≡_, sym, ap, _∙_}
+use native.Mathlib.Omega.{arith}
+use lib.ListN.{length, take}
+use lib.Seq.{take-length, length-take-le}
+use borrow.Author.Needs.{needs}
+use borrow.Author.Tests.{not-true, not-false}
+use Rattle.text.specs.Ink.{trimEnd}
+use Rattle.text.proofs.Ink.{trim-last-ink, trim-last-blank}
 use Rattle.text.proofs.scans.ink_end.Statement.{statement}
 use Rattle.text.proofs.scans.ink_end.Tie as tie
-use Rattle.text.proofs.scans.ink_end.Reads as reads
-use Rattle.text.proofs.scans.ink_end.Lts as lts
-use Rattle.text.proofs.blanks.is_blank.Reads as is-blank-reads
 
 abbrev Inv-loop : tie.InvT-loop
-Inv-loop bytes end₀ end = ?
+Inv-loop bytes end₀ end = (end ≤ length bytes) × (trimEnd (take end bytes) ≡ trimEnd bytes)
 
 abbrev μ-loop : tie.MeasureT-loop
-μ-loop bytes end₀ end = ?
+μ-loop bytes end₀ end = end
 
--- src/scans.rt:27:5
 loop-holds : tie.Need-loop-holds Inv-loop μ-loop
-loop-holds c = ?
+loop-holds c = (omega arith, ap trimEnd (take-length (c .before .args .bytes .now)))
 
--- src/scans.rt:28:36
 sub-is-blank : tie.Need-sub-is-blank Inv-loop μ-loop
-sub-is-blank c = ?
+sub-is-blank c = omega arith
 
--- src/scans.rt:28:30
 shared-slice-read-is-blank : tie.Need-shared-slice-read-is-blank Inv-loop μ-loop
-shared-slice-read-is-blank c = ?
+shared-slice-read-is-blank c = omega arith
 
--- src/scans.rt:28:13
 is-blank-requires : tie.Need-is-blank-requires Inv-loop μ-loop
-is-blank-requires c κs = ?
+is-blank-requires c κs = search needs
 
--- src/scans.rt:29:13
 returns : tie.Need-returns Inv-loop μ-loop
-returns c = ?
+returns c =
+    let turn = c .before .before .before .before .loop in
+    let bytes = c .before .before .before .before .before .before .args .bytes .now in
+    let kept = trim-last-ink bytes (turn .end) (c .before .before .before .loop-test .taken) (turn .inv .0) (sym (c .before .is-blank .ensures) ∙ not-true _ (c .if1 .taken)) in
+    sym (length-take-le (turn .end) bytes (turn .inv .0)) ∙ ap length (sym kept ∙ turn .inv .1)
 
--- src/scans.rt:31:9
 sub-end : tie.Need-sub-end Inv-loop μ-loop
-sub-end c = ?
+sub-end c = omega arith
 
--- src/scans.rt:27:5
 loop-less : tie.Need-loop-less Inv-loop μ-loop
-loop-less c = ?
+loop-less c = omega arith
 
--- src/scans.rt:27:5
 loop-again : tie.Need-loop-again Inv-loop μ-loop
-loop-again c = ?
+loop-again c =
+    let turn = c .before .before .before .before .loop in
+    let bytes = c .before .before .before .before .before .before .args .bytes .now in
+    let cut = trim-last-blank bytes (turn .end) (c .before .before .before .loop-test .taken) (turn .inv .0) (sym (c .before .is-blank .ensures) ∙ not-false _ (c .if1 .left)) in
+    (omega arith, sym cut ∙ turn .inv .1)
 
--- src/scans.rt:23:1
 returns-2 : tie.Need-returns-2 Inv-loop μ-loop
-returns-2 c = ?
+unfolding trimEnd
+returns-2 c =
+    let none : c .before .loop .end ≡ 0 = omega arith in
+    ap length (rw none at (c .before .loop .inv .1))
 
 pub ink-end-spec : {M : Type 1} → statement M
 ink-end-spec =

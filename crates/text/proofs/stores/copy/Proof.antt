@@ -1,61 +1,75 @@
+-- The bytes still to come, stored into the buffer as it is, are all the bytes stored into the buffer as it was.
+use Prim.Native.Nat.{_+_, _-_, _≤_, _<_}
+use mathlib.Core.Path.{_≡_, refl, sym, ap, _∙_}
+use native.Mathlib.Omega.{arith}
+use native.Mathlib.Nat.{add-zero}
+use lib.ListN.{length, drop, length-set, drop-of-length-le}
+use lib.Seq.{sets}
+use borrow.Author.Tests.{le-leb, lt-leb}
+use Rattle.text.proofs.Buffers.{store-step}
 use Rattle.text.proofs.stores.copy.Statement.{statement}
 use Rattle.text.proofs.stores.copy.Tie as tie
-use Rattle.text.proofs.stores.copy.Reads as reads
-use Rattle.text.proofs.stores.copy.Lts as lts
 
 abbrev Inv-loop : tie.InvT-loop
-Inv-loop bytes buffer₀ at room count i₀ buffer i = ?
+Inv-loop bytes buffer₀ at room count i₀ buffer i =
+    (i ≤ length bytes) × (length buffer ≡ length buffer₀) × (sets buffer (at + i) (drop i bytes) ≡ sets buffer₀ at bytes)
 
 abbrev μ-loop : tie.MeasureT-loop
-μ-loop bytes buffer₀ at room count i₀ buffer i = ?
+μ-loop bytes buffer₀ at room count i₀ buffer i = length bytes - i
 
--- src/stores.rt:20:9
 returns : tie.Need-returns Inv-loop μ-loop
-returns c = ?
+returns c =
+    let start = c .before in
+    let short : length (start .args .buffer .now) < start .args .at + length (start .args .bytes .now) = omega arith in
+    (simp (lt-leb _ _ short), simp (lt-leb _ _ short))
 
--- src/stores.rt:23:9
 returns-2 : tie.Need-returns-2 Inv-loop μ-loop
-returns-2 c = ?
+returns-2 c =
+    let start = c .before .before in
+    let short : length (start .args .buffer .now) < start .args .at + length (start .args .bytes .now) = omega arith in
+    (simp (lt-leb _ _ short), simp (lt-leb _ _ short))
 
--- src/stores.rt:26:5
 loop-holds : tie.Need-loop-holds Inv-loop μ-loop
-loop-holds c = ?
+loop-holds c = (omega arith, refl, rw add-zero)
 
--- src/stores.rt:27:26
 shared-slice-read-buffer : tie.Need-shared-slice-read-buffer Inv-loop μ-loop
-shared-slice-read-buffer c = ?
+shared-slice-read-buffer c = omega arith
 
--- src/stores.rt:27:16
 add-buffer : tie.Need-add-buffer Inv-loop μ-loop
-add-buffer c = ?
+add-buffer c = omega arith
 
--- src/stores.rt:27:9
 slice-write-buffer : tie.Need-slice-write-buffer Inv-loop μ-loop
-slice-write-buffer c = ?
+slice-write-buffer c = omega arith
 
--- src/stores.rt:28:9
 add-i : tie.Need-add-i Inv-loop μ-loop
-add-i c = ?
+add-i c = omega arith
 
--- src/stores.rt:26:5
 loop-less : tie.Need-loop-less Inv-loop μ-loop
-loop-less c = ?
+loop-less c = omega arith
 
--- src/stores.rt:26:5
 loop-again : tie.Need-loop-again Inv-loop μ-loop
-loop-again c = ?
+loop-again c =
+    let start = c .before .before .before .before .before in
+    let turn = c .before .before .loop in (
+      omega arith,
+      simp length-set (turn .inv .1),
+      store-step (turn .buffer) (start .args .bytes .now) (start .args .at) (turn .i) (c .before .loop-test .taken) ∙ turn .inv .2,
+    )
 
--- src/stores.rt:30:17
 add-t8 : tie.Need-add-t8 Inv-loop μ-loop
-add-t8 c = ?
+add-t8 c = omega arith
 
--- src/stores.rt:13:1
 same-length : tie.Need-same-length Inv-loop μ-loop
-same-length c = ?
+same-length c = c .before .loop .inv .1
 
--- src/stores.rt:13:1
 returns-3 : tie.Need-returns-3 Inv-loop μ-loop
-returns-3 c = ?
+returns-3 c =
+    let start = c .before .before .before .before in
+    let turn = c .before .loop in
+    let room : start .args .at + length (start .args .bytes .now) ≤ length (start .args .buffer .now) = omega arith in (
+      simp (le-leb _ _ room),
+      simp (le-leb _ _ room) (sym (ap (sets (turn .buffer) (start .args .at + turn .i)) (drop-of-length-le (start .args .bytes .now) (c .loop-test .left))) ∙ turn .inv .2),
+    )
 
 pub copy-spec : {M : Type 1} → statement M
 copy-spec =

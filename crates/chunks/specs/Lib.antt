@@ -1,0 +1,5 @@
+pub mod Stored
+pub mod Reading
+pub mod Judging
+pub mod Appending
+pub mod Steps

@@ -1,0 +1,7 @@
+// The column setter: a stored chunk list becomes text in columns.
+pub mod line;
+pub mod lines;
+pub mod margins;
+pub mod piece;
+pub mod setter;
+pub use setter::join_chunks;

@@ -1,0 +1,3 @@
+pub mod Cased
+pub mod Values
+pub mod Examples

@@ -1,0 +1,54 @@
+-- The stored values, field by field.
+use Prim.Native.Nat.{ℕ, suc, _+_, _-_, _≤_, _<_}
+use mathlib.Core.Path.{_≡_, refl}
+use mathlib.Core.List.{List}
+use mathlib.Core.Bool.{Bool, true, false, cond, _&&_}
+use native.Mathlib.Numerals.{add-one}
+use native.Mathlib.Omega.{arith}
+use lib.ListN.{getD}
+use lib.Dec.{eqb, ltb}
+use borrow.Author.Tests.{ltb-false}
+use Rattle.answers.specs.declared.Refusal.{Refusal}
+use Rattle.answers.specs.declared.Checked.{Checked}
+use Rattle.answers.specs.declared.Checked.the-variants.{Passed, Failed}
+use Rattle.answers.specs.declared.Reason.the-variants.{OptionsValue}
+use Rattle.options.specs.Stored.{bit, standing, placeOf, mapOf, valueOf, tooLarge, valuesChecked}
+
+-- the bits below k + 1 are those below k, and bit k
+pub standing-step : (map k : ℕ) → standing map (k + 1) ≡ standing map k + bit map k
+unfolding standing
+standing-step map k = rw add-one
+
+-- the fields from k on are field k and those behind it
+pub checked-step : (stored : List ℕ) (k : ℕ) → k < 8
+    → valuesChecked stored k (8 - k) ≡ cond (tooLarge stored k)
+    (Failed (record { reason = OptionsValue; place = placeOf (mapOf stored) k }))
+    (valuesChecked stored (k + 1) (8 - (k + 1)))
+unfolding valuesChecked
+checked-step stored k h = let e : 8 - k ≡ suc (8 - (k + 1)) = omega arith in rw e
+
+-- from field 8 on there is none
+pub checked-none : (stored : List ℕ) (k : ℕ) → 8 ≤ k → valuesChecked stored k (8 - k) ≡ Passed
+unfolding valuesChecked
+checked-none stored k h = let e : 8 - k ≡ 0 = omega arith in rw e
+
+-- a choice that is passed did not fall on the refusal
+passed-both : (t : Bool) (refusal : Refusal) (rest : Checked) → cond t (Failed refusal) rest ≡ Passed → (t ≡ false) × (rest ≡ Passed)
+passed-both true refusal rest e = let z : _≡_ {A = ℕ} 0 1 = cc in absurd (omega arith)
+passed-both false refusal rest e = (refl, e)
+
+-- where the fields from k on are passed, field k is not too large, and those behind it are passed
+passed-step : (stored : List ℕ) (k n : ℕ) → valuesChecked stored k (suc n) ≡ Passed → (tooLarge stored k ≡ false) × (valuesChecked stored (k + 1) n ≡ Passed)
+unfolding valuesChecked
+passed-step stored k n e = passed-both (tooLarge stored k) _ (valuesChecked stored (k + 1) n) e
+
+-- a field that is not too large has a value of at most the largest, where its default is so
+value-small : (stands : Bool) (value default most : ℕ) → (stands && ltb most value) ≡ false → default ≤ most → cond stands value default ≤ most
+value-small true value default most e h = ltb-false most value e
+value-small false value default most e h = h
+
+-- where all values are passed the indent is at most 64
+pub indent-small : (stored : List ℕ) → valuesChecked stored 0 8 ≡ Passed → valueOf stored 3 ≤ 64
+indent-small stored e =
+    let behind = passed-step stored 2 5 (passed-step stored 1 6 (passed-step stored 0 7 e .1) .1) .1 in
+    value-small (eqb (bit (mapOf stored) 3) 1) (getD stored (placeOf (mapOf stored) 3) 0) 4 64 (passed-step stored 3 4 behind .0) (omega arith)

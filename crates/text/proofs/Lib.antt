@@ -1,0 +1,7 @@
+pub mod Choices
+pub mod Parts
+pub mod Ink
+pub mod Lines
+pub mod Accepted
+pub mod TwoBytes
+pub mod Buffers
