@@ -63,12 +63,11 @@ pub(crate) fn add_step(measure: Measure, list: &[u8], step: Step) -> Measure {
 
 // A chunk that starts while the indent is unset sets it.
 pub(crate) fn takes(indent: Indent, spot: Spot) -> Indent {
-    let chunk = spot.chunk;
     match indent {
         Indent::Set(count) => Indent::Set(count),
         Indent::Unset => {
-            if spot.at == chunk.start {
-                return Indent::Set(chunk.indent);
+            if spot.at == spot.start {
+                return Indent::Set(spot.indent);
             }
             Indent::Unset
         }

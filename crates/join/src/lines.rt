@@ -1,5 +1,4 @@
 // The lines of a text: which are kept, and where each stands.
-use chunks::stored;
 use crate::line;
 use crate::line::Measure;
 use crate::line::Window;
@@ -110,8 +109,8 @@ pub(crate) fn set_lines(list: &[u8], margins: Margins, text: &mut [u8], writing:
         blank: false,
         standalone: false,
     };
-    let mut spot = piece::spot_on(list, stored::chunk_at(list, 0));
-    while spot.more {
+    let mut spot = piece::spot_at(list, 0);
+    while spot.at < list.len() {
         let walked = line::measure_line(list, margins, spot);
         let measure = walked.measure;
         let indent = walked.indent;

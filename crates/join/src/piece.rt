@@ -1,10 +1,9 @@
 // The pieces of a chunk list: each chunk is cut after every newline. How each is laid on a line of a known length.
-use chunks::stored;
-use chunks::stored::ChunkAt;
 use chunks::stored::ChunkType;
 use chunks::stored::StoredChunk;
 use crate::margins::Margins;
 use options::Alignment;
+use text::numbers;
 use text::scans;
 
 // What follows a chunk: none, a chunk that is exactly a newline, or another chunk.
@@ -14,35 +13,70 @@ pub enum Follows {
     Other,
 }
 
-// Where a walk stands: at `at` in the text of `chunk`, behind which stands `next`. Past the last chunk `more` is false.
+// Where a walk stands: at `at` in the chunk whose text is list[start..end]; past the last chunk all three are the list's length.
 pub struct Spot {
-    pub chunk: StoredChunk,
+    pub ty: ChunkType,
+    pub indent: usize,
+    pub start: usize,
     pub at: usize,
-    pub next: ChunkAt,
-    pub more: bool,
+    pub end: usize,
 }
 
-// The start of a chunk that was found, or past the last chunk.
-pub(crate) fn spot_on(list: &[u8], found: ChunkAt) -> Spot {
-    let ChunkAt::Found(chunk) = found else {
-        return Spot {
-            chunk: StoredChunk {
-                ty: ChunkType::Code,
-                indent: 0,
-                start: 0,
-                end: 0,
-            },
-            at: 0,
-            next: ChunkAt::NoChunk,
-            more: false,
+// The two-byte number at a place.
+fn number_at(list: &[u8], at: usize) -> usize {
+    numbers::wide(list[at]) + 256 * numbers::wide(list[at + 1])
+}
+
+fn type_of(bits: usize) -> ChunkType {
+    if bits == 1 {
+        return ChunkType::Label;
+    }
+    if bits == 2 {
+        return ChunkType::Comment;
+    }
+    ChunkType::Code
+}
+
+// The chunk at a place of a list that was judged: it is not judged again.
+pub(crate) fn chunk_in(list: &[u8], place: usize) -> StoredChunk {
+    let map = numbers::wide(list[place]);
+    if map < 4 {
+        let start = place + 3;
+        return StoredChunk {
+            ty: type_of(map),
+            indent: 0,
+            start: start,
+            end: start + number_at(list, place + 1),
         };
-    };
-    let end = chunk.end;
+    }
+    let start = place + 5;
+    StoredChunk {
+        ty: type_of(map - 4),
+        indent: number_at(list, place + 1),
+        start: start,
+        end: start + number_at(list, place + 3),
+    }
+}
+
+// The start of the chunk at a place, or past the last chunk.
+pub(crate) fn spot_at(list: &[u8], place: usize) -> Spot {
+    if list.len() <= place {
+        return Spot {
+            ty: ChunkType::Code,
+            indent: 0,
+            start: place,
+            at: place,
+            end: place,
+        };
+    }
+    let chunk = chunk_in(list, place);
+    let ty = chunk.ty;
     Spot {
-        chunk: chunk,
+        ty: ty,
+        indent: chunk.indent,
+        start: chunk.start,
         at: chunk.start,
-        next: stored::chunk_at(list, end),
-        more: true,
+        end: chunk.end,
     }
 }
 
@@ -69,23 +103,25 @@ pub(crate) fn piece_end(list: &[u8], at: usize, end: usize) -> PieceEnd {
 
 // The spot behind the piece that ends at `end`.
 pub(crate) fn spot_after(list: &[u8], spot: Spot, end: usize) -> Spot {
-    let chunk = spot.chunk;
-    let next = spot.next;
-    if end < chunk.end {
+    if end < spot.end {
+        let ty = spot.ty;
         return Spot {
-            chunk: chunk,
+            ty: ty,
+            indent: spot.indent,
+            start: spot.start,
             at: end,
-            next: next,
-            more: true,
+            end: spot.end,
         };
     }
-    spot_on(list, next)
+    spot_at(list, end)
 }
 
-pub(crate) fn follows(list: &[u8], next: ChunkAt) -> Follows {
-    let ChunkAt::Found(chunk) = next else {
+// What follows a chunk that ends at a place.
+pub(crate) fn follows(list: &[u8], place: usize) -> Follows {
+    if list.len() <= place {
         return Follows::Nothing;
-    };
+    }
+    let chunk = chunk_in(list, place);
     let start = chunk.start;
     if chunk.end - start == 1 {
         if list[start] == 10 {
@@ -168,23 +204,19 @@ pub(crate) fn lay_comment(margins: Margins, length: usize, follows: Follows) -> 
     }
 }
 
-// How the piece at a spot, which ends at `piece`, is laid on a line of `length` bytes.
+// How the piece at a spot is laid on a line of `length` bytes.
 pub(crate) fn lay_piece(list: &[u8], margins: Margins, spot: Spot, length: usize, piece: PieceEnd) -> Lay {
-    let at = spot.at;
-    let chunk = spot.chunk;
-    let ty = chunk.ty;
+    let count = piece.end - spot.at;
+    let ty = spot.ty;
     match ty {
-        ChunkType::Label => lay_label(margins, length, piece.end - at),
+        ChunkType::Label => lay_label(margins, length, count),
         ChunkType::Code => {
-            if piece.end - at == 1 {
+            if count == 1 {
                 return lay_code(margins, length, piece.newline);
             }
             lay_code(margins, length, false)
         }
-        ChunkType::Comment => {
-            let next = spot.next;
-            lay_comment(margins, length, follows(list, next))
-        }
+        ChunkType::Comment => lay_comment(margins, length, follows(list, spot.end)),
     }
 }
 
@@ -198,19 +230,11 @@ pub struct Step {
     pub spot: Spot,
 }
 
-// Whether a piece ends its line: it has a newline, or no chunk stands behind its own.
-fn ends_line(next: ChunkAt, newline: bool) -> bool {
-    match next {
-        ChunkAt::Found(_) => newline,
-        ChunkAt::NoChunk => true,
-    }
-}
-
+// One piece: `length` is the length of the line so far.
 pub(crate) fn step(list: &[u8], margins: Margins, spot: Spot, length: usize) -> Step {
     let at = spot.at;
-    let chunk = spot.chunk;
-    let next = spot.next;
-    let end = chunk.end;
+    let end = spot.end;
+    let last = list.len() <= end;
     let piece = piece_end(list, at, end);
     let lay = lay_piece(list, margins, spot, length, piece);
     let behind = spot_after(list, spot, piece.end);
@@ -220,7 +244,7 @@ pub(crate) fn step(list: &[u8], margins: Margins, spot: Spot, length: usize) -> 
             from: at,
             to: at,
             behind: 0,
-            ends: ends_line(next, false),
+            ends: last,
             spot: behind,
         };
     }
@@ -229,7 +253,7 @@ pub(crate) fn step(list: &[u8], margins: Margins, spot: Spot, length: usize) -> 
         from: at,
         to: piece.end,
         behind: lay.behind,
-        ends: ends_line(next, piece.newline),
+        ends: last || piece.newline,
         spot: behind,
     }
 }

@@ -29,7 +29,7 @@ returns c =
     sym
     (turn .inv .1
     ∙ checked-step (start .args .stored .now) (turn .k) (c .before .before .before .loop-test .taken)
-    ∙ rw (← (c .before .before .too-large .ensures), c .before .if1 .taken, ← (start .pre), ← (c .place-of .ensures .0)))
+    ∙ rw (← (c .before .before .too-large .ensures), c .before .if1 .taken, ← (start .pre), c .place-of .ensures .0))
 
 add-k : tie.Need-add-k Inv-loop μ-loop
 add-k c = omega arith

@@ -1,4 +1,13 @@
+-- Each answer is the one that the definition has after the same tests, and the head and the three parts, stored one behind the other, are the chunk stored.
+use Prim.Native.Nat.{_+_, _≤_}
+use mathlib.Core.Path.{_≡_, refl, sym, ap, _∙_}
+use mathlib.Core.List.{_++_}
+use native.Mathlib.Omega.{arith}
+use lib.ListN.{length, length-append}
 use borrow.Author.Needs.{needs}
+use Rattle.chunks.specs.Stored.{Chunk, WellFormed, storedChunk}
+use Rattle.chunks.proofs.Forms.{indent-length, head-length, chunk-length}
+use Rattle.chunks.proofs.Storing.{chunk-stores, append-deep, append-empty, append-long, append-past, append-no-room, append-stored}
 use Rattle.chunks.proofs.append.append_chunk.Statement.{statement}
 use Rattle.chunks.proofs.append.append_chunk.Tie as tie
 use Rattle.chunks.proofs.append.append_chunk.Reads as reads
@@ -8,93 +17,107 @@ use Rattle.chunks.proofs.append.head_length.Reads as head-length-reads
 use Rattle.chunks.proofs.append.store_head.Reads as store-head-reads
 use Rattle.text.proofs.stores.copy.Reads as copy-reads
 
--- src/append.rt:88:9
+-- the chunk that is handed over
+abbrev handed : tie.Start → Chunk
+handed start = record { ty = start .args .ty; indent = start .args .indent; text = start .args .front .now ++ (start .args .text .now ++ start .args .back .now) }
+
+handed-length : (start : tie.Start) → length (handed start .text) ≡ length (start .args .front .now) + (length (start .args .text .now) + length (start .args .back .now))
+handed-length start = simp length-append
+
+-- it is well formed where the tests have let it pass
+passed : (c : tie.Else6) → WellFormed (handed (c .before .before .before .before .before .before .before .before .before .before))
+passed c =
+    let some = handed-length (c .before .before .before .before .before .before .before .before .before .before) in
+    record { indent = omega arith; some = omega arith; short = omega arith }
+
 returns : tie.Need-returns
-returns c = ?
+returns c = append-deep _ _ (handed (c .before .before .before .before .before)) (c .if1 .taken)
 
--- src/append.rt:91:9
 returns-2 : tie.Need-returns-2
-returns-2 c = ?
+returns-2 c = 
+    let start = c .before .before .before .before .before .before in
+    append-long _ _ (handed start) (omega (arith, handed-length start))
 
--- src/append.rt:94:9
 returns-3 : tie.Need-returns-3
-returns-3 c = ?
+returns-3 c = 
+    let start = c .before .before .before .before .before .before .before in
+    append-long _ _ (handed start) (omega (arith, handed-length start))
 
--- src/append.rt:97:9
 returns-4 : tie.Need-returns-4
-returns-4 c = ?
+returns-4 c = 
+    let start = c .before .before .before .before .before .before .before .before in
+    append-long _ _ (handed start) (omega (arith, handed-length start))
 
--- src/append.rt:99:32
 add-count : tie.Need-add-count
 add-count c = search needs
 
--- src/append.rt:99:17
 add-count-2 : tie.Need-add-count-2
 add-count-2 c = search needs
 
--- src/append.rt:101:9
 returns-5 : tie.Need-returns-5
-returns-5 c = ?
+returns-5 c = 
+    let start = c .before .before .before .before .before .before .before .before .before in
+    append-empty _ _ (handed start) (omega (arith, handed-length start))
 
--- src/append.rt:104:9
 returns-6 : tie.Need-returns-6
-returns-6 c = ?
+returns-6 c = 
+    let start = c .before .before .before .before .before .before .before .before .before .before in
+    append-long _ _ (handed start) (omega (arith, handed-length start))
 
--- src/append.rt:106:9
 capacity-requires : tie.Need-capacity-requires
 capacity-requires c κs = search needs
 
--- src/append.rt:108:9
 returns-7 : tie.Need-returns-7
-returns-7 c = ?
+returns-7 c = 
+    let start = c .before .before .before .before .before .before .before .before .before .before .before .before in
+    append-past _ _ (handed start) (passed (c .before .before)) (omega arith)
 
--- src/append.rt:110:22
 head-length-requires : tie.Need-head-length-requires
 head-length-requires c κs = search needs
 
--- src/append.rt:110:15
 add-end : tie.Need-add-end
-add-end c = ?
+add-end c = omega (arith, indent-length (c .before .before .before .before .before .before .before .before .before .before .before .before .before .args .indent))
 
--- src/append.rt:110:15
 add-end-2 : tie.Need-add-end-2
-add-end-2 c = ?
+add-end-2 c = omega (arith, indent-length (c .before .before .before .before .before .before .before .before .before .before .before .before .before .args .indent))
 
--- src/append.rt:112:9
 returns-8 : tie.Need-returns-8
-returns-8 c = ?
+returns-8 c = 
+    let start = c .before .before .before .before .before .before .before .before .before .before .before .before .before .before in
+    append-no-room _ _ (handed start) (passed (c .before .before .before .before)) (omega arith)
+    (omega (arith, chunk-length (handed start), handed-length start)) (omega arith)
 
--- src/append.rt:114:9
 store-head-requires : tie.Need-store-head-requires
-store-head-requires c κs = ?
+store-head-requires c κs = 
+    let start = c .before .before .before .before .before .before .before .before .before .before .before .before .before .before .before in
+    omega (arith, head-length (start .args .ty) (start .args .indent) (length (handed start .text)), handed-length start)
 
--- src/append.rt:115:5
 copy-requires : tie.Need-copy-requires
 copy-requires c κs = search needs
 
--- src/append.rt:116:18
 add-second : tie.Need-add-second
-add-second c = ?
+add-second c = 
+    let start = c .before .before .before .before .before .before .before .before .before .before .before .before .before .before .before .before .before .before .before .before .before .before in
+    ?
 
--- src/append.rt:117:5
 copy-requires-2 : tie.Need-copy-requires-2
 copy-requires-2 c κs = search needs
 
--- src/append.rt:118:17
 add-third : tie.Need-add-third
-add-third c = ?
+add-third c = 
+    let start = c .before .before .before .before .before .before .before .before .before .before .before .before .before .before .before .before .before .before .before .before .before .before .before .before .before .before in
+    ?
 
--- src/append.rt:119:5
 copy-requires-3 : tie.Need-copy-requires-3
 copy-requires-3 c κs = search needs
 
--- src/append.rt:83:1
 same-length : tie.Need-same-length
 same-length c = search needs
 
--- src/append.rt:83:1
 returns-9 : tie.Need-returns-9
-returns-9 c = ?
+returns-9 c = 
+    let start = c .before .before .before .before .before .before .before .before .before .before .before .before .before .before .before .before .before .before .before .before .before .before .before .before .before .before .before .before .before .before in
+    ?
 
 pub append-chunk-spec : {M : Type 1} → statement M
 append-chunk-spec =

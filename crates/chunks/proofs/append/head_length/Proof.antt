@@ -1,15 +1,18 @@
+-- The indent takes two bytes where there is one.
+use mathlib.Core.Path.{ap}
+use native.Mathlib.Omega.{arith}
+use lib.ListN.{length}
+use Rattle.chunks.specs.Stored.{storedIndent}
+use Rattle.chunks.proofs.Forms.{indent-stored}
 use Rattle.chunks.proofs.append.head_length.Statement.{statement}
 use Rattle.chunks.proofs.append.head_length.Tie as tie
-use Rattle.chunks.proofs.append.head_length.Reads as reads
-use Rattle.chunks.proofs.append.head_length.Lts as lts
 
--- src/append.rt:77:9
 returns : tie.Need-returns
-returns c = ?
+unfolding storedIndent
+returns c = rw (c .if1 .taken)
 
--- src/append.rt:73:1
 returns-2 : tie.Need-returns-2
-returns-2 c = ?
+returns-2 c = rw (indent-stored (c .before .args .indent) (c .if1 .left))
 
 pub head-length-spec : {M : Type 1} → statement M
 head-length-spec = tie.close (tie.spec returns returns-2)

@@ -1,4 +1,11 @@
+-- The map byte, the indent and the text length, stored one behind the other, are the head stored.
+use Prim.Native.Nat.{_+_, _≤_}
+use mathlib.Core.Path.{_≡_, sym, ap, _∙_}
+use native.Mathlib.Omega.{arith}
+use lib.ListN.{length, length-set}
 use borrow.Author.Needs.{needs}
+use Rattle.chunks.proofs.Forms.{head-length}
+use Rattle.chunks.proofs.Storing.{number-fits, head-stores}
 use Rattle.chunks.proofs.append.store_head.Statement.{statement}
 use Rattle.chunks.proofs.append.store_head.Tie as tie
 use Rattle.chunks.proofs.append.store_head.Reads as reads
@@ -7,37 +14,45 @@ use Rattle.chunks.proofs.append.map_byte.Reads as map-byte-reads
 use Rattle.chunks.proofs.append.store_indent.Reads as store-indent-reads
 use Rattle.text.proofs.numbers.store_number.Reads as store-number-reads
 
--- src/append.rt:66:16
 map-byte-requires : tie.Need-map-byte-requires
 map-byte-requires c κs = search needs
 
--- src/append.rt:66:5
 slice-write-room : tie.Need-slice-write-room
-slice-write-room c = ?
+slice-write-room c =
+    let start = c .before .before in
+    omega (arith, head-length (start .args .ty) (start .args .indent) (start .args .count))
 
--- src/append.rt:67:37
 add-store-indent : tie.Need-add-store-indent
 add-store-indent c = search needs
 
--- src/append.rt:67:9
 store-indent-requires : tie.Need-store-indent-requires
-store-indent-requires c κs = ?
+store-indent-requires c κs =
+    let start = c .before .before .before in
+    simp length-set (omega (arith, head-length (start .args .ty) (start .args .indent) (start .args .count)))
 
--- src/append.rt:68:5
 store-number-requires : tie.Need-store-number-requires
 store-number-requires c κs = search needs
 
--- src/append.rt:69:5
 add-result : tie.Need-add-result
-add-result c = ?
+add-result c = 
+    let start = c .before .before .before .before .before .before .before .before .before .before in
+    omega (arith, head-length (start .args .ty) (start .args .indent) (start .args .count))
 
--- src/append.rt:61:1
 same-length : tie.Need-same-length
-same-length c = ?
+same-length c =
+    c .before .before .store-number .kept .0 ∙ c .before .before .before .before .before .before .store-indent .kept .0 ∙ simp length-set
 
--- src/append.rt:61:1
 returns : tie.Need-returns
-returns c = ?
+returns c =
+    let start = c .before .before .before .before .before .before .before .before .before .before in
+    let indented = c .before .before .before .before .before .before .store-indent in
+    (
+      omega (arith, head-length (start .args .ty) (start .args .indent) (start .args .count)),
+      head-stores (start .args .room .now) (start .args .at) (start .args .ty) (start .args .indent) (start .args .count)
+      (start .pre .1) (start .pre .2)
+      (c .before .before .before .before .before .before .before .before .map-byte .ensures) (indented .ensures .1)
+      (indented .ensures .0) (c .before .before .store-number .ensures .1),
+    )
 
 pub store-head-spec : {M : Type 1} → statement M
 store-head-spec =

@@ -1,19 +1,16 @@
+-- The same tests as the definition's.
+use borrow.Author.Tests.{eq-eqb, ne-eqb}
 use Rattle.chunks.proofs.stored.type_of.Statement.{statement}
 use Rattle.chunks.proofs.stored.type_of.Tie as tie
-use Rattle.chunks.proofs.stored.type_of.Reads as reads
-use Rattle.chunks.proofs.stored.type_of.Lts as lts
 
--- src/stored.rt:37:9
 returns : tie.Need-returns
-returns c = ?
+returns c = simp (eq-eqb _ _ (c .if1 .taken))
 
--- src/stored.rt:40:9
 returns-2 : tie.Need-returns-2
-returns-2 c = ?
+returns-2 c = simp (ne-eqb _ _ (c .before .if1 .left), eq-eqb _ _ (c .if2 .taken))
 
--- src/stored.rt:33:1
 returns-3 : tie.Need-returns-3
-returns-3 c = ?
+returns-3 c = simp (ne-eqb _ _ (c .before .if1 .left), ne-eqb _ _ (c .if2 .left))
 
 pub type-of-spec : {M : Type 1} → statement M
 type-of-spec = tie.close (tie.spec returns returns-2 returns-3)
