@@ -1,6 +1,5 @@
 -- Laws of a chunk's stored form: its map byte, its indent and its length.
-use mathlib.Core.Path.{_≡_, refl, ap, _∙_}
-use mathlib.Core.List.{List, [], _∷_, _++_}
+use mathlib.Core.Path.{_≡_, refl}
 use Prim.Native.Nat.{ℕ, zero, suc, _+_, _%_, _≤_, _<_}
 use native.Mathlib.Omega.{arith}
 use lib.ListN.{length, length-append}
@@ -15,6 +14,28 @@ pub type-bits-small : (ty : ChunkType) → typeBits ty ≤ 2
 type-bits-small Code = omega arith
 type-bits-small Label = omega arith
 type-bits-small Comment = omega arith
+
+-- a type is what its bits tell
+type-of-bits : (ty : ChunkType) → typeOf (typeBits ty) ≡ ty
+type-of-bits Code = refl
+type-of-bits Label = refl
+type-of-bits Comment = refl
+
+-- the bits of the type that they tell
+pub bits-of-type : (bits : ℕ) → bits < 3 → typeBits (typeOf bits) ≡ bits
+bits-of-type zero small = refl
+bits-of-type (suc zero) small = refl
+bits-of-type (suc (suc zero)) small = refl
+bits-of-type (suc (suc (suc n))) small = absurd (omega arith)
+
+-- the two lowest bits of a map are its type's
+pub map-bits : (ty : ChunkType) (indent : ℕ) → (typeBits ty + indentBit indent) % 4 ≡ typeBits ty
+map-bits ty zero = omega (arith, type-bits-small ty)
+map-bits ty (suc n) = omega (arith, type-bits-small ty)
+
+-- so a map tells its type
+pub map-type : (ty : ChunkType) (indent : ℕ) → typeOf ((typeBits ty + indentBit indent) % 4) ≡ ty
+map-type ty indent = rw (map-bits ty indent) (type-of-bits ty)
 
 -- an indent that is not 0 has its bit
 pub indent-bit : (n : ℕ) → (n ≡ 0 → ⊥) → indentBit n ≡ 4

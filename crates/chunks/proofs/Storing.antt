@@ -1,6 +1,6 @@
 -- Laws of storing a chunk into a room.
-use mathlib.Core.Path.{_≡_, refl, sym, ap, _∙_}
-use mathlib.Core.List.{List, [], _∷_, _++_}
+use mathlib.Core.Path.{_≡_, refl, sym, _∙_}
+use mathlib.Core.List.{List, _++_, append-assoc}
 use mathlib.Core.Bool.{Bool, true, false, _||_}
 use Prim.Native.Nat.{ℕ, suc, _+_, _≤_, _<_}
 use native.Mathlib.Omega.{arith}
@@ -41,15 +41,32 @@ head-stores room at ty indent count {one = one} short fits first second place th
     (number-fits (sets head (at + 1) (storedIndent indent)) (at + 1 + length (storedIndent indent)) count short enough
     ∙ rw (add-one at) (sym (sets-append head (suc at) (storedIndent indent) (twoBytes count))))
 
+-- a run stored behind another is one run
+stores-next : (room : List ℕ) (at : ℕ) (xs ys : List ℕ) {place : ℕ} {one two : List ℕ} → at + length (xs ++ ys) ≤ length room
+    → one ≡ sets room at xs → place ≡ at + length xs → two ≡ storedBuffer one place ys → two ≡ sets room at (xs ++ ys)
+stores-next room at xs ys fits first there second =
+    let enough : at + length xs + length ys ≤ length (sets room at xs) = omega (arith, length-append xs ys, length-sets room at xs) in
+    rw (second, there, first) (bytes-fit (sets room at xs) (at + length xs) ys enough ∙ sym (sets-append room at xs ys))
+
 -- a head and a text in three parts, stored one behind the other, are the chunk stored
-pub chunk-stores : (room : List ℕ) (used : ℕ) (chunk : Chunk) (front text back : List ℕ) {first : ℕ} {one two three four : List ℕ}
-    → chunk .text ≡ front ++ (text ++ back) → used + length (storedChunk chunk) ≤ length room
-    → first ≡ used + length (storedHead (chunk .ty) (chunk .indent) (length (chunk .text)))
-    → one ≡ sets room used (storedHead (chunk .ty) (chunk .indent) (length (chunk .text)))
-    → two ≡ storedBuffer one first front → three ≡ storedBuffer two (first + length front) text
-    → four ≡ storedBuffer three (first + length front + length text) back → four ≡ sets room used (storedChunk chunk)
+pub chunk-stores : (room : List ℕ) (used : ℕ) (chunk : Chunk) (front text back : List ℕ) {count place : ℕ} {one two three four : List ℕ}
+    → chunk .text ≡ front ++ (text ++ back) → count ≡ length (chunk .text) → used + length (storedChunk chunk) ≤ length room
+    → place ≡ used + length (storedHead (chunk .ty) (chunk .indent) count) → one ≡ sets room used (storedHead (chunk .ty) (chunk .indent) count)
+    → two ≡ storedBuffer one place front → three ≡ storedBuffer two (place + length front) text
+    → four ≡ storedBuffer three (place + length front + length text) back → four ≡ sets room used (storedChunk chunk)
 unfolding storedChunk
-chunk-stores room used chunk front text back parts fits place e1 e2 e3 e4 = ?
+chunk-stores room used chunk front text back {count} {place} parts counted fits there e1 e2 e3 e4 =
+    let head = storedHead (chunk .ty) (chunk .indent) count in
+    let whole : storedHead (chunk .ty) (chunk .indent) (length (chunk .text)) ++ chunk .text ≡ ((head ++ front) ++ text) ++ back = rw (← counted, parts) (simp append-assoc) in
+    let enough : used + length (((head ++ front) ++ text) ++ back) ≤ length room = rw whole at fits in
+    let last = length-append ((head ++ front) ++ text) back in
+    let middle = length-append (head ++ front) text in
+    let first = length-append head front in
+    rw whole
+    (stores-next room used ((head ++ front) ++ text) back enough
+    (stores-next room used (head ++ front) text (omega arith) (stores-next room used head front (omega arith) e1 there e2) (omega arith) e3)
+    (omega arith)
+    e4)
 
 -- ---- the answers, each with the room behind it
 
@@ -78,7 +95,7 @@ module _ (room : List ℕ) (used : ℕ) (chunk : Chunk) where
 
   module _ (good : WellFormed chunk) where
     storable : unstorable chunk ≡ false
-    storable = rw (le-ltb _ _ (good .indent), ne-eqb _ _ (λ none. omega arith), le-ltb _ _ (good .short))
+    storable = rw (le-ltb _ _ (good .indent), ne-eqb (length (chunk .text)) 0 (λ none. omega arith), le-ltb _ _ (good .short))
 
     pub append-past : capacity (length room) < used → Appends room used chunk UsedPastRoom room
     unfolding appended roomAfter
@@ -89,6 +106,6 @@ module _ (room : List ℕ) (used : ℕ) (chunk : Chunk) where
       unfolding appended roomAfter
       append-no-room full = (rw (storable, le-ltb _ _ within, ← ends, lt-ltb _ _ full), rw (storable, le-ltb _ _ within, ← ends, lt-ltb _ _ full))
 
-      pub append-stored : end ≤ capacity (length room) → Appends room used chunk (Used end) (sets room used (storedChunk chunk))
+      pub append-stored : {after : List ℕ} → end ≤ capacity (length room) → after ≡ sets room used (storedChunk chunk) → Appends room used chunk (Used end) after
       unfolding appended roomAfter
-      append-stored fits = (rw (storable, le-ltb _ _ within, ← ends, le-ltb _ _ fits), rw (storable, le-ltb _ _ within, ← ends, le-ltb _ _ fits))
+      append-stored fits stored = (rw (storable, le-ltb _ _ within, ← ends, le-ltb _ _ fits), stored ∙ rw (storable, le-ltb _ _ within, ← ends, le-ltb _ _ fits))

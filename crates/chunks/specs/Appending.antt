@@ -1,10 +1,10 @@
 -- Appending a chunk behind the used length of a room: what is answered, and what the room then holds.
 use Prim.Native.Nat.{ℕ, _+_, min}
 use mathlib.Core.List.{List}
-use mathlib.Core.Bool.{Bool, true, false, cond, _||_}
+use mathlib.Core.Bool.{Bool, cond, _||_}
 use lib.ListN.{length}
 use lib.Seq.{sets}
-use lib.Dec.{eqb, ltb, leb}
+use lib.Dec.{eqb, ltb}
 use Rattle.chunks.specs.Stored.{Chunk, storedChunk}
 use Rattle.chunks.specs.declared.append.Appended.{Appended}
 use Rattle.chunks.specs.declared.append.Appended.the-variants.{Used, NoRoom, NoChunk, UsedPastRoom}

@@ -1,7 +1,7 @@
 -- Judging a stored chunk list: refusals 6 and 7 of document 01.
 use Prim.Native.Nat.{ℕ, _+_}
 use mathlib.Core.List.{List, [], _∷_}
-use mathlib.Core.Bool.{Bool, cond}
+use mathlib.Core.Bool.{cond}
 use lib.ListN.{length}
 use lib.Seq.{slice}
 use lib.Dec.{eqb, ltb}

@@ -1,8 +1,7 @@
 -- Reading a stored chunk list: what stands at a place, and the chunks from the list's start on.
 use Prim.Native.Nat.{ℕ, zero, suc, _+_, _%_, _≤_, _<_}
-use mathlib.Core.Path.{_≡_}
 use mathlib.Core.List.{List, [], _∷_, map}
-use mathlib.Core.Bool.{Bool, cond, _||_}
+use mathlib.Core.Bool.{cond}
 use lib.ListN.{length, getD}
 use lib.Seq.{slice}
 use lib.Dec.{eqb, ltb, leb}
@@ -80,3 +79,8 @@ pub record ChunkFits (list : List ℕ) (at : ℕ) (chunk : StoredChunk) : Type 0
 abbrev pub Fits : List ℕ → ℕ → ChunkAt → Type 0
 Fits list at (Found chunk) = ChunkFits list at chunk
 Fits list at NoChunk = Unit
+
+-- each chunk fits where the one before it ends
+abbrev pub AllFit : List ℕ → ℕ → List StoredChunk → Type 0
+AllFit list at [] = Unit
+AllFit list at (chunk ∷ chunks) = ChunkFits list at chunk × AllFit list (chunk .end) chunks

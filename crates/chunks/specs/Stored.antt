@@ -1,8 +1,11 @@
 -- A chunk, and its stored form: document 01, "Chunk".
 use Prim.Native.Nat.{ℕ, zero, suc, _+_, _≤_, _<_}
+use mathlib.Core.Path.{_≡_}
 use mathlib.Core.List.{List, [], _∷_, _++_}
-use lib.ListN.{length}
+use mathlib.Core.Bool.{true}
+use lib.ListN.{length, getD}
 use Rattle.text.specs.Numbers.{twoBytes}
+use Rattle.text.specs.Accepted.{acceptedText}
 use Rattle.chunks.specs.declared.stored.ChunkType.{ChunkType}
 use Rattle.chunks.specs.declared.stored.ChunkType.the-variants.{Code, Label, Comment}
 
@@ -45,3 +48,16 @@ pub record WellFormed (chunk : Chunk) : Type 0 where
   pub indent : chunk .indent ≤ 4096
   pub some : 1 ≤ length (chunk .text)
   pub short : length (chunk .text) ≤ 65535
+
+abbrev pub AllWellFormed : List Chunk → Type 0
+AllWellFormed [] = Unit
+AllWellFormed (chunk ∷ chunks) = WellFormed chunk × AllWellFormed chunks
+
+-- no text holds a byte that is refused
+abbrev pub AllAccepted : List Chunk → Type 0
+AllAccepted [] = Unit
+AllAccepted (chunk ∷ chunks) = (acceptedText (chunk .text) ≡ true) × AllAccepted chunks
+
+-- every element is a byte
+abbrev pub Bytes : List ℕ → Type 0
+Bytes list = (i : ℕ) → getD list i 0 < 256

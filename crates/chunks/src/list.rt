@@ -6,9 +6,8 @@ use crate::stored;
 use crate::stored::ChunkAt;
 use text::scans;
 ghost use mathlib.Core.Path.{_≡_};
-ghost use Prim.Native.Nat.{_+_, _≤_};
+ghost use Prim.Native.Nat.{_≤_};
 ghost use lib.ListN.{length};
-ghost use lib.Seq.{slice};
 ghost use Rattle.chunks.specs.Judging.{chunksChecked};
 ghost use Rattle.chunks.specs.Steps.{firstFault};
 

@@ -2,10 +2,7 @@
 use text::numbers;
 use text::numbers::Number;
 ghost use mathlib.Core.Path.{_≡_};
-ghost use Prim.Native.Nat.{_+_, _≤_};
-ghost use lib.ListN.{length};
 ghost use Rattle.chunks.specs.Reading.{textAt, chunkAt, Fits, typeOf};
-ghost use Rattle.chunks.specs.Steps.{TextFits};
 
 // What a chunk's text is. (The source has no name for code: it is a chunk without a type.)
 pub enum ChunkType {
@@ -45,7 +42,6 @@ fn type_of(bits: usize) -> ChunkType
 // A chunk whose text length stands at a place.
 fn text_at(list: &[u8], at: usize, ty: ChunkType, indent: usize) -> ChunkAt
     ensures { λ r. ⌜ r ≡ textAt (now (list .entry)) at ty indent ⌝ }
-    ensures { λ r. ⌜ TextFits (now (list .entry)) at indent r ⌝ }
 {
     let number = numbers::read_number(list, at);
     let Number::Read(count) = number else {

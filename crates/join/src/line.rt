@@ -5,6 +5,14 @@ use crate::piece::Spot;
 use crate::piece::Step;
 use text::scans;
 use text::stores;
+ghost use mathlib.Core.Path.{_≡_};
+ghost use mathlib.Core.List.{List, _++_};
+ghost use Prim.Native.Nat.{ℕ, _+_, _-_, _≤_, _<_, min, max};
+ghost use lib.ListN.{length};
+ghost use lib.Seq.{slice};
+ghost use Rattle.text.specs.Ink.{spaces};
+ghost use Rattle.join.specs.Layout.{indentOf};
+ghost use Rattle.join.specs.Walk.{Narrow, Standing, Measured, Fits, taken, lineAt, LineWalked, puts, Room};
 
 // A line's length, the blanks before its first ink, and the place behind its last ink (0 for none).
 pub struct Measure {
@@ -19,7 +27,12 @@ pub enum Indent {
     Set(usize),
 }
 
-pub(crate) fn add_blanks(measure: Measure, count: usize) -> Measure {
+// `count` spaces more.
+pub(crate) fn add_blanks(measure: Measure, count: usize) -> Measure
+    requires { ⌜ Fits measure count ⌝ }
+    ensures { λ r. ⌜ ((bytes : List ℕ) → Measured measure bytes → Measured r (bytes ++ spaces count)) ⌝ }
+    ensures { λ r. ⌜ (r .length ≡ measure .length + count) × (r .leading ≤ r .length) ⌝ }
+{
     if measure.ink_end == 0 {
         return Measure {
             length: measure.length + count,
@@ -34,7 +47,12 @@ pub(crate) fn add_blanks(measure: Measure, count: usize) -> Measure {
     }
 }
 
-pub(crate) fn add_text(measure: Measure, bytes: &[u8]) -> Measure {
+// The bytes of a text more.
+pub(crate) fn add_text(measure: Measure, bytes: &[u8]) -> Measure
+    requires { ⌜ Fits measure (length (now bytes)) ⌝ }
+    ensures { λ r. ⌜ ((line : List ℕ) → Measured measure line → Measured r (line ++ now (bytes .entry))) ⌝ }
+    ensures { λ r. ⌜ (r .length ≡ measure .length + length (now (bytes .entry))) × (r .leading ≤ r .length) ⌝ }
+{
     let ink_end = scans::ink_end(bytes);
     if ink_end == 0 {
         return add_blanks(measure, bytes.len());
@@ -53,7 +71,13 @@ pub(crate) fn add_text(measure: Measure, bytes: &[u8]) -> Measure {
     }
 }
 
-pub(crate) fn add_step(measure: Measure, list: &[u8], step: Step) -> Measure {
+// A step's spaces and text more.
+pub(crate) fn add_step(measure: Measure, list: &[u8], step: Step) -> Measure
+    requires { ⌜ (step .from ≤ step .to) × (step .to ≤ length (now list)) ⌝ }
+    requires { ⌜ Fits measure (step .before + (step .to - step .from) + step .behind) ⌝ }
+    ensures { λ r. ⌜ ((bytes : List ℕ) → Measured measure bytes → Measured r (bytes ++ (spaces (step .before) ++ (slice (step .from) (step .to) (now (list .entry)) ++ spaces (step .behind))))) ⌝ }
+    ensures { λ r. ⌜ (r .length ≡ measure .length + (step .before + (step .to - step .from) + step .behind)) × (r .leading ≤ r .length) ⌝ }
+{
     let from = step.from;
     let to = step.to;
     let padded = add_blanks(measure, step.before);
@@ -62,7 +86,9 @@ pub(crate) fn add_step(measure: Measure, list: &[u8], step: Step) -> Measure {
 }
 
 // A chunk that starts while the indent is unset sets it.
-pub(crate) fn takes(indent: Indent, spot: Spot) -> Indent {
+pub(crate) fn takes(indent: Indent, spot: Spot) -> Indent
+    ensures { λ r. ⌜ r ≡ taken indent spot ⌝ }
+{
     match indent {
         Indent::Set(count) => Indent::Set(count),
         Indent::Unset => {
@@ -74,52 +100,48 @@ pub(crate) fn takes(indent: Indent, spot: Spot) -> Indent {
     }
 }
 
-pub(crate) fn indent_of(indent: Indent) -> usize {
+// 0 where no chunk set it.
+pub(crate) fn indent_of(indent: Indent) -> usize
+    ensures { λ r. ⌜ r ≡ indentOf indent ⌝ }
+{
     match indent {
         Indent::Set(count) => count,
         Indent::Unset => 0,
     }
 }
 
-// A line as far as it was walked.
+// A line that was walked to its end: its measures, its indent, and the spot behind it.
 pub struct Walked {
     pub measure: Measure,
-    pub indent: Indent,
+    pub indent: usize,
     pub spot: Spot,
-    pub ended: bool,
-}
-
-// One piece more.
-pub(crate) fn measure_piece(list: &[u8], margins: Margins, walked: Walked) -> Walked {
-    let spot = walked.spot;
-    let measure = walked.measure;
-    let indent = walked.indent;
-    let step = piece::step(list, margins, spot, measure.length);
-    let behind = step.spot;
-    Walked {
-        measure: add_step(measure, list, step),
-        indent: takes(indent, spot),
-        spot: behind,
-        ended: step.ends,
-    }
 }
 
 // The line that starts at a spot, to its end.
-pub(crate) fn measure_line(list: &[u8], margins: Margins, spot: Spot) -> Walked {
-    let mut walked = Walked {
-        measure: Measure {
-            length: 0,
-            leading: 0,
-            ink_end: 0,
-        },
-        indent: Indent::Unset,
-        spot: spot,
-        ended: false,
+pub(crate) fn measure_line(list: &[u8], margins: Margins, spot: Spot) -> Walked
+    requires { ⌜ Narrow margins × Standing (now list) spot × (spot .at < length (now list)) × (length (now list) ≤ 1048576) ⌝ }
+    ensures { λ r. ⌜ LineWalked margins (now (list .entry)) spot r ⌝ }
+{
+    let mut measure = Measure {
+        length: 0,
+        leading: 0,
+        ink_end: 0,
     };
-    while !walked.ended {
-        walked = measure_piece(list, margins, walked);
+    let mut indent = Indent::Unset;
+    let mut here = spot;
+    let mut ended = false;
+    while !ended {
+        let step = piece::step_over(list, margins, here, measure.length);
+        measure = add_step(measure, list, step);
+        indent = takes(indent, here);
+        ended = step.ends;
+        here = step.spot;
     }
-    walked
+    Walked {
+        measure: measure,
+        indent: indent_of(indent),
+        spot: here,
+    }
 }
 
 // The part of a line that is written: its bytes from `low` to `high`, from `base` of the text on.
@@ -129,14 +151,18 @@ pub struct Window {
     pub high: usize,
 }
 
-pub(crate) fn larger(a: usize, b: usize) -> usize {
+pub(crate) fn larger(a: usize, b: usize) -> usize
+    ensures { λ r. ⌜ r ≡ max a b ⌝ }
+{
     if a < b {
         return b;
     }
     a
 }
 
-pub(crate) fn smaller(a: usize, b: usize) -> usize {
+pub(crate) fn smaller(a: usize, b: usize) -> usize
+    ensures { λ r. ⌜ r ≡ min a b ⌝ }
+{
     if a < b {
         return a;
     }
@@ -144,7 +170,10 @@ pub(crate) fn smaller(a: usize, b: usize) -> usize {
 }
 
 // Writes what the window shows of `count` spaces that stand at `at` of the line.
-pub(crate) fn put_spaces(text: &mut [u8], window: Window, at: usize, count: usize) {
+pub(crate) fn put_spaces(text: &mut [u8], window: Window, at: usize, count: usize)
+    requires { ⌜ Room window (length (now text)) × (at + count < 4294967296) ⌝ }
+    ensures { λ _. ⌜ now (text .exit) ≡ puts (now (text .entry)) window at (spaces count) ⌝ }
+{
     let from = larger(at, window.low);
     let to = smaller(at + count, window.high);
     if from < to {
@@ -153,7 +182,10 @@ pub(crate) fn put_spaces(text: &mut [u8], window: Window, at: usize, count: usiz
 }
 
 // Writes what the window shows of bytes that stand at `at` of the line.
-pub(crate) fn put_bytes(text: &mut [u8], window: Window, at: usize, bytes: &[u8]) {
+pub(crate) fn put_bytes(text: &mut [u8], window: Window, at: usize, bytes: &[u8])
+    requires { ⌜ Room window (length (now text)) × (at + length (now bytes) < 4294967296) ⌝ }
+    ensures { λ _. ⌜ now (text .exit) ≡ puts (now (text .entry)) window at (now (bytes .entry)) ⌝ }
+{
     let from = larger(at, window.low);
     let to = smaller(at + bytes.len(), window.high);
     if from < to {
@@ -163,19 +195,13 @@ pub(crate) fn put_bytes(text: &mut [u8], window: Window, at: usize, bytes: &[u8]
     }
 }
 
-// A line as far as it was written.
-pub struct Writing {
-    pub length: usize,
-    pub spot: Spot,
-    pub ended: bool,
-}
-
-// One piece more.
-pub(crate) fn write_piece(list: &[u8], margins: Margins, text: &mut [u8], window: Window, writing: Writing) -> Writing {
-    let spot = writing.spot;
-    let at = writing.length;
-    let step = piece::step(list, margins, spot, at);
-    let behind = step.spot;
+// Writes what the window shows of a step that stands at `at` of the line; the place behind it.
+pub(crate) fn put_step(text: &mut [u8], window: Window, at: usize, list: &[u8], step: Step) -> usize
+    requires { ⌜ Room window (length (now text)) × (step .from ≤ step .to) × (step .to ≤ length (now list)) ⌝ }
+    requires { ⌜ at + (step .before + (step .to - step .from) + step .behind) < 4294967296 ⌝ }
+    ensures { λ r. ⌜ r ≡ at + (step .before + (step .to - step .from) + step .behind) ⌝ }
+    ensures { λ _. ⌜ now (text .exit) ≡ puts (now (text .entry)) window at (spaces (step .before) ++ (slice (step .from) (step .to) (now (list .entry)) ++ spaces (step .behind))) ⌝ }
+{
     let from = step.from;
     let to = step.to;
     let start = at + step.before;
@@ -183,21 +209,22 @@ pub(crate) fn write_piece(list: &[u8], margins: Margins, text: &mut [u8], window
     put_spaces(text, window, at, step.before);
     put_bytes(text, window, start, &list[from..to]);
     put_spaces(text, window, end, step.behind);
-    Writing {
-        length: end + step.behind,
-        spot: behind,
-        ended: step.ends,
-    }
+    end + step.behind
 }
 
 // Writes what the window shows of the line that starts at a spot.
-pub(crate) fn write_line(list: &[u8], margins: Margins, text: &mut [u8], window: Window, spot: Spot) {
-    let mut writing = Writing {
-        length: 0,
-        spot: spot,
-        ended: false,
-    };
-    while !writing.ended {
-        writing = write_piece(list, margins, text, window, writing);
+pub(crate) fn write_line(text: &mut [u8], window: Window, list: &[u8], margins: Margins, spot: Spot)
+    requires { ⌜ Narrow margins × Standing (now list) spot × (spot .at < length (now list)) × (length (now list) ≤ 1048576) ⌝ }
+    requires { ⌜ Room window (length (now text)) ⌝ }
+    ensures { λ _. ⌜ now (text .exit) ≡ puts (now (text .entry)) window 0 (lineAt margins (now (list .entry)) spot .line .bytes) ⌝ }
+{
+    let mut length = 0;
+    let mut here = spot;
+    let mut ended = false;
+    while !ended {
+        let step = piece::step_over(list, margins, here, length);
+        length = put_step(text, window, length, list, step);
+        ended = step.ends;
+        here = step.spot;
     }
 }

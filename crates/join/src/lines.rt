@@ -6,6 +6,14 @@ use crate::margins::Margins;
 use crate::piece;
 use crate::piece::Spot;
 use text::stores;
+ghost use mathlib.Core.Path.{_≡_};
+ghost use mathlib.Core.Bool.{true, cond};
+ghost use Prim.Native.Nat.{_+_, _≤_, _<_};
+ghost use lib.ListN.{length};
+ghost use lib.Seq.{sets};
+ghost use Rattle.chunks.specs.Reading.{chunksOf};
+ghost use Rattle.join.specs.Setting.{textOf};
+ghost use Rattle.join.specs.Walk.{Narrow, Laid, Standing, lineAt, cutOf, lineStart, grownBy, cutBytes, CutFits};
 
 // The text so far: its length, whether it has a line, whether the last line kept is blank, and whether a standalone comment came last.
 pub struct Past {
@@ -24,7 +32,11 @@ pub struct Cut {
     pub high: usize,
 }
 
-pub(crate) fn cut_of(margins: Margins, past: Past, measure: Measure, indent: usize) -> Cut {
+// What becomes of an ended line.
+pub(crate) fn cut_of(margins: Margins, past: Past, measure: Measure, indent: usize) -> Cut
+    requires { ⌜ Narrow margins × (indent ≤ 4096) ⌝ }
+    ensures { λ r. ⌜ r ≡ cutOf margins past measure indent ⌝ }
+{
     if measure.ink_end == 0 {
         return Cut {
             kept: !past.blank && !past.standalone,
@@ -54,14 +66,21 @@ pub(crate) fn cut_of(margins: Margins, past: Past, measure: Measure, indent: usi
 }
 
 // Where the next line starts: a newline goes before each line but the first.
-pub(crate) fn line_start(past: Past) -> usize {
+pub(crate) fn line_start(past: Past) -> usize
+    requires { ⌜ past .length < 9223372036854775808 ⌝ }
+    ensures { λ r. ⌜ r ≡ lineStart past ⌝ }
+{
     if past.any {
         return past.length + 1;
     }
     past.length
 }
 
-pub(crate) fn grown(past: Past, cut: Cut) -> Past {
+// The text with an ended line.
+pub(crate) fn grown(past: Past, cut: Cut) -> Past
+    requires { ⌜ (past .length < 4503599627370496) × CutFits cut 4294967296 ⌝ }
+    ensures { λ r. ⌜ r ≡ grownBy past cut ⌝ }
+{
     if cut.kept {
         return Past {
             length: line_start(past) + cut.lead + (cut.high - cut.low),
@@ -74,35 +93,46 @@ pub(crate) fn grown(past: Past, cut: Cut) -> Past {
 }
 
 // Writes a kept line behind the text so far.
-pub(crate) fn write_cut(list: &[u8], margins: Margins, text: &mut [u8], spot: Spot, past: Past, cut: Cut) {
+pub(crate) fn write_cut(text: &mut [u8], list: &[u8], margins: Margins, spot: Spot, past: Past, cut: Cut)
+    requires { ⌜ Narrow margins × Standing (now list) spot × (spot .at < length (now list)) × (length (now list) ≤ 1048576) ⌝ }
+    requires { ⌜ CutFits cut (length (lineAt margins (now list) spot .line .bytes)) ⌝ }
+    requires { ⌜ past .length + length (cutBytes past cut (lineAt margins (now list) spot .line .bytes)) ≤ length (now text) ⌝ }
+    ensures { λ _. ⌜ now (text .exit) ≡ sets (now (text .entry)) (past .length) (cutBytes past cut (lineAt margins (now (list .entry)) spot .line .bytes)) ⌝ }
+{
     let length = past.length;
     let start = line_start(past);
     let base = start + cut.lead;
     stores::fill(text, length, start - length, 10);
     stores::fill(text, start, cut.lead, 32);
-    line::write_line(
-        list,
-        margins,
-        text,
-        Window {
-            base: base,
-            low: cut.low,
-            high: cut.high,
-        },
-        spot,
-    );
+    let window = Window {
+        base: base,
+        low: cut.low,
+        high: cut.high,
+    };
+    line::write_line(text, window, list, margins, spot);
 }
 
-pub(crate) fn place(list: &[u8], margins: Margins, text: &mut [u8], spot: Spot, past: Past, cut: Cut, writing: bool) {
+// The same where the line is kept and the text is to be written; else nothing.
+pub(crate) fn place(text: &mut [u8], list: &[u8], margins: Margins, spot: Spot, past: Past, cut: Cut, writing: bool)
+    requires { ⌜ Narrow margins × Standing (now list) spot × (spot .at < length (now list)) × (length (now list) ≤ 1048576) ⌝ }
+    requires { ⌜ CutFits cut (length (lineAt margins (now list) spot .line .bytes)) ⌝ }
+    requires { ⌜ (writing ≡ true → cut .kept ≡ true → past .length + length (cutBytes past cut (lineAt margins (now list) spot .line .bytes)) ≤ length (now text)) ⌝ }
+    ensures { λ _. ⌜ now (text .exit) ≡ cond writing (cond (cut .kept) (sets (now (text .entry)) (past .length) (cutBytes past cut (lineAt margins (now (list .entry)) spot .line .bytes))) (now (text .entry))) (now (text .entry)) ⌝ }
+{
     if writing {
         if cut.kept {
-            write_cut(list, margins, text, spot, past, cut);
+            write_cut(text, list, margins, spot, past, cut);
         }
     }
 }
 
 // The text's length; where `writing`, the text is written at the buffer's start.
-pub(crate) fn set_lines(list: &[u8], margins: Margins, text: &mut [u8], writing: bool) -> usize {
+pub(crate) fn set_lines(text: &mut [u8], list: &[u8], margins: Margins, writing: bool) -> usize
+    requires { ⌜ Narrow margins × Laid (now list) 0 × (length (now list) ≤ 1048576) ⌝ }
+    requires { ⌜ (writing ≡ true → length (textOf margins (chunksOf (now list))) ≤ length (now text)) ⌝ }
+    ensures { λ r. ⌜ r ≡ length (textOf margins (chunksOf (now (list .entry)))) ⌝ }
+    ensures { λ _. ⌜ now (text .exit) ≡ cond writing (sets (now (text .entry)) 0 (textOf margins (chunksOf (now (list .entry))))) (now (text .entry)) ⌝ }
+{
     let mut past = Past {
         length: 0,
         any: false,
@@ -113,12 +143,10 @@ pub(crate) fn set_lines(list: &[u8], margins: Margins, text: &mut [u8], writing:
     while spot.at < list.len() {
         let walked = line::measure_line(list, margins, spot);
         let measure = walked.measure;
-        let indent = walked.indent;
-        let behind = walked.spot;
-        let cut = cut_of(margins, past, measure, line::indent_of(indent));
-        place(list, margins, text, spot, past, cut, writing);
+        let cut = cut_of(margins, past, measure, walked.indent);
+        place(text, list, margins, spot, past, cut, writing);
         past = grown(past, cut);
-        spot = behind;
+        spot = walked.spot;
     }
     past.length
 }

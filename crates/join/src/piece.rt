@@ -5,6 +5,19 @@ use crate::margins::Margins;
 use options::Alignment;
 use text::numbers;
 use text::scans;
+ghost use mathlib.Core.Path.{_≡_};
+ghost use mathlib.Core.List.{_++_};
+ghost use mathlib.Core.Bool.{_&&_, _||_};
+ghost use Prim.Native.Nat.{_+_, _-_, _≤_, _<_};
+ghost use lib.ListN.{length};
+ghost use lib.Seq.{slice};
+ghost use lib.Dec.{eqb, ltb};
+ghost use Rattle.text.specs.Numbers.{numberAt};
+ghost use Rattle.text.specs.Lines.{newlineAt};
+ghost use Rattle.chunks.specs.Reading.{typeOf, chunkAt, chunksAt, ChunkFits};
+ghost use Rattle.chunks.specs.declared.stored.ChunkAt.the-variants.{Found};
+ghost use Rattle.join.specs.Pieces.{following};
+ghost use Rattle.join.specs.Walk.{Narrow, Laid, Standing, Reached, Passed, layLabel, layCode, layComment, layOf, pieceLength, pieceAt, Stepped};
 
 // What follows a chunk: none, a chunk that is exactly a newline, or another chunk.
 pub enum Follows {
@@ -23,11 +36,16 @@ pub struct Spot {
 }
 
 // The two-byte number at a place.
-fn number_at(list: &[u8], at: usize) -> usize {
+fn number_at(list: &[u8], at: usize) -> usize
+    requires { ⌜ at + 2 ≤ length (now list) ⌝ }
+    ensures { λ r. ⌜ (r ≡ numberAt (now (list .entry)) at) × (r < 65536) ⌝ }
+{
     numbers::wide(list[at]) + 256 * numbers::wide(list[at + 1])
 }
 
-fn type_of(bits: usize) -> ChunkType {
+fn type_of(bits: usize) -> ChunkType
+    ensures { λ r. ⌜ r ≡ typeOf bits ⌝ }
+{
     if bits == 1 {
         return ChunkType::Label;
     }
@@ -38,7 +56,11 @@ fn type_of(bits: usize) -> ChunkType {
 }
 
 // The chunk at a place of a list that was judged: it is not judged again.
-pub(crate) fn chunk_in(list: &[u8], place: usize) -> StoredChunk {
+pub(crate) fn chunk_in(list: &[u8], place: usize) -> StoredChunk
+    requires { ⌜ Laid (now list) place × (place < length (now list)) ⌝ }
+    ensures { λ r. ⌜ chunkAt (now (list .entry)) place ≡ Found r ⌝ }
+    ensures { λ r. ⌜ ChunkFits (now (list .entry)) place r ⌝ }
+{
     let map = numbers::wide(list[place]);
     if map < 4 {
         let start = place + 3;
@@ -59,7 +81,10 @@ pub(crate) fn chunk_in(list: &[u8], place: usize) -> StoredChunk {
 }
 
 // The start of the chunk at a place, or past the last chunk.
-pub(crate) fn spot_at(list: &[u8], place: usize) -> Spot {
+pub(crate) fn spot_at(list: &[u8], place: usize) -> Spot
+    requires { ⌜ Laid (now list) place × (place ≤ length (now list)) ⌝ }
+    ensures { λ r. ⌜ Reached (now (list .entry)) place r ⌝ }
+{
     if list.len() <= place {
         return Spot {
             ty: ChunkType::Code,
@@ -87,7 +112,10 @@ pub struct PieceEnd {
 }
 
 // The piece that starts list[at..end].
-pub(crate) fn piece_end(list: &[u8], at: usize, end: usize) -> PieceEnd {
+pub(crate) fn piece_end(list: &[u8], at: usize, end: usize) -> PieceEnd
+    requires { ⌜ (at ≤ end) × (end ≤ length (now list)) ⌝ }
+    ensures { λ r. ⌜ (r .end ≡ at + pieceLength (slice at end (now (list .entry)))) × (r .newline ≡ ltb (newlineAt (slice at end (now (list .entry)))) (end - at)) ⌝ }
+{
     let count = scans::newline_at(&list[at..end]);
     if count < end - at {
         return PieceEnd {
@@ -102,7 +130,10 @@ pub(crate) fn piece_end(list: &[u8], at: usize, end: usize) -> PieceEnd {
 }
 
 // The spot behind the piece that ends at `end`.
-pub(crate) fn spot_after(list: &[u8], spot: Spot, end: usize) -> Spot {
+pub(crate) fn spot_after(list: &[u8], spot: Spot, end: usize) -> Spot
+    requires { ⌜ Standing (now list) spot × (spot .at < end) × (end ≤ spot .end) ⌝ }
+    ensures { λ r. ⌜ Passed (now (list .entry)) spot end r ⌝ }
+{
     if end < spot.end {
         let ty = spot.ty;
         return Spot {
@@ -117,7 +148,10 @@ pub(crate) fn spot_after(list: &[u8], spot: Spot, end: usize) -> Spot {
 }
 
 // What follows a chunk that ends at a place.
-pub(crate) fn follows(list: &[u8], place: usize) -> Follows {
+pub(crate) fn behind_chunk(list: &[u8], place: usize) -> Follows
+    requires { ⌜ Laid (now list) place × (place ≤ length (now list)) ⌝ }
+    ensures { λ r. ⌜ r ≡ following (chunksAt (now (list .entry)) place) ⌝ }
+{
     if list.len() <= place {
         return Follows::Nothing;
     }
@@ -139,15 +173,20 @@ pub struct Lay {
 }
 
 // The spaces that bring a length to a width.
-pub(crate) fn padding(width: usize, length: usize) -> usize {
-    if length <= width {
-        return width - length;
+pub(crate) fn padding(width: usize, reached: usize) -> usize
+    ensures { λ r. ⌜ r ≡ width - reached ⌝ }
+{
+    if reached <= width {
+        return width - reached;
     }
     0
 }
 
-pub(crate) fn lay_label(margins: Margins, length: usize, count: usize) -> Lay {
-    if margins.label < length {
+pub(crate) fn lay_label(margins: Margins, column: usize, count: usize) -> Lay
+    requires { ⌜ Narrow margins × (count ≤ 1048576) ⌝ }
+    ensures { λ r. ⌜ r ≡ layLabel margins column count ⌝ }
+{
+    if margins.label < column {
         return Lay {
             before: 0,
             behind: 1,
@@ -170,10 +209,12 @@ pub(crate) fn lay_label(margins: Margins, length: usize, count: usize) -> Lay {
     }
 }
 
-pub(crate) fn lay_code(margins: Margins, length: usize, lone_newline: bool) -> Lay {
+pub(crate) fn lay_code(margins: Margins, column: usize, lone_newline: bool) -> Lay
+    ensures { λ r. ⌜ r ≡ layCode margins column «lone_newline» ⌝ }
+{
     if lone_newline {
-        if 0 < length {
-            if length <= margins.label {
+        if 0 < column {
+            if column <= margins.label {
                 return Lay {
                     before: 0,
                     behind: 0,
@@ -183,40 +224,51 @@ pub(crate) fn lay_code(margins: Margins, length: usize, lone_newline: bool) -> L
         }
     }
     Lay {
-        before: padding(margins.label, length),
+        before: padding(margins.label, column),
         behind: 0,
         ignored: false,
     }
 }
 
-pub(crate) fn lay_comment(margins: Margins, length: usize, follows: Follows) -> Lay {
+pub(crate) fn lay_comment(margins: Margins, column: usize, follows: Follows) -> Lay
+    requires { ⌜ Narrow margins ⌝ }
+    ensures { λ r. ⌜ r ≡ layComment margins column follows ⌝ }
+{
     match follows {
         Follows::Other => Lay {
-            before: padding(margins.label, length),
+            before: padding(margins.label, column),
             behind: 1,
             ignored: false,
         },
-        _ => Lay {
-            before: padding(margins.label + margins.code, length),
+        Follows::Newline => Lay {
+            before: padding(margins.label + margins.code, column),
+            behind: 0,
+            ignored: false,
+        },
+        Follows::Nothing => Lay {
+            before: padding(margins.label + margins.code, column),
             behind: 0,
             ignored: false,
         },
     }
 }
 
-// How the piece at a spot is laid on a line of `length` bytes.
-pub(crate) fn lay_piece(list: &[u8], margins: Margins, spot: Spot, length: usize, piece: PieceEnd) -> Lay {
+// How the piece at a spot is laid on a line of `column` bytes.
+pub(crate) fn lay_piece(list: &[u8], margins: Margins, spot: Spot, column: usize, piece: PieceEnd) -> Lay
+    requires { ⌜ Narrow margins × Standing (now list) spot × (spot .at < piece .end) × (piece .end ≤ spot .end) × (length (now list) ≤ 1048576) ⌝ }
+    ensures { λ r. ⌜ r ≡ layOf margins (spot .ty) column (piece .end - spot .at) (piece .newline) (following (chunksAt (now (list .entry)) (spot .end))) ⌝ }
+{
     let count = piece.end - spot.at;
     let ty = spot.ty;
     match ty {
-        ChunkType::Label => lay_label(margins, length, count),
+        ChunkType::Label => lay_label(margins, column, count),
         ChunkType::Code => {
             if count == 1 {
-                return lay_code(margins, length, piece.newline);
+                return lay_code(margins, column, piece.newline);
             }
-            lay_code(margins, length, false)
+            lay_code(margins, column, false)
         }
-        ChunkType::Comment => lay_comment(margins, length, follows(list, spot.end)),
+        ChunkType::Comment => lay_comment(margins, column, behind_chunk(list, spot.end)),
     }
 }
 
@@ -230,13 +282,16 @@ pub struct Step {
     pub spot: Spot,
 }
 
-// One piece: `length` is the length of the line so far.
-pub(crate) fn step(list: &[u8], margins: Margins, spot: Spot, length: usize) -> Step {
+// One piece: `column` is the length of the line so far.
+pub(crate) fn step_over(list: &[u8], margins: Margins, spot: Spot, column: usize) -> Step
+    requires { ⌜ Narrow margins × Standing (now list) spot × (spot .at < length (now list)) × (length (now list) ≤ 1048576) ⌝ }
+    ensures { λ r. ⌜ Stepped margins (now (list .entry)) spot column r ⌝ }
+{
     let at = spot.at;
     let end = spot.end;
     let last = list.len() <= end;
     let piece = piece_end(list, at, end);
-    let lay = lay_piece(list, margins, spot, length, piece);
+    let lay = lay_piece(list, margins, spot, column, piece);
     let behind = spot_after(list, spot, piece.end);
     if lay.ignored {
         return Step {

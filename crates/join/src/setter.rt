@@ -8,25 +8,43 @@ use crate::lines;
 use crate::margins;
 use crate::margins::Margins;
 use options::OptionsRead;
+ghost use mathlib.Core.Path.{_≡_};
+ghost use lib.ListN.{length};
+ghost use Rattle.answers.specs.Texts.{answerIn, bufferAfter};
+ghost use Rattle.chunks.specs.Reading.{chunksOf};
+ghost use Rattle.chunks.specs.Judging.{chunksChecked};
+ghost use Rattle.join.specs.Setting.{textOf, unlessFailed, joinOutcome};
+ghost use Rattle.join.specs.Promise.{Promised};
+ghost use Rattle.join.specs.Walk.{Narrow};
 
-pub(crate) fn join_with(chunks: &[u8], margins: Margins, text: &mut [u8]) -> Answer {
+// The setter at given margins: refusals 6, 7 and 9.
+pub(crate) fn join_with(chunks: &[u8], margins: Margins, text: &mut [u8]) -> Answer
+    requires { ⌜ Narrow margins ⌝ }
+    ensures { λ r. ⌜ r ≡ answerIn (unlessFailed (chunksChecked (now (chunks .entry))) (textOf margins (chunksOf (now (chunks .entry))))) (length (now (text .entry))) ⌝ }
+    ensures { λ _. ⌜ now (text .exit) ≡ bufferAfter (unlessFailed (chunksChecked (now (chunks .entry))) (textOf margins (chunksOf (now (chunks .entry))))) (now (text .entry)) ⌝ }
+    ensures { λ _. ⌜ Promised (chunksOf (now (chunks .entry))) (unlessFailed (chunksChecked (now (chunks .entry))) (textOf margins (chunksOf (now (chunks .entry))))) ⌝ }
+{
     let checked = list::check_chunks(chunks);
     if let Checked::Failed(refusal) = checked {
         return Answer::Refused(refusal);
     }
-    let length = lines::set_lines(chunks, margins, text, false);
+    let length = lines::set_lines(text, chunks, margins, false);
     if text.len() < length {
         return Answer::Refused(Refusal {
             reason: Reason::TextRoom,
             place: length,
         });
     }
-    lines::set_lines(chunks, margins, text, true);
+    lines::set_lines(text, chunks, margins, true);
     Answer::Accepted(length)
 }
 
 // The text of a stored chunk list under stored options, at the buffer's start; or refusal 1, 2, 6, 7 or 9.
-pub fn join_chunks(chunks: &[u8], options: &[u8], text: &mut [u8]) -> Answer {
+pub fn join_chunks(chunks: &[u8], options: &[u8], text: &mut [u8]) -> Answer
+    ensures { λ r. ⌜ r ≡ answerIn (joinOutcome (now (chunks .entry)) (now (options .entry))) (length (now (text .entry))) ⌝ }
+    ensures { λ _. ⌜ now (text .exit) ≡ bufferAfter (joinOutcome (now (chunks .entry)) (now (options .entry))) (now (text .entry)) ⌝ }
+    ensures { λ _. ⌜ Promised (chunksOf (now (chunks .entry))) (joinOutcome (now (chunks .entry)) (now (options .entry))) ⌝ }
+{
     let read = options::read_options(options);
     match read {
         OptionsRead::Options(options) => join_with(chunks, margins::margins_of(options), text),

@@ -1,13 +1,13 @@
 -- Runs of stores into a buffer.
-use mathlib.Core.Path.{_≡_, sym}
+use mathlib.Core.Path.{_≡_, sym, _∙_}
 use mathlib.Core.List.{List, [], _∷_, _++_}
 use mathlib.Core.Bool.{true}
-use Prim.Native.Nat.{ℕ, suc, _+_, _≤_, _<_}
+use Prim.Native.Nat.{ℕ, suc, _+_, _-_, _≤_, _<_}
 use native.Mathlib.Omega.{arith}
-use lib.ListN.{length, getD, drop, set, length-append}
-use lib.Seq.{sets, sets-eq, length-sets}
+use lib.ListN.{length, getD, drop, set, length-append, length-set}
+use lib.Seq.{sets, sets-eq, length-sets, drop-cons, drop-set-lt, getD-set-same}
 use borrow.Author.Tests.{le-leb, leb-true}
-use Rattle.text.specs.Stores.{fits, storedBuffer}
+use Rattle.text.specs.Stores.{fits, storedBuffer, zeros}
 use Rattle.text.proofs.Parts.{drop-step}
 
 -- one byte of a run stored, and then the bytes behind it
@@ -40,3 +40,15 @@ stored-append buffer at xs ys e =
     let first : at + length xs ≤ length buffer = omega (arith, length-append xs ys) in
     let second : at + length xs + length ys ≤ length (sets buffer at xs) = omega (arith, length-append xs ys, length-sets buffer at xs) in
     rw (le-leb _ _ first, le-leb _ _ second, e) (sym (sets-append buffer at xs ys))
+
+-- a buffer with zeros behind `left` places, and one more zero stored before them
+pub zeros-more : (buffer : List ℕ) (left n : ℕ) → 0 < left → left ≤ n → length buffer ≡ n → drop left buffer ≡ zeros (n - left)
+    → drop (left - 1) (set buffer (left - 1) 0) ≡ zeros (n - (left - 1))
+zeros-more buffer left n some within size behind =
+    let i : ℕ = left - 1 in
+    let here : i < length buffer = omega arith in
+    let there : i < length (set buffer i 0) = simp length-set here in
+    let next : suc i ≡ left = omega arith in
+    let count : n - i ≡ suc (n - left) = omega arith in
+    rw count
+    (drop-cons (set buffer i 0) i 0 there ∙ rw (getD-set-same buffer i 0 0 here, drop-set-lt (suc i) buffer i 0 (omega arith), next, behind))

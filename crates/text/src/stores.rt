@@ -54,10 +54,9 @@ pub fn fill(buffer: &mut [u8], at: usize, count: usize, byte: u8) -> Stored
 pub fn clear(buffer: &mut [u8])
     ensures { λ _. ⌜ now (buffer .exit) ≡ zeros (length (now (buffer .entry))) ⌝ }
 {
-    let room = buffer.len();
-    let mut i = 0;
-    while i < room {
-        buffer[i] = 0;
-        i += 1;
+    let mut left = buffer.len();
+    while 0 < left {
+        left -= 1;
+        buffer[left] = 0;
     }
 }

@@ -1,28 +1,28 @@
 -- Each answer is the one that the definition has after the same tests, and the head and the three parts, stored one behind the other, are the chunk stored.
-use Prim.Native.Nat.{_+_, _≤_}
-use mathlib.Core.Path.{_≡_, refl, sym, ap, _∙_}
+use Prim.Native.Nat.{_+_}
+use mathlib.Core.Path.{_≡_, refl, sym}
 use mathlib.Core.List.{_++_}
 use native.Mathlib.Omega.{arith}
 use lib.ListN.{length, length-append}
 use borrow.Author.Needs.{needs}
-use Rattle.chunks.specs.Stored.{Chunk, WellFormed, storedChunk}
+use Rattle.chunks.specs.Stored.{Chunk, storedIndent, storedHead, WellFormed}
 use Rattle.chunks.proofs.Forms.{indent-length, head-length, chunk-length}
 use Rattle.chunks.proofs.Storing.{chunk-stores, append-deep, append-empty, append-long, append-past, append-no-room, append-stored}
 use Rattle.chunks.proofs.append.append_chunk.Statement.{statement}
 use Rattle.chunks.proofs.append.append_chunk.Tie as tie
-use Rattle.chunks.proofs.append.append_chunk.Reads as reads
-use Rattle.chunks.proofs.append.append_chunk.Lts as lts
-use Rattle.chunks.proofs.append.capacity.Reads as capacity-reads
-use Rattle.chunks.proofs.append.head_length.Reads as head-length-reads
-use Rattle.chunks.proofs.append.store_head.Reads as store-head-reads
-use Rattle.text.proofs.stores.copy.Reads as copy-reads
 
 -- the chunk that is handed over
 abbrev handed : tie.Start → Chunk
 handed start = record { ty = start .args .ty; indent = start .args .indent; text = start .args .front .now ++ (start .args .text .now ++ start .args .back .now) }
 
+-- the length of its text
 handed-length : (start : tie.Start) → length (handed start .text) ≡ length (start .args .front .now) + (length (start .args .text .now) + length (start .args .back .now))
 handed-length start = simp length-append
+
+-- the length of its head
+headed : (start : tie.Start) → length (storedHead (start .args .ty) (start .args .indent) (length (start .args .front .now) + (length (start .args .text .now) + length (start .args .back .now))))
+    ≡ 3 + length (storedIndent (start .args .indent))
+headed start = head-length _ _ _
 
 -- it is well formed where the tests have let it pass
 passed : (c : tie.Else6) → WellFormed (handed (c .before .before .before .before .before .before .before .before .before .before))
@@ -88,25 +88,23 @@ returns-8 c =
     (omega (arith, chunk-length (handed start), handed-length start)) (omega arith)
 
 store-head-requires : tie.Need-store-head-requires
-store-head-requires c κs = 
-    let start = c .before .before .before .before .before .before .before .before .before .before .before .before .before .before .before in
-    omega (arith, head-length (start .args .ty) (start .args .indent) (length (handed start .text)), handed-length start)
+store-head-requires c κs = omega (arith, headed (c .before .before .before .before .before .before .before .before .before .before .before .before .before .before .before))
 
 copy-requires : tie.Need-copy-requires
 copy-requires c κs = search needs
 
 add-second : tie.Need-add-second
-add-second c = 
-    let start = c .before .before .before .before .before .before .before .before .before .before .before .before .before .before .before .before .before .before .before .before .before .before in
-    ?
+add-second c =
+    let head = c .before .before .before .before .before .before in
+    omega (arith, headed (head .before .before .before .before .before .before .before .before .before .before .before .before .before .before .before .before), head)
 
 copy-requires-2 : tie.Need-copy-requires-2
 copy-requires-2 c κs = search needs
 
 add-third : tie.Need-add-third
-add-third c = 
-    let start = c .before .before .before .before .before .before .before .before .before .before .before .before .before .before .before .before .before .before .before .before .before .before .before .before .before .before in
-    ?
+add-third c =
+    let head = c .before .before .before .before .before .before .before .before .before .before in
+    omega (arith, headed (head .before .before .before .before .before .before .before .before .before .before .before .before .before .before .before .before), head)
 
 copy-requires-3 : tie.Need-copy-requires-3
 copy-requires-3 c κs = search needs
@@ -115,9 +113,18 @@ same-length : tie.Need-same-length
 same-length c = search needs
 
 returns-9 : tie.Need-returns-9
-returns-9 c = 
-    let start = c .before .before .before .before .before .before .before .before .before .before .before .before .before .before .before .before .before .before .before .before .before .before .before .before .before .before .before .before .before .before in
-    ?
+returns-9 c =
+    let third = c .before .before in
+    let second = third .before .before .before .before in
+    let first = second .before .before .before .before in
+    let head = first .before .before .before .before in
+    let tested = head .before .before .before .before .before .before in
+    let start = tested .before .before .before .before .before .before .before .before .before .before in
+    let ended = chunk-length (handed start) in
+    let counted = handed-length start in
+    append-stored _ _ (handed start) (passed tested) (omega arith) (omega arith) (omega arith)
+    (chunk-stores (start .args .room .now) (start .args .used) (handed start) (start .args .front .now) (start .args .text .now) (start .args .back .now) refl (sym counted)
+    (omega arith) (head .store-head .ensures .0) (head .store-head .ensures .1) (first .copy .ensures .1) (second .copy2 .ensures .1) (third .copy3 .ensures .1))
 
 pub append-chunk-spec : {M : Type 1} → statement M
 append-chunk-spec =

@@ -1,7 +1,4 @@
 -- The indent takes two bytes where there is one.
-use mathlib.Core.Path.{ap}
-use native.Mathlib.Omega.{arith}
-use lib.ListN.{length}
 use Rattle.chunks.specs.Stored.{storedIndent}
 use Rattle.chunks.proofs.Forms.{indent-stored}
 use Rattle.chunks.proofs.append.head_length.Statement.{statement}

@@ -1,18 +1,12 @@
 -- The map byte, the indent and the text length, stored one behind the other, are the head stored.
-use Prim.Native.Nat.{_+_, _≤_}
-use mathlib.Core.Path.{_≡_, sym, ap, _∙_}
+use mathlib.Core.Path.{_∙_}
 use native.Mathlib.Omega.{arith}
-use lib.ListN.{length, length-set}
+use lib.ListN.{length-set}
 use borrow.Author.Needs.{needs}
 use Rattle.chunks.proofs.Forms.{head-length}
-use Rattle.chunks.proofs.Storing.{number-fits, head-stores}
+use Rattle.chunks.proofs.Storing.{head-stores}
 use Rattle.chunks.proofs.append.store_head.Statement.{statement}
 use Rattle.chunks.proofs.append.store_head.Tie as tie
-use Rattle.chunks.proofs.append.store_head.Reads as reads
-use Rattle.chunks.proofs.append.store_head.Lts as lts
-use Rattle.chunks.proofs.append.map_byte.Reads as map-byte-reads
-use Rattle.chunks.proofs.append.store_indent.Reads as store-indent-reads
-use Rattle.text.proofs.numbers.store_number.Reads as store-number-reads
 
 map-byte-requires : tie.Need-map-byte-requires
 map-byte-requires c κs = search needs

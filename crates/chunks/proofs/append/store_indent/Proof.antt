@@ -1,10 +1,9 @@
 -- No indent is stored as nothing, and any other as its two bytes, for which there is room.
 use Prim.Native.Nat.{_+_, _≤_}
-use mathlib.Core.Path.{_≡_, refl, ap, _∙_}
+use mathlib.Core.Path.{refl, ap, _∙_}
 use native.Mathlib.Omega.{arith}
 use lib.ListN.{length}
 use borrow.Author.Needs.{needs}
-use Rattle.text.specs.Numbers.{twoBytes}
 use Rattle.chunks.specs.Stored.{storedIndent}
 use Rattle.chunks.proofs.Forms.{indent-stored}
 use Rattle.chunks.proofs.Storing.{number-fits}

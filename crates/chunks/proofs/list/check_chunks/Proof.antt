@@ -1,59 +1,78 @@
+-- What was judged up to a place, and the judgement of what stands from there on, give the judgement of the whole list.
+use Prim.Native.Nat.{ℕ, _-_}
+use mathlib.Core.List.{List}
+use mathlib.Core.Path.{sym, _∙_}
+use native.Mathlib.Omega.{arith}
+use borrow.Author.Needs.{needs}
+use Rattle.chunks.specs.Reading.{ChunkFits}
+use Rattle.chunks.specs.declared.stored.StoredChunk.{StoredChunk}
+use Rattle.chunks.proofs.Judging.{Going, going-first, going-on, too-long, bad-chunk, bad-byte, all-good}
 use Rattle.chunks.proofs.list.check_chunks.Statement.{statement}
 use Rattle.chunks.proofs.list.check_chunks.Tie as tie
-use Rattle.chunks.proofs.list.check_chunks.Reads as reads
-use Rattle.chunks.proofs.list.check_chunks.Lts as lts
-use Rattle.chunks.proofs.list.fault_in.Reads as fault-in-reads
-use Rattle.chunks.proofs.stored.chunk_at.Reads as chunk-at-reads
 
 abbrev Inv-loop : tie.InvT-loop
-Inv-loop list length at₀ fault₀ at fault = ?
+Inv-loop list length at₀ fault₀ at fault = Going list at fault
 
 abbrev μ-loop : tie.MeasureT-loop
-μ-loop list length at₀ fault₀ at fault = ?
+μ-loop list length at₀ fault₀ at fault = length - at
 
--- src/list.rt:36:9
+-- the list, and the chunk that was found in it
+abbrev list : tie.After-known-told Inv-loop μ-loop → List ℕ
+list c = c .before .before .before .before .before .before .before .before .args .list .now
+
+abbrev chunk : tie.After-known-told Inv-loop μ-loop → StoredChunk
+chunk c = c .before .found .given .0 .0
+
+-- which fits where it was looked for
+fit : (c : tie.After-known-told Inv-loop μ-loop) → ChunkFits (list c) (c .before .before .before .before .before .loop .at) (chunk c)
+fit c = rw (c .before .found .given .1) at (c .before .before .before .chunk-at .ensures .1)
+
 returns : tie.Need-returns Inv-loop μ-loop
-returns c = ?
+returns c = sym (too-long _ (c .if1 .taken))
 
--- src/list.rt:43:5
 loop-holds : tie.Need-loop-holds Inv-loop μ-loop
-loop-holds c = ?
+loop-holds c = going-first (c .before .before .args .list .now)
 
--- src/list.rt:44:13
 chunk-at-requires : tie.Need-chunk-at-requires Inv-loop μ-loop
-chunk-at-requires c κs = ?
+chunk-at-requires c κs = search needs
 
--- src/list.rt:45:28
 enum-known-found : tie.Need-enum-known-found Inv-loop μ-loop
-enum-known-found c = ?
+enum-known-found c = search needs
 
--- src/list.rt:47:25
 enum-told : tie.Need-enum-told Inv-loop μ-loop
-enum-told c = ?
+enum-told c = search needs
 
--- src/list.rt:46:13
 returns-2 : tie.Need-returns-2 Inv-loop μ-loop
-returns-2 c = ?
+returns-2 c =
+    let looked = c .before .before in
+    let turn = looked .before .before .loop in
+    let none = sym (looked .chunk-at .ensures .0) ∙ c .enum-told .given .1 in
+    sym (bad-chunk (looked .before .before .before .before .before .args .list .now) (turn .at) (turn .fault) (looked .before .before .before .if1 .left) (turn .inv) (looked .before .loop-test .taken) none)
 
--- src/list.rt:51:9
 fault-in-requires : tie.Need-fault-in-requires Inv-loop μ-loop
-fault-in-requires c κs = ?
+fault-in-requires c κs = omega (arith, fit c)
 
--- src/list.rt:43:5
 loop-less : tie.Need-loop-less Inv-loop μ-loop
-loop-less c = ?
+loop-less c = omega (arith, fit (c .before))
 
--- src/list.rt:43:5
 loop-again : tie.Need-loop-again Inv-loop μ-loop
-loop-again c = ?
+loop-again c =
+    let known = c .before in
+    let turn = known .before .before .before .before .before .loop in
+    let found = sym (known .before .before .before .chunk-at .ensures .0) ∙ known .before .found .given .1 in
+    rw (c .fault-in .ensures) (going-on (list known) (turn .at) (turn .fault) (chunk known) (turn .inv) found (fit known))
 
--- src/list.rt:55:9
 returns-3 : tie.Need-returns-3 Inv-loop μ-loop
-returns-3 c = ?
+returns-3 c =
+    let at-loop = c .before .before in
+    let turn = at-loop .loop in
+    sym (bad-byte (at-loop .before .before .before .args .list .now) (turn .at) (turn .fault) (at-loop .before .if1 .left) (turn .inv) (c .before .loop-test .left) (c .if2 .taken))
 
--- src/list.rt:31:1
 returns-4 : tie.Need-returns-4 Inv-loop μ-loop
-returns-4 c = ?
+returns-4 c =
+    let at-loop = c .before .before in
+    let turn = at-loop .loop in
+    sym (all-good (at-loop .before .before .before .args .list .now) (turn .at) (turn .fault) (at-loop .before .if1 .left) (turn .inv) (c .before .loop-test .left) (c .if2 .left))
 
 pub check-chunks-spec : {M : Type 1} → statement M
 check-chunks-spec =

@@ -1,0 +1,157 @@
+-- Laws of judging a stored list chunk by chunk.
+use mathlib.Core.Path.{_≡_, refl, ap, _∙_}
+use mathlib.Core.List.{List, [], _∷_, map}
+use mathlib.Core.Bool.{cond}
+use Prim.Native.Nat.{ℕ, _+_, _≤_, _<_}
+use native.Mathlib.Omega.{arith}
+use lib.ListN.{length}
+use lib.Seq.{slice, length-slice}
+use lib.Dec.{eqb, ltb}
+use borrow.Author.Tests.{lt-ltb, le-ltb, eq-eqb, ne-eqb, ltb-false, eqb-true}
+use Rattle.answers.specs.declared.Checked.{Checked}
+use Rattle.answers.specs.declared.Checked.the-variants.{Passed, Failed}
+use Rattle.answers.specs.declared.Refusal.{Refusal}
+use Rattle.answers.specs.declared.Reason.the-variants.{ChunkLayout, NotAscii}
+use Rattle.text.specs.Accepted.{acceptedText, faultAt}
+use Rattle.text.proofs.Choices.{by-test}
+use Rattle.text.proofs.Accepted.{fault-none, fault-some}
+use Rattle.chunks.specs.Stored.{AllAccepted}
+use Rattle.chunks.specs.Reading.{chunkAt, storedChunks, chunkOf, ChunkFits}
+use Rattle.chunks.specs.Judging.{endFrom, layoutChecked, textsChecked, chunksChecked}
+use Rattle.chunks.specs.Steps.{firstFault}
+use Rattle.chunks.specs.declared.stored.StoredChunk.{StoredChunk}
+use Rattle.chunks.specs.declared.stored.ChunkAt.the-variants.{Found, NoChunk}
+use Rattle.chunks.proofs.Reading.{chunks-found, chunks-none, chunk-end}
+
+-- the place of the first fault is within the list, or its end
+pub fault-within : (xs : List ℕ) → faultAt xs ≤ length xs
+fault-within xs = by-test (acceptedText xs) (λ e. omega (arith, fault-none xs e)) (λ e. omega (arith, fault-some xs e))
+
+-- ---- from one chunk to the next
+
+pub end-found : (list : List ℕ) (at : ℕ) (chunk : StoredChunk) → chunkAt list at ≡ Found chunk
+    → endFrom at (storedChunks list at) ≡ endFrom (chunk .end) (storedChunks list (chunk .end))
+unfolding endFrom
+end-found list at chunk e = ap (endFrom at) (chunks-found list at chunk e)
+
+pub end-none : (list : List ℕ) (at : ℕ) → chunkAt list at ≡ NoChunk → endFrom at (storedChunks list at) ≡ at
+unfolding endFrom
+end-none list at e = ap (endFrom at) (chunks-none list at e)
+
+-- refusal 7 at a place
+abbrev notAscii : ℕ → Checked
+notAscii place = Failed (record { reason = NotAscii; place = place })
+
+pub texts-found : (list : List ℕ) (at : ℕ) (chunk : StoredChunk) → chunkAt list at ≡ Found chunk
+    → textsChecked list (storedChunks list at) ≡ cond (acceptedText (slice (chunk .start) (chunk .end) list)) (textsChecked list (storedChunks list (chunk .end)))
+      (notAscii (chunk .start + faultAt (slice (chunk .start) (chunk .end) list)))
+unfolding textsChecked
+texts-found list at chunk e = ap (textsChecked list) (chunks-found list at chunk e)
+
+pub texts-none : (list : List ℕ) (at : ℕ) → chunkAt list at ≡ NoChunk → textsChecked list (storedChunks list at) ≡ Passed
+unfolding textsChecked
+texts-none list at e = ap (textsChecked list) (chunks-none list at e)
+
+-- ---- the place of the first bad byte, carried on
+
+-- refusal 7 where a bad byte was found, else the judgement of the rest
+abbrev judged : List ℕ → ℕ → Checked → Checked
+judged list fault rest = cond (ltb fault (length list)) (notAscii fault) rest
+
+fault-on : (list : List ℕ) (at : ℕ) (chunk : StoredChunk) (fault : ℕ) (rest : Checked) → ChunkFits list at chunk
+    → judged list fault (cond (acceptedText (slice (chunk .start) (chunk .end) list)) rest (notAscii (chunk .start + faultAt (slice (chunk .start) (chunk .end) list))))
+      ≡ judged list (firstFault list (chunk .start) (chunk .end) fault) rest
+fault-on list at chunk fault rest fit =
+    let text = slice (chunk .start) (chunk .end) list in
+    let long = length-slice (chunk .start) (chunk .end) list (fit .inside) in
+    by-test (ltb fault (length list))
+    (λ known. rw (known, known))
+    (λ none. by-test (acceptedText text)
+    (λ good.
+      let end : chunk .end ≤ chunk .start + faultAt text = omega (arith, fault-none text good) in
+      rw (none, good, le-ltb _ _ end, none))
+    (λ bad.
+      let before : chunk .start + faultAt text < chunk .end = omega (arith, fault-some text bad) in
+      let inside : chunk .start + faultAt text < length list = omega arith in
+      rw (none, bad, lt-ltb _ _ before, lt-ltb _ _ inside)))
+
+-- ---- what holds before each turn of the pass
+
+pub record Going (list : List ℕ) (at fault : ℕ) : Type 0 where
+  pub within : at ≤ length list
+  pub ends : endFrom 0 (storedChunks list 0) ≡ endFrom at (storedChunks list at)
+  pub texts : textsChecked list (storedChunks list 0) ≡ judged list fault (textsChecked list (storedChunks list at))
+
+pub going-first : (list : List ℕ) → Going list 0 (length list)
+going-first list = record { within = omega arith; ends = refl; texts = rw (le-ltb (length list) (length list) (omega arith)) }
+
+pub going-on : (list : List ℕ) (at fault : ℕ) (chunk : StoredChunk) → Going list at fault → chunkAt list at ≡ Found chunk → ChunkFits list at chunk
+    → Going list (chunk .end) (firstFault list (chunk .start) (chunk .end) fault)
+going-on list at fault chunk going e fit = record {
+  within = fit .inside;
+  ends = going .ends ∙ end-found list at chunk e;
+  texts = going .texts ∙ ap (judged list fault) (texts-found list at chunk e) ∙ fault-on list at chunk fault (textsChecked list (storedChunks list (chunk .end))) fit;
+}
+
+-- ---- the answers
+
+pub too-long : (list : List ℕ) → 1048576 < length list → chunksChecked list ≡ Failed (record { reason = ChunkLayout; place = 0 })
+unfolding chunksChecked layoutChecked
+too-long list long = rw (lt-ltb _ _ long)
+
+module _ (list : List ℕ) (at fault : ℕ) (short : length list ≤ 1048576) (going : Going list at fault) where
+  pub bad-chunk : at < length list → chunkAt list at ≡ NoChunk → chunksChecked list ≡ Failed (record { reason = ChunkLayout; place = at })
+  unfolding chunksChecked layoutChecked
+  bad-chunk inside e =
+      rw (le-ltb _ _ short, going .ends ∙ end-none list at e, ne-eqb at (length list) (λ same. omega arith))
+
+  whole : length list ≤ at → chunksChecked list ≡ judged list fault Passed
+  unfolding chunksChecked layoutChecked
+  whole done =
+      let last = chunk-end list at done in
+      let all : at ≡ length list = omega (arith, going .within) in
+      rw (le-ltb _ _ short, going .ends ∙ end-none list at last, eq-eqb _ _ all, going .texts, texts-none list at last)
+
+  pub bad-byte : length list ≤ at → fault < length list → chunksChecked list ≡ notAscii fault
+  bad-byte done found = whole done ∙ rw (lt-ltb _ _ found)
+
+  pub all-good : length list ≤ at → length list ≤ fault → chunksChecked list ≡ Passed
+  all-good done none = whole done ∙ rw (le-ltb _ _ none)
+
+-- ---- what a judgement that is passed tells
+
+passed-failed : {A : Type 0} {refusal : Refusal} → Failed refusal ≡ Passed → A
+passed-failed e = let z : _≡_ {A = ℕ} 0 1 = cc in absurd (omega arith)
+
+module _ (list : List ℕ) (passed : chunksChecked list ≡ Passed) where
+  pub passed-short : length list ≤ 1048576
+  unfolding chunksChecked layoutChecked
+  passed-short = by-test (ltb 1048576 (length list)) (λ e. passed-failed (rw e at passed)) (λ e. ltb-false _ _ e)
+
+  pub passed-end : endFrom 0 (storedChunks list 0) ≡ length list
+  unfolding chunksChecked layoutChecked
+  passed-end = by-test (eqb (endFrom 0 (storedChunks list 0)) (length list)) (λ e. eqb-true _ _ e) (λ e. passed-failed (rw (le-ltb _ _ passed-short, e) at passed))
+
+  pub passed-texts : textsChecked list (storedChunks list 0) ≡ Passed
+  unfolding chunksChecked layoutChecked
+  passed-texts = rw (le-ltb _ _ passed-short, eq-eqb _ _ passed-end) at passed
+
+-- a list within the limit whose chunks end where it does is judged by its texts
+pub judged-texts : (list : List ℕ) → length list ≤ 1048576 → endFrom 0 (storedChunks list 0) ≡ length list → chunksChecked list ≡ textsChecked list (storedChunks list 0)
+unfolding chunksChecked layoutChecked
+judged-texts list short end = rw (le-ltb _ _ short, eq-eqb _ _ end)
+
+-- ---- judging texts is asking whether each is accepted
+
+pub texts-accepted : (list : List ℕ) (chunks : List StoredChunk) → AllAccepted (map (chunkOf list) chunks) → textsChecked list chunks ≡ Passed
+unfolding textsChecked
+texts-accepted list [] good = refl
+texts-accepted list (chunk ∷ chunks) good = rw (good .0) (texts-accepted list chunks (good .1))
+
+pub accepted-texts : (list : List ℕ) (chunks : List StoredChunk) → textsChecked list chunks ≡ Passed → AllAccepted (map (chunkOf list) chunks)
+unfolding textsChecked
+accepted-texts list [] passed = tt
+accepted-texts list (chunk ∷ chunks) passed =
+    by-test (acceptedText (slice (chunk .start) (chunk .end) list))
+    (λ e. (e, accepted-texts list chunks (rw e at passed)))
+    (λ e. passed-failed (rw e at passed))

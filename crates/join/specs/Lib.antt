@@ -1,0 +1,5 @@
+pub mod Pieces
+pub mod Layout
+pub mod Setting
+pub mod Promise
+pub mod Walk

@@ -1,0 +1,217 @@
+-- Not part of any promise of this crate: what its inner functions hand on, in terms of places in the stored list and of measures of a line.
+use Prim.Native.Nat.{ℕ, _+_, _-_, _*_, _≤_, _<_, min, max}
+use mathlib.Core.Path.{_≡_}
+use mathlib.Core.List.{List, [], _∷_, _++_}
+use mathlib.Core.Bool.{Bool, true, false, cond, not, _&&_, _||_}
+use lib.ListN.{length, take, drop, set}
+use lib.Seq.{slice, sets}
+use lib.Dec.{eqb, ltb, leb}
+use Rattle.text.specs.Ink.{allBlank, leadingBlanks, inkEnd, spaces}
+use Rattle.text.specs.Lines.{newlineAt}
+use Rattle.options.specs.declared.Alignment.{Alignment}
+use Rattle.options.specs.declared.Alignment.the-variants.{Left, Right}
+use Rattle.chunks.specs.Reading.{storedChunks, chunksAt}
+use Rattle.chunks.specs.Judging.{endFrom}
+use Rattle.chunks.specs.declared.stored.ChunkType.{ChunkType}
+use Rattle.chunks.specs.declared.stored.ChunkType.the-variants.{Code, Label, Comment}
+use Rattle.chunks.specs.declared.stored.ChunkAt.the-variants.{Found}
+use Rattle.join.specs.Pieces.{Piece, cut, piecesOf, pieces, following}
+use Rattle.join.specs.Layout.{Line, fresh, indentOf, add, added, ends}
+use Rattle.join.specs.declared.margins.Margins.{Margins}
+use Rattle.join.specs.declared.piece.Follows.{Follows}
+use Rattle.join.specs.declared.piece.Follows.the-variants.{Nothing, Newline, Other}
+use Rattle.join.specs.declared.piece.Spot.{Spot}
+use Rattle.join.specs.declared.piece.Lay.{Lay}
+use Rattle.join.specs.declared.piece.Step.{Step}
+use Rattle.join.specs.declared.line.Measure.{Measure}
+use Rattle.join.specs.declared.line.Indent.{Indent}
+use Rattle.join.specs.declared.line.Indent.the-variants.{Unset, Set}
+use Rattle.join.specs.declared.line.Window.{Window}
+use Rattle.join.specs.declared.line.Walked.{Walked}
+use Rattle.join.specs.declared.lines.Past.{Past}
+use Rattle.join.specs.declared.lines.Cut.{Cut}
+
+-- margins are bytes
+pub record Narrow (margins : Margins) : Type 0 where
+  pub label : margins .label ≤ 255
+  pub code : margins .code ≤ 255
+
+-- ---- places in a list that was judged
+
+-- from a place on, the list is chunks end to end
+abbrev pub Laid : List ℕ → ℕ → Type 0
+Laid list place = endFrom place (storedChunks list place) ≡ length list
+
+-- a spot in a judged list: in a chunk's text, or at the list's end
+pub record Standing (list : List ℕ) (spot : Spot) : Type 0 where
+  pub from : spot .start ≤ spot .at
+  pub some : spot .at < length list → spot .at < spot .end
+  pub inside : spot .end ≤ length list
+  pub within : spot .at ≤ spot .end
+  pub small : spot .indent ≤ 4096
+  pub laid : Laid list (spot .end)
+
+-- the pieces from a spot on
+unfoldable pub piecesAt : List ℕ → Spot → List Piece
+piecesAt list spot =
+    piecesOf (spot .ty) (spot .indent) (eqb (spot .at) (spot .start)) (following (chunksAt list (spot .end))) (cut (slice (spot .at) (spot .end) list))
+    ++ pieces (chunksAt list (spot .end))
+
+-- the spot of the chunk at a place
+pub record Reached (list : List ℕ) (place : ℕ) (spot : Spot) : Type 0 where
+  pub pieces : piecesAt list spot ≡ pieces (chunksAt list place)
+  pub standing : Standing list spot
+  pub onward : place ≤ spot .at
+  pub over : length list ≤ place → spot .at ≡ place
+  pub more : place < length list → spot .at < length list
+
+-- the length of a text's first piece
+abbrev pub pieceLength : List ℕ → ℕ
+pieceLength bytes = min (newlineAt bytes + 1) (length bytes)
+
+-- the first piece at a spot
+unfoldable pub pieceAt : List ℕ → Spot → Piece
+pieceAt list spot = record {
+  ty = spot .ty;
+  indent = spot .indent;
+  starts = eqb (spot .at) (spot .start);
+  text = slice (spot .at) (spot .at + pieceLength (slice (spot .at) (spot .end) list)) list;
+  follows = following (chunksAt list (spot .end));
+}
+
+-- the spot behind a piece of a chunk
+pub record Passed (list : List ℕ) (spot : Spot) (end : ℕ) (behind : Spot) : Type 0 where
+  pub pieces : piecesAt list behind ≡ piecesOf (spot .ty) (spot .indent) false (following (chunksAt list (spot .end))) (cut (slice end (spot .end) list)) ++ pieces (chunksAt list (spot .end))
+  pub standing : Standing list behind
+  pub onward : end ≤ behind .at
+  pub over : length list ≤ end → behind .at ≡ end
+  pub more : end < length list → behind .at < length list
+
+-- ---- how a piece of `count` bytes is laid on a line of n bytes
+
+abbrev pub layAligned : Alignment → ℕ → Lay
+layAligned Left pad = record { before = 0; behind = 1 + pad; ignored = false }
+layAligned Right pad = record { before = pad; behind = 1; ignored = false }
+
+abbrev pub layLabel : Margins → ℕ → ℕ → Lay
+layLabel margins n count =
+    cond (ltb (margins .label) n) (record { before = 0; behind = 1; ignored = false }) (layAligned (margins .alignment) (margins .label - (count + 1)))
+
+abbrev pub layCode : Margins → ℕ → Bool → Lay
+layCode margins n loneNewline =
+    cond (loneNewline && (ltb 0 n && leb n (margins .label))) (record { before = 0; behind = 0; ignored = true })
+    (record { before = margins .label - n; behind = 0; ignored = false })
+
+abbrev pub layComment : Margins → ℕ → Follows → Lay
+layComment margins n Nothing = record { before = margins .label + margins .code - n; behind = 0; ignored = false }
+layComment margins n Newline = record { before = margins .label + margins .code - n; behind = 0; ignored = false }
+layComment margins n Other = record { before = margins .label - n; behind = 1; ignored = false }
+
+abbrev pub layOf : Margins → ChunkType → ℕ → ℕ → Bool → Follows → Lay
+layOf margins Label n count newline follows = layLabel margins n count
+layOf margins Code n count newline follows = layCode margins n (eqb count 1 && newline)
+layOf margins Comment n count newline follows = layComment margins n follows
+
+-- a step over the piece at a spot, on a line of n bytes
+pub record Stepped (margins : Margins) (list : List ℕ) (spot : Spot) (n : ℕ) (step : Step) : Type 0 where
+  pub bytes : added margins n (pieceAt list spot) ≡ spaces (step .before) ++ (slice (step .from) (step .to) list ++ spaces (step .behind))
+  pub ends : step .ends ≡ ends margins n (pieceAt list spot)
+  pub pieces : piecesAt list spot ≡ pieceAt list spot ∷ piecesAt list (step .spot)
+  pub standing : Standing list (step .spot)
+  pub part : step .from ≤ step .to
+  pub inside : step .to ≤ length list
+  pub onward : spot .at < step .spot .at
+  pub more : step .ends ≡ false → step .spot .at < length list
+  pub small : step .before + (step .to - step .from) + step .behind ≤ 512 * (step .spot .at - spot .at)
+
+-- ---- a line by its measures
+
+pub record Measured (measure : Measure) (bytes : List ℕ) : Type 0 where
+  pub length : measure .length ≡ length bytes
+  pub leading : measure .leading ≡ leadingBlanks bytes
+  pub end : measure .«ink_end» ≡ inkEnd bytes
+
+-- room for `count` bytes more
+pub record Fits (measure : Measure) (count : ℕ) : Type 0 where
+  pub leading : measure .leading ≤ measure .length
+  pub small : measure .length + count < 4294967296
+
+-- the indent with the piece at a spot: a chunk that starts while it is unset sets it
+abbrev pub taken : Indent → Spot → Indent
+taken (Set indent) spot = Set indent
+taken Unset spot = cond (eqb (spot .at) (spot .start)) (Set (spot .indent)) Unset
+
+-- the line that pieces start with, whether it ends in them, and the pieces behind it
+pub record First : Type 0 where
+  pub line : Line
+  pub rest : List Piece
+  pub ended : Bool
+
+unfoldable pub firstLine : Margins → Line → List Piece → First
+firstLine margins line [] = record { line = line; rest = []; ended = false }
+firstLine margins line (piece ∷ pieces) =
+    cond (ends margins (length (line .bytes)) piece)
+    (record { line = add margins line piece; rest = pieces; ended = true })
+    (firstLine margins (add margins line piece) pieces)
+
+-- the line at a spot
+unfoldable pub lineAt : Margins → List ℕ → Spot → First
+lineAt margins list spot = firstLine margins fresh (piecesAt list spot)
+
+-- what the walk of a line finds
+pub record LineWalked (margins : Margins) (list : List ℕ) (spot : Spot) (walked : Walked) : Type 0 where
+  pub measured : Measured (walked .measure) (lineAt margins list spot .line .bytes)
+  pub indent : walked .indent ≡ indentOf (lineAt margins list spot .line .indent)
+  pub rest : piecesAt list (walked .spot) ≡ lineAt margins list spot .rest
+  pub ended : lineAt margins list spot .ended ≡ true
+  pub standing : Standing list (walked .spot)
+  pub onward : spot .at < walked .spot .at
+  pub small : walked .measure .length + 512 * spot .at ≤ 512 * walked .spot .at
+  pub low : walked .indent ≤ 4096
+
+-- ---- bytes written through a window: byte `at` of a line, where it is one of low to high
+
+abbrev pub put : List ℕ → Window → ℕ → ℕ → List ℕ
+put text window at b = cond (leb (window .low) at && ltb at (window .high)) (set text (window .base + (at - window .low)) b) text
+
+unfoldable pub puts : List ℕ → Window → ℕ → List ℕ → List ℕ
+puts text window at [] = text
+puts text window at (b ∷ bs) = puts (put text window at b) window (at + 1) bs
+
+-- the window lies within a text of n bytes
+abbrev pub Room : Window → ℕ → Type 0
+Room window n = window .base + (window .high - window .low) ≤ n
+
+-- ---- the text so far, and a line that is set behind it
+
+abbrev pub cutOf : Margins → Past → Measure → ℕ → Cut
+cutOf margins past measure indent =
+    cond (eqb (measure .«ink_end») 0)
+    (record { kept = not (past .blank || past .standalone); standalone = false; lead = 0; low = 0; high = 0 })
+    (cond (leb (margins .label + margins .code) (measure .leading))
+    (record { kept = true; standalone = true; lead = indent + margins .label; low = margins .label + margins .code; high = measure .«ink_end» })
+    (record { kept = true; standalone = false; lead = indent; low = 0; high = measure .«ink_end» }))
+
+abbrev pub lineStart : Past → ℕ
+lineStart past = cond (past .any) (past .length + 1) (past .length)
+
+abbrev pub grownBy : Past → Cut → Past
+grownBy past cut =
+    cond (cut .kept)
+    (record { length = lineStart past + cut .lead + (cut .high - cut .low); any = true; blank = eqb (cut .high) 0; standalone = cut .standalone })
+    past
+
+-- a newline goes before each line but the first
+abbrev pub front : Bool → List ℕ
+front true = 10 ∷ []
+front false = []
+
+-- the bytes that a kept line adds to the text
+abbrev pub cutBytes : Past → Cut → List ℕ → List ℕ
+cutBytes past cut bytes = front (past .any) ++ (spaces (cut .lead) ++ slice (cut .low) (cut .high) bytes)
+
+-- numbers that a cut keeps within a line of n bytes
+pub record CutFits (cut : Cut) (n : ℕ) : Type 0 where
+  pub part : cut .low ≤ cut .high
+  pub within : cut .high ≤ n
+  pub small : cut .lead ≤ 4351

@@ -1,0 +1,97 @@
+// Runs the samples of document 01 and writes what comes of each; the file stdout beside src/ has what is expected.
+use answers::Answer;
+use libc::STDOUT_FILENO;
+use options::OptionsRead;
+
+// A number behind a space.
+fn show_number(n: usize) {
+    io::write_all(STDOUT_FILENO, b" ");
+    io::print_decimal(STDOUT_FILENO, n as u64);
+}
+
+fn show_line() {
+    io::write_all(STDOUT_FILENO, b"\n");
+}
+
+// The options that stored bytes stand for, or the number and place of the refusal.
+fn show_options(name: &[u8], stored: &[u8]) {
+    io::write_all(STDOUT_FILENO, name);
+    let read = options::read_options(stored);
+    match read {
+        OptionsRead::Options(options) => {
+            let whitespace = options.whitespace;
+            let listing = options.listing;
+            io::write_all(STDOUT_FILENO, b" 0: indent");
+            show_number(whitespace.indent);
+            io::write_all(STDOUT_FILENO, b", margins");
+            show_number(whitespace.label_margin);
+            show_number(whitespace.code_margin);
+            io::write_all(STDOUT_FILENO, b", listing");
+            show_number(listing.num_bytes_per_line);
+        }
+        OptionsRead::Refused(refusal) => {
+            let reason = refusal.reason;
+            show_number(reason.number());
+            show_number(refusal.place);
+        }
+    }
+    show_line();
+}
+
+// The answer's number and value, and the text that stands at the buffer's start.
+fn show_answer(name: &[u8], answer: Answer, text: &[u8]) {
+    io::write_all(STDOUT_FILENO, name);
+    show_number(answer.number());
+    show_number(answer.value());
+    show_line();
+    if let Answer::Accepted(length) = answer {
+        if length <= text.len() {
+            io::write_all(STDOUT_FILENO, &text[..length]);
+            show_line();
+        }
+    }
+}
+
+// The text of a stored chunk list in a buffer of up to 64 bytes.
+fn show_join(name: &[u8], chunks: &[u8], options: &[u8], room: usize) {
+    let mut buffer = [0u8; 64];
+    if room <= 64 {
+        let answer = join::join_chunks(chunks, options, &mut buffer[..room]);
+        show_answer(name, answer, &buffer);
+    }
+}
+
+fn show_all_options() {
+    show_options(b"options of no bytes", b"");
+    show_options(b"options, no bit stands", b"\x00");
+    show_options(b"options, a byte too many", b"\x00\x00");
+    show_options(b"options, indent 64", b"\x08\x40");
+    show_options(b"options, indent 65", b"\x08\x41");
+    show_options(b"options, casings 1 and 2", b"\x03\x01\x02");
+    show_options(b"options, alignment 2 behind two margins", b"\x70\xff\x02\x00");
+    show_options(b"options, all bits stand", b"\xff\x01\x00\x01\x02\x03\x00\x04\x05");
+}
+
+fn show_all_chunks() {
+    show_join(b"no chunks", b"", b"\x00", 64);
+    show_join(b"a newline", b"\x00\x01\x00\n", b"\x00", 64);
+    show_join(b"two newlines", b"\x00\x01\x00\n\x00\x01\x00\n", b"\x00", 64);
+    show_join(b"label / nop", b"\x01\x02\x00a:\x00\x03\x00nop", b"\x00", 64);
+    show_join(b"label / newline", b"\x01\x02\x00a:\x00\x01\x00\n", b"\x00", 64);
+    show_join(b"label / newline / nop", b"\x01\x02\x00a:\x00\x01\x00\n\x00\x03\x00nop", b"\x00", 64);
+    show_join(b"nop / three newlines / rts", b"\x00\x03\x00nop\x00\x01\x00\n\x00\x01\x00\n\x00\x01\x00\n\x00\x03\x00rts", b"\x00", 64);
+    show_join(b"comment", b"\x02\x04\x00// c", b"\x00", 64);
+    show_join(b"comment / two newlines / nop", b"\x02\x04\x00// c\x00\x01\x00\n\x00\x01\x00\n\x00\x03\x00nop", b"\x00", 64);
+    show_join(b"comment / nop", b"\x02\x07\x00/* c */\x00\x03\x00nop", b"\x00", 64);
+    show_join(b"comment of two lines, indent 4", b"\x06\x04\x00\x09\x00/* a\nb */", b"\x00", 64);
+    show_join(b"code margin 0, nop / two newlines / rts", b"\x00\x03\x00nop\x00\x01\x00\n\x00\x01\x00\n\x00\x03\x00rts", b"\x40\x00", 64);
+    show_join(b"23 bytes in a buffer of 22", b"\x01\x02\x00a:\x00\x03\x00nop", b"\x00", 22);
+    show_join(b"23 bytes in a buffer of 23", b"\x01\x02\x00a:\x00\x03\x00nop", b"\x00", 23);
+    show_join(b"a text length of 0", b"\x00\x00\x00", b"\x00", 64);
+    show_join(b"byte 128 in a text", b"\x00\x01\x00\x80", b"\x00", 64);
+}
+
+fn main() {
+    show_all_options();
+    show_all_chunks();
+}
