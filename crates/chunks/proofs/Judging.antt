@@ -29,11 +29,13 @@ fault-within xs = by-test (acceptedText xs) (λ e. omega (arith, fault-none xs e
 
 -- ---- from one chunk to the next
 
+-- the chunks end where those behind the first do
 pub end-found : (list : List ℕ) (at : ℕ) (chunk : StoredChunk) → chunkAt list at ≡ Found chunk
     → endFrom at (storedChunks list at) ≡ endFrom (chunk .end) (storedChunks list (chunk .end))
 unfolding endFrom
 end-found list at chunk e = ap (endFrom at) (chunks-found list at chunk e)
 
+-- no chunks end where they start
 pub end-none : (list : List ℕ) (at : ℕ) → chunkAt list at ≡ NoChunk → endFrom at (storedChunks list at) ≡ at
 unfolding endFrom
 end-none list at e = ap (endFrom at) (chunks-none list at e)
@@ -42,13 +44,15 @@ end-none list at e = ap (endFrom at) (chunks-none list at e)
 abbrev notAscii : ℕ → Checked
 notAscii place = Failed (record { reason = NotAscii; place = place })
 
-pub texts-found : (list : List ℕ) (at : ℕ) (chunk : StoredChunk) → chunkAt list at ≡ Found chunk
+-- the texts are judged by the first, and then by those behind it
+texts-found : (list : List ℕ) (at : ℕ) (chunk : StoredChunk) → chunkAt list at ≡ Found chunk
     → textsChecked list (storedChunks list at) ≡ cond (acceptedText (slice (chunk .start) (chunk .end) list)) (textsChecked list (storedChunks list (chunk .end)))
-      (notAscii (chunk .start + faultAt (slice (chunk .start) (chunk .end) list)))
+    (notAscii (chunk .start + faultAt (slice (chunk .start) (chunk .end) list)))
 unfolding textsChecked
 texts-found list at chunk e = ap (textsChecked list) (chunks-found list at chunk e)
 
-pub texts-none : (list : List ℕ) (at : ℕ) → chunkAt list at ≡ NoChunk → textsChecked list (storedChunks list at) ≡ Passed
+-- no text is refused
+texts-none : (list : List ℕ) (at : ℕ) → chunkAt list at ≡ NoChunk → textsChecked list (storedChunks list at) ≡ Passed
 unfolding textsChecked
 texts-none list at e = ap (textsChecked list) (chunks-none list at e)
 
@@ -58,9 +62,10 @@ texts-none list at e = ap (textsChecked list) (chunks-none list at e)
 abbrev judged : List ℕ → ℕ → Checked → Checked
 judged list fault rest = cond (ltb fault (length list)) (notAscii fault) rest
 
+-- the text of a chunk is judged by carrying the place on
 fault-on : (list : List ℕ) (at : ℕ) (chunk : StoredChunk) (fault : ℕ) (rest : Checked) → ChunkFits list at chunk
     → judged list fault (cond (acceptedText (slice (chunk .start) (chunk .end) list)) rest (notAscii (chunk .start + faultAt (slice (chunk .start) (chunk .end) list))))
-      ≡ judged list (firstFault list (chunk .start) (chunk .end) fault) rest
+    ≡ judged list (firstFault list (chunk .start) (chunk .end) fault) rest
 fault-on list at chunk fault rest fit =
     let text = slice (chunk .start) (chunk .end) list in
     let long = length-slice (chunk .start) (chunk .end) list (fit .inside) in
@@ -68,23 +73,26 @@ fault-on list at chunk fault rest fit =
     (λ known. rw (known, known))
     (λ none. by-test (acceptedText text)
     (λ good.
-      let end : chunk .end ≤ chunk .start + faultAt text = omega (arith, fault-none text good) in
-      rw (none, good, le-ltb _ _ end, none))
+    let end : chunk .end ≤ chunk .start + faultAt text = omega (arith, fault-none text good) in
+    rw (none, good, le-ltb _ _ end, none))
     (λ bad.
-      let before : chunk .start + faultAt text < chunk .end = omega (arith, fault-some text bad) in
-      let inside : chunk .start + faultAt text < length list = omega arith in
-      rw (none, bad, lt-ltb _ _ before, lt-ltb _ _ inside)))
+    let before : chunk .start + faultAt text < chunk .end = omega (arith, fault-some text bad) in
+    let inside : chunk .start + faultAt text < length list = omega arith in
+    rw (none, bad, lt-ltb _ _ before, lt-ltb _ _ inside)))
 
 -- ---- what holds before each turn of the pass
 
+-- the judgements of the whole list are those of what is left, and of the bad byte that was found
 pub record Going (list : List ℕ) (at fault : ℕ) : Type 0 where
   pub within : at ≤ length list
   pub ends : endFrom 0 (storedChunks list 0) ≡ endFrom at (storedChunks list at)
   pub texts : textsChecked list (storedChunks list 0) ≡ judged list fault (textsChecked list (storedChunks list at))
 
+-- at the start all is left
 pub going-first : (list : List ℕ) → Going list 0 (length list)
 going-first list = record { within = omega arith; ends = refl; texts = rw (le-ltb (length list) (length list) (omega arith)) }
 
+-- a turn takes one chunk
 pub going-on : (list : List ℕ) (at fault : ℕ) (chunk : StoredChunk) → Going list at fault → chunkAt list at ≡ Found chunk → ChunkFits list at chunk
     → Going list (chunk .end) (firstFault list (chunk .start) (chunk .end) fault)
 going-on list at fault chunk going e fit = record {
@@ -95,16 +103,19 @@ going-on list at fault chunk going e fit = record {
 
 -- ---- the answers
 
+-- the length is judged first
 pub too-long : (list : List ℕ) → 1048576 < length list → chunksChecked list ≡ Failed (record { reason = ChunkLayout; place = 0 })
 unfolding chunksChecked layoutChecked
 too-long list long = rw (lt-ltb _ _ long)
 
 module _ (list : List ℕ) (at fault : ℕ) (short : length list ≤ 1048576) (going : Going list at fault) where
+  -- a place before the end where there is no chunk
   pub bad-chunk : at < length list → chunkAt list at ≡ NoChunk → chunksChecked list ≡ Failed (record { reason = ChunkLayout; place = at })
   unfolding chunksChecked layoutChecked
   bad-chunk inside e =
       rw (le-ltb _ _ short, going .ends ∙ end-none list at e, ne-eqb at (length list) (λ same. omega arith))
 
+  -- the end, where only the texts are left to be judged
   whole : length list ≤ at → chunksChecked list ≡ judged list fault Passed
   unfolding chunksChecked layoutChecked
   whole done =
@@ -112,26 +123,32 @@ module _ (list : List ℕ) (at fault : ℕ) (short : length list ≤ 1048576) (g
       let all : at ≡ length list = omega (arith, going .within) in
       rw (le-ltb _ _ short, going .ends ∙ end-none list at last, eq-eqb _ _ all, going .texts, texts-none list at last)
 
+  -- a bad byte was found
   pub bad-byte : length list ≤ at → fault < length list → chunksChecked list ≡ notAscii fault
   bad-byte done found = whole done ∙ rw (lt-ltb _ _ found)
 
+  -- or none
   pub all-good : length list ≤ at → length list ≤ fault → chunksChecked list ≡ Passed
   all-good done none = whole done ∙ rw (le-ltb _ _ none)
 
 -- ---- what a judgement that is passed tells
 
+-- a refusal is no acceptance
 passed-failed : {A : Type 0} {refusal : Refusal} → Failed refusal ≡ Passed → A
 passed-failed e = let z : _≡_ {A = ℕ} 0 1 = cc in absurd (omega arith)
 
 module _ (list : List ℕ) (passed : chunksChecked list ≡ Passed) where
-  pub passed-short : length list ≤ 1048576
+  -- the list is within the limit
+  passed-short : length list ≤ 1048576
   unfolding chunksChecked layoutChecked
   passed-short = by-test (ltb 1048576 (length list)) (λ e. passed-failed (rw e at passed)) (λ e. ltb-false _ _ e)
 
+  -- its chunks end where it does
   pub passed-end : endFrom 0 (storedChunks list 0) ≡ length list
   unfolding chunksChecked layoutChecked
   passed-end = by-test (eqb (endFrom 0 (storedChunks list 0)) (length list)) (λ e. eqb-true _ _ e) (λ e. passed-failed (rw (le-ltb _ _ passed-short, e) at passed))
 
+  -- and no text is refused
   pub passed-texts : textsChecked list (storedChunks list 0) ≡ Passed
   unfolding chunksChecked layoutChecked
   passed-texts = rw (le-ltb _ _ passed-short, eq-eqb _ _ passed-end) at passed
@@ -143,11 +160,13 @@ judged-texts list short end = rw (le-ltb _ _ short, eq-eqb _ _ end)
 
 -- ---- judging texts is asking whether each is accepted
 
+-- accepted texts are passed
 pub texts-accepted : (list : List ℕ) (chunks : List StoredChunk) → AllAccepted (map (chunkOf list) chunks) → textsChecked list chunks ≡ Passed
 unfolding textsChecked
 texts-accepted list [] good = refl
 texts-accepted list (chunk ∷ chunks) good = rw (good .0) (texts-accepted list chunks (good .1))
 
+-- texts that are passed are accepted
 pub accepted-texts : (list : List ℕ) (chunks : List StoredChunk) → textsChecked list chunks ≡ Passed → AllAccepted (map (chunkOf list) chunks)
 unfolding textsChecked
 accepted-texts list [] passed = tt

@@ -27,25 +27,29 @@ number-behind : (front rest : List ℕ) (n : ℕ) {list : List ℕ} {place : ℕ
 number-behind front rest n whole there = rw (whole, there) (number-stored front rest n)
 
 module _ (before : List ℕ) (chunk : Chunk) (after : List ℕ) where
-  -- the list, parted before each number and before the text
+  -- the list, and the chunk's map
   abbrev list : List ℕ
   list = before ++ (storedChunk chunk ++ after)
 
   abbrev map : ℕ
   map = typeBits (chunk .ty) + indentBit (chunk .indent)
 
+  -- the list, parted before the indent
   from-indent : list ≡ (before ++ (map ∷ [])) ++ (storedIndent (chunk .indent) ++ (twoBytes (length (chunk .text)) ++ (chunk .text ++ after)))
   unfolding storedChunk storedHead
   from-indent = simp append-assoc
 
+  -- before the text length
   from-length : list ≡ (before ++ (map ∷ storedIndent (chunk .indent))) ++ (twoBytes (length (chunk .text)) ++ (chunk .text ++ after))
   unfolding storedChunk storedHead
   from-length = simp append-assoc
 
+  -- and before the text
   from-text : list ≡ (before ++ storedHead (chunk .ty) (chunk .indent) (length (chunk .text))) ++ (chunk .text ++ after)
   unfolding storedChunk
   from-text = simp append-assoc
 
+  -- the map stands first
   first : getD list (length before) 0 ≡ map
   unfolding storedChunk storedHead
   first = getD-append-seam before map _ 0
@@ -57,13 +61,13 @@ module _ (before : List ℕ) (chunk : Chunk) (after : List ℕ) where
       let rest = length-append (storedChunk chunk) after in
       let own = chunk-length chunk in
       let count : numberAt list (length before + 1 + length (storedIndent (chunk .indent))) ≡ length (chunk .text) =
-        number-behind (before ++ (map ∷ storedIndent (chunk .indent))) (chunk .text ++ after) (length (chunk .text)) from-length
-        (omega (arith, length-append before (map ∷ storedIndent (chunk .indent)))) in
+      number-behind (before ++ (map ∷ storedIndent (chunk .indent))) (chunk .text ++ after) (length (chunk .text)) from-length
+      (omega (arith, length-append before (map ∷ storedIndent (chunk .indent)))) in
       record {
         map = first;
         low = good .indent;
         indent = λ some. number-behind (before ++ (map ∷ [])) (twoBytes (length (chunk .text)) ++ (chunk .text ++ after)) (chunk .indent)
-          (rw (indent-stored (chunk .indent) some) at from-indent) (omega (arith, length-append before (map ∷ [])));
+            (rw (indent-stored (chunk .indent) some) at from-indent) (omega (arith, length-append before (map ∷ [])));
         start = refl;
         end = omega arith;
         some = omega (arith, good .some);

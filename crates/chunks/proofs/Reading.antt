@@ -63,6 +63,7 @@ module _ (list : List ℕ) (at : ℕ) (ty : ChunkType) (indent : ℕ) where
 
 -- ---- what a chunk that is found was laid out as
 
+-- a map, an indent or none, a text length and a text, all within the list
 pub record Laid (list : List ℕ) (at : ℕ) (chunk : StoredChunk) : Type 0 where
   pub map : getD list at 0 ≡ typeBits (chunk .ty) + indentBit (chunk .indent)
   pub low : chunk .indent ≤ 4096
@@ -72,11 +73,12 @@ pub record Laid (list : List ℕ) (at : ℕ) (chunk : StoredChunk) : Type 0 wher
   pub some : chunk .start < chunk .end
   pub inside : chunk .end ≤ length list
 
+-- so what is found is laid out, if anything is
 abbrev pub LaidAs : List ℕ → ℕ → ChunkAt → Type 0
 LaidAs list at (Found chunk) = Laid list at chunk
 LaidAs list at NoChunk = Unit
 
--- a text length and a text behind a map and an indent
+-- a text that is found behind a map and an indent
 text-laid : (list : List ℕ) (at place : ℕ) (ty : ChunkType) (indent : ℕ) → getD list at 0 ≡ typeBits ty + indentBit indent → indent ≤ 4096
     → ((indent ≡ 0 → ⊥) → numberAt list (at + 1) ≡ indent) → place ≡ at + 1 + length (storedIndent indent) → LaidAs list at (textAt list place ty indent)
 unfolding textAt
@@ -96,6 +98,7 @@ text-laid list at place ty indent map low stored there =
       inside = ltb-false (length list) (place + 2 + count) e3;
     }))) (λ _. tt)
 
+-- a chunk that is found
 pub chunk-laid : (list : List ℕ) (at : ℕ) → LaidAs list at (chunkAt list at)
 unfolding chunkAt storedIndent
 chunk-laid list at =
@@ -117,7 +120,7 @@ chunk-laid list at =
     text-laid list at (at + 1 + 2) (typeOf bits) indent
     (omega (arith, ltb-false map 4 e4, ltb-false 7 map e2, indent-bit indent some)) (ltb-false 4096 indent e7) (λ _. refl) (omega (arith, ap length (indent-stored indent some)))))) (λ _. tt)))))
 
--- ---- what is laid out as a chunk is found
+-- ---- what is laid out is found
 
 -- behind a map and an indent a text is looked for
 indent-found : (list : List ℕ) (at : ℕ) (ty : ChunkType) (indent : ℕ) → at + 3 ≤ length list → getD list at 0 ≡ typeBits ty + indentBit indent → indent ≤ 4096
@@ -141,6 +144,7 @@ unfolding textAt
 text-found list place ty indent some enough =
     rw (le-leb (place + 2) (length list) (omega arith), ne-eqb _ _ some, le-ltb _ _ enough)
 
+-- what is laid out as a chunk is found as that chunk
 pub laid-found : (list : List ℕ) (at : ℕ) (chunk : StoredChunk) → Laid list at chunk → chunkAt list at ≡ Found chunk
 laid-found list at chunk laid =
     let place = at + 1 + length (storedIndent (chunk .indent)) in
@@ -152,17 +156,20 @@ laid-found list at chunk laid =
 
 -- ---- what is found fits
 
+-- of bytes, what is laid out fits
 fits-laid : (list : List ℕ) (at : ℕ) → Bytes list → (found : ChunkAt) → LaidAs list at found → Fits list at found
 fits-laid list at bytes (Found chunk) laid =
     let place = at + 1 + length (storedIndent (chunk .indent)) in
     record { behind = omega arith; some = laid .some; inside = laid .inside; short = omega (arith, bytes place, bytes (place + 1)); indent = laid .low }
 fits-laid list at bytes NoChunk laid = tt
 
+-- so what is found does
 pub chunk-fits : (list : List ℕ) (at : ℕ) → Bytes list → Fits list at (chunkAt list at)
 chunk-fits list at bytes = fits-laid list at bytes (chunkAt list at) (chunk-laid list at)
 
 -- ---- the chunks from a place on
 
+-- what goes on in the same way behind every later place is the same
 rest-same : (list : List ℕ) (at : ℕ) (rest rest′ : ℕ → List StoredChunk) (found : ChunkAt) → LaidAs list at found
     → ((end : ℕ) → at < end → rest end ≡ rest′ end) → restOn rest found ≡ restOn rest′ found
 rest-same list at rest rest′ (Found chunk) laid same = ap (λ (chunks : List StoredChunk). chunk ∷ chunks) (same (chunk .end) (omega arith))
@@ -185,9 +192,11 @@ chunks-at : (list : List ℕ) (at : ℕ) → storedChunks list at ≡ restOn (st
 unfolding storedChunks chunksFrom
 chunks-at list at = sym (chunks-more (length list) list at (omega arith))
 
+-- where a chunk is found it is the first
 pub chunks-found : (list : List ℕ) (at : ℕ) (chunk : StoredChunk) → chunkAt list at ≡ Found chunk → storedChunks list at ≡ chunk ∷ storedChunks list (chunk .end)
 chunks-found list at chunk e = chunks-at list at ∙ ap (restOn (storedChunks list)) e
 
+-- where none is found there are none
 pub chunks-none : (list : List ℕ) (at : ℕ) → chunkAt list at ≡ NoChunk → storedChunks list at ≡ []
 chunks-none list at e = chunks-at list at ∙ ap (restOn (storedChunks list)) e
 
@@ -202,19 +211,23 @@ chunks-at-none list at e = ap (map (chunkOf list)) (chunks-none list at e)
 
 -- ---- every chunk fits, and is well formed
 
+-- a chunk that fits, and those behind it
 rest-fit : (list : List ℕ) (at : ℕ) (rest : ℕ → List StoredChunk) (found : ChunkAt) → Fits list at found → ((end : ℕ) → AllFit list end (rest end)) → AllFit list at (restOn rest found)
 rest-fit list at rest (Found chunk) fit others = (fit, others (chunk .end))
 rest-fit list at rest NoChunk fit others = tt
 
+-- however many are read
 from-fit : (n : ℕ) (list : List ℕ) (at : ℕ) → Bytes list → AllFit list at (chunksFrom n list at)
 unfolding chunksFrom
 from-fit zero list at bytes = tt
 from-fit (suc n) list at bytes = rest-fit list at (chunksFrom n list) (chunkAt list at) (chunk-fits list at bytes) (λ end. from-fit n list end bytes)
 
+-- of bytes, every chunk that is read fits
 pub chunks-fit : (list : List ℕ) (at : ℕ) → Bytes list → AllFit list at (storedChunks list at)
 unfolding storedChunks
 chunks-fit list at bytes = from-fit (length list) list at bytes
 
+-- a chunk that fits is well formed
 fit-well-formed : (list : List ℕ) (at : ℕ) (chunks : List StoredChunk) → AllFit list at chunks → AllWellFormed (map (chunkOf list) chunks)
 fit-well-formed list at [] fit = tt
 fit-well-formed list at (chunk ∷ chunks) fit =
@@ -222,6 +235,7 @@ fit-well-formed list at (chunk ∷ chunks) fit =
     let long = length-slice (chunk .start) (chunk .end) list (here .inside) in
     (record { indent = here .indent; some = omega arith; short = omega arith }, fit-well-formed list (chunk .end) chunks (fit .1))
 
+-- so every chunk of a list of bytes is
 pub chunks-well-formed : (list : List ℕ) (at : ℕ) → Bytes list → AllWellFormed (chunksAt list at)
 unfolding chunksAt
 chunks-well-formed list at bytes = fit-well-formed list at (storedChunks list at) (chunks-fit list at bytes)

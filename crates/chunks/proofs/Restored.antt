@@ -27,6 +27,7 @@ module _ (list : List ℕ) (bytes : Bytes list) where
       ∙ ap (λ (l : List ℕ). getD list place 0 ∷ l) (drop-step list (place + 1) (omega arith))
       ∙ rw two (sym (ap (λ (l : List ℕ). l ++ drop (place + 2) list) (two-bytes-number (getD list place 0) (getD list (place + 1) 0) (bytes place))))
 
+  -- an indent, where there is one
   indent-drop : (place indent : ℕ) → place + 2 ≤ length list → ((indent ≡ 0 → ⊥) → numberAt list place ≡ indent)
       → drop place list ≡ storedIndent indent ++ drop (place + length (storedIndent indent)) list
   unfolding storedIndent
@@ -48,6 +49,7 @@ module _ (list : List ℕ) (bytes : Bytes list) where
       let parted : drop (chunk .start) list ≡ text ++ drop (chunk .end) list = part-drop (chunk .start) (chunk .end) list (omega arith) in
       mapped ∙ rw (indented, counted, parted) (simp append-assoc)
 
+  -- a chunk, if there is one, and what is read behind it
   rest-drop : (at : ℕ) (rest : ℕ → List StoredChunk) (found : ChunkAt) → LaidAs list at found
       → ((end : ℕ) → drop end list ≡ storedList (map (chunkOf list) (rest end)) ++ drop (endFrom end (rest end)) list)
       → drop at list ≡ storedList (map (chunkOf list) (restOn rest found)) ++ drop (endFrom at (restOn rest found)) list
@@ -58,6 +60,7 @@ module _ (list : List ℕ) (bytes : Bytes list) where
       ∙ sym (append-assoc (storedChunk (chunkOf list chunk)) (storedList (map (chunkOf list) (rest (chunk .end)))) (drop (endFrom (chunk .end) (rest (chunk .end))) list))
   rest-drop at rest NoChunk laid others = refl
 
+  -- however many are read
   from-drop : (n at : ℕ) → drop at list ≡ storedList (map (chunkOf list) (chunksFrom n list at)) ++ drop (endFrom at (chunksFrom n list at)) list
   unfolding chunksFrom storedList endFrom
   from-drop zero at = refl

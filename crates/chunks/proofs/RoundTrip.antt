@@ -18,8 +18,8 @@ use Rattle.chunks.proofs.Restored.{chunks-drop}
 -- reading undoes storing: where a chunk was stored it is found, up to the end of its stored form
 pub stored-found : (before : List ℕ) (chunk : Chunk) (after : List ℕ) → WellFormed chunk
     → (chunkAt (before ++ (storedChunk chunk ++ after)) (length before) ≡ Found (storedAt (length before) chunk))
-      × (chunkOf (before ++ (storedChunk chunk ++ after)) (storedAt (length before) chunk) ≡ chunk)
-      × (storedAt (length before) chunk .end ≡ length before + length (storedChunk chunk))
+    × (chunkOf (before ++ (storedChunk chunk ++ after)) (storedAt (length before) chunk) ≡ chunk)
+    × (storedAt (length before) chunk .end ≡ length before + length (storedChunk chunk))
 stored-found before chunk after good = (
   laid-found (before ++ (storedChunk chunk ++ after)) (length before) (storedAt (length before) chunk) (placed before chunk after good),
   ap (λ (text : List ℕ). record { ty = chunk .ty; indent = chunk .indent; text = text }) (placed-text before chunk after),
@@ -29,7 +29,7 @@ stored-found before chunk after good = (
 -- stored chunks behind other bytes give back the chunks, to the end
 stored-back : (before : List ℕ) (chunks : List Chunk) → AllWellFormed chunks
     → (chunksAt (before ++ storedList chunks) (length before) ≡ chunks)
-      × (endFrom (length before) (storedChunks (before ++ storedList chunks) (length before)) ≡ length (before ++ storedList chunks))
+    × (endFrom (length before) (storedChunks (before ++ storedList chunks) (length before)) ≡ length (before ++ storedList chunks))
 unfolding storedList
 stored-back before [] good =
     let whole = append-nil before in
@@ -40,8 +40,7 @@ stored-back before (chunk ∷ chunks) good =
     let found = stored-found before chunk (storedList chunks) (good .0) in
     let whole : (before ++ storedChunk chunk) ++ storedList chunks ≡ list = append-assoc before (storedChunk chunk) (storedList chunks) in
     let end : length (before ++ storedChunk chunk) ≡ length before + length (storedChunk chunk) = length-append before (storedChunk chunk) in
-    let others = rw (whole, end) at (stored-back (before ++ storedChunk chunk) chunks (good .1)) in
-    (
+    let others = rw (whole, end) at (stored-back (before ++ storedChunk chunk) chunks (good .1)) in (
       chunks-at-found list (length before) (storedAt (length before) chunk) (found .0) ∙ rw (found .1, others .0),
       end-found list (length before) (storedAt (length before) chunk) (found .0) ∙ others .1,
     )

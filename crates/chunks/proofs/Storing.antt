@@ -19,7 +19,7 @@ use Rattle.chunks.specs.declared.append.Appended.{Appended}
 use Rattle.chunks.specs.declared.append.Appended.the-variants.{Used, NoRoom, NoChunk, UsedPastRoom}
 
 -- bytes that fit are stored
-pub bytes-fit : (buffer : List ℕ) (at : ℕ) (bytes : List ℕ) → at + length bytes ≤ length buffer → storedBuffer buffer at bytes ≡ sets buffer at bytes
+bytes-fit : (buffer : List ℕ) (at : ℕ) (bytes : List ℕ) → at + length bytes ≤ length buffer → storedBuffer buffer at bytes ≡ sets buffer at bytes
 bytes-fit buffer at bytes room = rw (le-leb _ _ room)
 
 -- so is a number that fits and has a stored form
@@ -33,7 +33,7 @@ pub head-stores : (room : List ℕ) (at : ℕ) (ty : ChunkType) (indent count : 
     → behind ≡ at + 1 + length (storedIndent indent) → two ≡ numberBuffer one behind count
     → two ≡ sets room at (storedHead ty indent count)
 unfolding storedHead
-head-stores room at ty indent count {one = one} short fits first second place third =
+head-stores room at ty indent count short fits first second place third =
     let head = set room at (typeBits ty + indentBit indent) in
     let same : length (sets head (at + 1) (storedIndent indent)) ≡ length room = simp (length-sets, length-set) in
     let enough : at + 1 + length (storedIndent indent) + 2 ≤ length (sets head (at + 1) (storedIndent indent)) = omega (arith, length-append (storedIndent indent) (twoBytes count)) in
@@ -68,9 +68,9 @@ chunk-stores room used chunk front text back {count} {place} parts counted fits 
     (omega arith)
     e4)
 
--- ---- the answers, each with the room behind it
+-- ---- the answers, each with what the room then holds
 
--- where the right part of a disjunction is true it is
+-- a disjunction is true where its right part is
 or-right : (a b : Bool) → b ≡ true → (a || b) ≡ true
 or-right true b e = refl
 or-right false b e = e
@@ -80,6 +80,7 @@ abbrev pub Appends : List ℕ → ℕ → Chunk → Appended → List ℕ → Ty
 Appends room used chunk answer after = (answer ≡ appended (length room) used chunk) × (after ≡ roomAfter room used chunk)
 
 module _ (room : List ℕ) (used : ℕ) (chunk : Chunk) where
+  -- a chunk without a stored form is not stored: its indent is too large, its text empty or too long
   unstored : unstorable chunk ≡ true → Appends room used chunk NoChunk room
   unfolding appended roomAfter
   unstored bad = (rw bad, rw bad)
@@ -94,18 +95,22 @@ module _ (room : List ℕ) (used : ℕ) (chunk : Chunk) where
   append-long long = unstored (or-right (ltb 4096 (chunk .indent)) _ (or-right (eqb (length (chunk .text)) 0) _ (lt-ltb _ _ long)))
 
   module _ (good : WellFormed chunk) where
+    -- any other has one
     storable : unstorable chunk ≡ false
     storable = rw (le-ltb _ _ (good .indent), ne-eqb (length (chunk .text)) 0 (λ none. omega arith), le-ltb _ _ (good .short))
 
+    -- it is not stored behind a used length past the room
     pub append-past : capacity (length room) < used → Appends room used chunk UsedPastRoom room
     unfolding appended roomAfter
     append-past past = (rw (storable, lt-ltb _ _ past), rw (storable, lt-ltb _ _ past))
 
     module _ {end : ℕ} (within : used ≤ capacity (length room)) (ends : end ≡ used + length (storedChunk chunk)) where
+      -- nor where it does not fit
       pub append-no-room : capacity (length room) < end → Appends room used chunk (NoRoom end) room
       unfolding appended roomAfter
       append-no-room full = (rw (storable, le-ltb _ _ within, ← ends, lt-ltb _ _ full), rw (storable, le-ltb _ _ within, ← ends, lt-ltb _ _ full))
 
+      -- where it fits it is stored
       pub append-stored : {after : List ℕ} → end ≤ capacity (length room) → after ≡ sets room used (storedChunk chunk) → Appends room used chunk (Used end) after
       unfolding appended roomAfter
       append-stored fits stored = (rw (storable, le-ltb _ _ within, ← ends, le-ltb _ _ fits), stored ∙ rw (storable, le-ltb _ _ within, ← ends, le-ltb _ _ fits))

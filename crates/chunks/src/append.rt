@@ -80,7 +80,15 @@ fn head_length(indent: usize) -> usize
 }
 
 // Appends a chunk, whose text is handed over in three parts, behind the used length of a room.
-pub fn append_chunk(room: &mut [u8], used: usize, ty: ChunkType, indent: usize, front: &[u8], text: &[u8], back: &[u8]) -> Appended
+pub fn append_chunk(
+    room: &mut [u8],
+    used: usize,
+    ty: ChunkType,
+    indent: usize,
+    front: &[u8],
+    text: &[u8],
+    back: &[u8],
+) -> Appended
     ensures { λ r. ⌜ r ≡ appended (length (now (room .entry))) used (record { ty = ty; indent = indent; text = now (front .entry) ++ (now (text .entry) ++ now (back .entry)) }) ⌝ }
     ensures { λ _. ⌜ now (room .exit) ≡ roomAfter (now (room .entry)) used (record { ty = ty; indent = indent; text = now (front .entry) ++ (now (text .entry) ++ now (back .entry)) }) ⌝ }
 {

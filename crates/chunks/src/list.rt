@@ -1,9 +1,9 @@
 // A whole chunk list, judged in one pass.
+use crate::stored;
+use crate::stored::ChunkAt;
 use answers::Checked;
 use answers::Reason;
 use answers::Refusal;
-use crate::stored;
-use crate::stored::ChunkAt;
 use text::scans;
 ghost use mathlib.Core.Path.{_≡_};
 ghost use Prim.Native.Nat.{_≤_};

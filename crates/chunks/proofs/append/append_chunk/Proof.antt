@@ -34,17 +34,17 @@ returns : tie.Need-returns
 returns c = append-deep _ _ (handed (c .before .before .before .before .before)) (c .if1 .taken)
 
 returns-2 : tie.Need-returns-2
-returns-2 c = 
+returns-2 c =
     let start = c .before .before .before .before .before .before in
     append-long _ _ (handed start) (omega (arith, handed-length start))
 
 returns-3 : tie.Need-returns-3
-returns-3 c = 
+returns-3 c =
     let start = c .before .before .before .before .before .before .before in
     append-long _ _ (handed start) (omega (arith, handed-length start))
 
 returns-4 : tie.Need-returns-4
-returns-4 c = 
+returns-4 c =
     let start = c .before .before .before .before .before .before .before .before in
     append-long _ _ (handed start) (omega (arith, handed-length start))
 
@@ -55,12 +55,12 @@ add-count-2 : tie.Need-add-count-2
 add-count-2 c = search needs
 
 returns-5 : tie.Need-returns-5
-returns-5 c = 
+returns-5 c =
     let start = c .before .before .before .before .before .before .before .before .before in
     append-empty _ _ (handed start) (omega (arith, handed-length start))
 
 returns-6 : tie.Need-returns-6
-returns-6 c = 
+returns-6 c =
     let start = c .before .before .before .before .before .before .before .before .before .before in
     append-long _ _ (handed start) (omega (arith, handed-length start))
 
@@ -68,7 +68,7 @@ capacity-requires : tie.Need-capacity-requires
 capacity-requires c κs = search needs
 
 returns-7 : tie.Need-returns-7
-returns-7 c = 
+returns-7 c =
     let start = c .before .before .before .before .before .before .before .before .before .before .before .before in
     append-past _ _ (handed start) (passed (c .before .before)) (omega arith)
 
@@ -82,7 +82,7 @@ add-end-2 : tie.Need-add-end-2
 add-end-2 c = omega (arith, indent-length (c .before .before .before .before .before .before .before .before .before .before .before .before .before .args .indent))
 
 returns-8 : tie.Need-returns-8
-returns-8 c = 
+returns-8 c =
     let start = c .before .before .before .before .before .before .before .before .before .before .before .before .before .before in
     append-no-room _ _ (handed start) (passed (c .before .before .before .before)) (omega arith)
     (omega (arith, chunk-length (handed start), handed-length start)) (omega arith)
@@ -122,9 +122,9 @@ returns-9 c =
     let start = tested .before .before .before .before .before .before .before .before .before .before in
     let ended = chunk-length (handed start) in
     let counted = handed-length start in
-    append-stored _ _ (handed start) (passed tested) (omega arith) (omega arith) (omega arith)
+    append-stored _ _ (handed start) (passed tested) (omega (arith, head)) (omega (arith, head)) (omega (arith, head))
     (chunk-stores (start .args .room .now) (start .args .used) (handed start) (start .args .front .now) (start .args .text .now) (start .args .back .now) refl (sym counted)
-    (omega arith) (head .store-head .ensures .0) (head .store-head .ensures .1) (first .copy .ensures .1) (second .copy2 .ensures .1) (third .copy3 .ensures .1))
+    (omega (arith, head)) (head .store-head .ensures .0) (head .store-head .ensures .1) (first .copy .ensures .1) (second .copy2 .ensures .1) (third .copy3 .ensures .1))
 
 pub append-chunk-spec : {M : Type 1} → statement M
 append-chunk-spec =

@@ -28,7 +28,7 @@ store-number-requires : tie.Need-store-number-requires
 store-number-requires c κs = search needs
 
 add-result : tie.Need-add-result
-add-result c = 
+add-result c =
     let start = c .before .before .before .before .before .before .before .before .before .before in
     omega (arith, head-length (start .args .ty) (start .args .indent) (start .args .count))
 
@@ -39,13 +39,12 @@ same-length c =
 returns : tie.Need-returns
 returns c =
     let start = c .before .before .before .before .before .before .before .before .before .before in
-    let indented = c .before .before .before .before .before .before .store-indent in
-    (
+    let indented = c .before .before .before .before .before .before .store-indent in (
       omega (arith, head-length (start .args .ty) (start .args .indent) (start .args .count)),
       head-stores (start .args .room .now) (start .args .at) (start .args .ty) (start .args .indent) (start .args .count)
-      (start .pre .1) (start .pre .2)
-      (c .before .before .before .before .before .before .before .before .map-byte .ensures) (indented .ensures .1)
-      (indented .ensures .0) (c .before .before .store-number .ensures .1),
+          (start .pre .1) (start .pre .2)
+          (c .before .before .before .before .before .before .before .before .map-byte .ensures) (indented .ensures .1)
+          (indented .ensures .0) (c .before .before .store-number .ensures .1),
     )
 
 pub store-head-spec : {M : Type 1} → statement M

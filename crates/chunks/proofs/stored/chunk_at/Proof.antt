@@ -21,7 +21,7 @@ entry c = c .before .before .before .before .before .before .before .before .bef
 -- behind a map with the indent's bit the number that is read decides
 indented : (c : tie.After-read-number) {number : Number} → c .read-number .result ≡ number
     → chunkAt (entry c .args .list .now) (entry c .args .at)
-      ≡ indentOn (entry c .args .list .now) (entry c .args .at + 1) (typeOf (c .before .before .before .before .before .wide .result % 4)) number
+    ≡ indentOn (entry c .args .list .now) (entry c .args .at + 1) (typeOf (c .before .before .before .before .before .wide .result % 4)) number
 indented c told =
     let tested = c .before .before .before in
     chunk-indented (entry c .args .list .now) (entry c .args .at) (tested .before .before .before .before .if1 .left) (tested .before .before .wide .ensures .0) (tested .before .if2 .left)
@@ -59,7 +59,7 @@ returns-4 c =
     let tested = c .before .before .before in
     let start = tested .before .before .before .before .before .before in
     let plain = chunk-plain (start .args .list .now) (start .args .at) (tested .before .before .before .before .if1 .left) (tested .before .before .wide .ensures .0) (tested .before .if2 .left) (tested .if3 .left)
-      (c .before .if4 .taken) in
+    (c .before .if4 .taken) in
     let same : c .text-at .result ≡ chunkAt (start .args .list .now) (start .args .at) = c .text-at .ensures ∙ rw (c .before .before .type-of .ensures) (sym plain) in
     (same, rw same (found-fits (tested .before .before .before .before .before)))
 
@@ -93,7 +93,7 @@ text-at-requires-2 c κs = search needs
 returns-8 : tie.Need-returns-8
 returns-8 c =
     let read = c .before .before .before .before .before .before in
-    let start = entry read in
+    let start = read .before .before .before .before .before .before .before .before .before in
     let next : start .args .at + 3 ≡ start .args .at + 1 + 2 = omega arith in
     let text = indented read (c .before .before .before .before .number .given .1) ∙ indent-text _ _ _ _ (c .before .before .if5 .left) (c .before .if6 .left) in
     let same : c .text-at2 .result ≡ chunkAt (start .args .list .now) (start .args .at) = c .text-at2 .ensures ∙ rw (next, read .before .before .type-of .ensures) (sym text) in

@@ -1,0 +1,195 @@
+// The check of a whole tree, in one pass.
+use answers::Checked;
+use answers::Reason;
+use answers::Refusal;
+use crate::grammar;
+use crate::grammar::Class;
+use crate::grammar::Items;
+use crate::own;
+use crate::own::Own;
+use crate::own::OwnRead;
+use text::numbers;
+use text::scans;
+
+// The parts of a record that are still to be read: the fields of a row whose bits stand, then `count` items of a class.
+pub struct Plan {
+    pub row: u64,
+    pub bits: usize,
+    pub item: Class,
+    pub count: usize,
+}
+
+pub enum Part {
+    Next(Class, Plan),
+    NoPart,
+}
+
+// A record that was read whole: the place behind it, and the first byte that no text may hold (a place past the tree stands for none).
+pub enum RecordRead {
+    Whole(usize, usize),
+    Refused(Refusal),
+}
+
+fn plan_of(class: Class, own: Own) -> Plan {
+    let kind = own.kind;
+    let rule = grammar::rule_of(class);
+    let items = rule.items;
+    let value = rule.value;
+    let row = grammar::row_of(kind, value);
+    match items {
+        Items::ListOf(item) => Plan {
+            row: row,
+            bits: own.map / 2,
+            item: item,
+            count: own.count,
+        },
+        Items::NoList => Plan {
+            row: row,
+            bits: own.map / 2,
+            item: class,
+            count: 0,
+        },
+    }
+}
+
+fn slot_class(slot: u64) -> Class {
+    if slot < 64 {
+        return grammar::class_of(slot);
+    }
+    grammar::class_of(slot - 64)
+}
+
+// The next part of a plan.
+fn next_part(plan: Plan) -> Part {
+    let item = plan.item;
+    let mut row = plan.row;
+    let mut bits = plan.bits;
+    while 0 < row {
+        let slot = row % 128;
+        let bit = bits % 2;
+        row = row / 128;
+        bits = bits / 2;
+        if bit == 1 {
+            return Part::Next(
+                slot_class(slot),
+                Plan {
+                    row: row,
+                    bits: bits,
+                    item: item,
+                    count: plan.count,
+                },
+            );
+        }
+    }
+    if plan.count == 0 {
+        return Part::NoPart;
+    }
+    Part::Next(
+        item,
+        Plan {
+            row: 0,
+            bits: 0,
+            item: item,
+            count: plan.count - 1,
+        },
+    )
+}
+
+// The first byte of tree[start..end] that no text may hold, unless one was found before.
+fn fault_in(tree: &[u8], start: usize, end: usize, fault: usize) -> usize {
+    if fault < tree.len() {
+        return fault;
+    }
+    let found = start + scans::fault_at(&tree[start..end]);
+    if found < end {
+        return found;
+    }
+    fault
+}
+
+// The same for the bytes of one trivia item and then for the items behind it.
+fn fault_in_trivia(tree: &[u8], at: usize, count: usize, fault: usize) -> usize {
+    let mut place = at;
+    let mut left = count;
+    let mut found = fault;
+    while 0 < left {
+        if tree[place] == 1 {
+            place += 1;
+        } else {
+            let length = numbers::wide(tree[place + 1]) + 256 * numbers::wide(tree[place + 2]);
+            let start = place + 3;
+            found = fault_in(tree, start, start + length, found);
+            place = start + length;
+        }
+        left -= 1;
+    }
+    found
+}
+
+fn own_fault(tree: &[u8], own: Own, fault: usize) -> usize {
+    let first = fault_in_trivia(tree, own.trivia, own.trivia_count, fault);
+    fault_in(tree, own.text, own.end, first)
+}
+
+// The record of a class at a place, with all its parts.
+pub fn read_record(tree: &[u8], at: usize, class: Class, levels: usize, fault: usize) -> RecordRead {
+    let read = own::read_own(tree, at, class, levels);
+    let OwnRead::Record(own) = read else {
+        if let OwnRead::Refused(refusal) = read {
+            return RecordRead::Refused(refusal);
+        }
+        return RecordRead::Whole(at, fault);
+    };
+    let mut place = own.end;
+    let mut seen = own_fault(tree, own, fault);
+    let mut plan = plan_of(class, own);
+    loop {
+        let part = next_part(plan);
+        let Part::Next(field, rest) = part else {
+            return RecordRead::Whole(place, seen);
+        };
+        let whole = read_record(tree, place, field, levels - 1, seen);
+        let RecordRead::Whole(end, found) = whole else {
+            return whole;
+        };
+        place = end;
+        seen = found;
+        plan = rest;
+    }
+}
+
+fn failed(reason: Reason, place: usize) -> Checked {
+    Checked::Failed(Refusal {
+        reason: reason,
+        place: place,
+    })
+}
+
+// Whether bytes are a stored tree of at most `length` bytes and `levels` levels: refusals 3, 4, 5 and 7.
+pub fn check_within(tree: &[u8], length: usize, levels: usize) -> Checked {
+    let end = tree.len();
+    if end == 0 {
+        return failed(Reason::TreeLength, 0);
+    }
+    if length < end {
+        return failed(Reason::TreeLength, 0);
+    }
+    let read = read_record(tree, 0, Class::Tokens, levels, end);
+    match read {
+        RecordRead::Refused(refusal) => Checked::Failed(refusal),
+        RecordRead::Whole(behind, fault) => {
+            if behind < end {
+                return failed(Reason::TreeLayout, behind);
+            }
+            if fault < end {
+                return failed(Reason::NotAscii, fault);
+            }
+            Checked::Passed
+        }
+    }
+}
+
+// Whether bytes are a stored tree.
+pub fn check_tree(tree: &[u8]) -> Checked {
+    check_within(tree, 65535, 64)
+}

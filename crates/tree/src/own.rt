@@ -1,0 +1,316 @@
+// A record's own bytes: kind, map, trivia, and a list's count or a leaf's text.
+use answers::Reason;
+use answers::Refusal;
+use crate::grammar;
+use crate::grammar::Class;
+use crate::grammar::Items;
+use crate::grammar::Kind;
+use crate::grammar::KindRead;
+use crate::grammar::Rule;
+use crate::grammar::TextRule;
+use text::numbers;
+use text::numbers::Number;
+
+// A record's own bytes, by their places: `trivia` is the place of its first trivia item, of which there are `trivia_count`; its text is
+// the bytes from `text` to `end`, behind which its fields or items begin; `count` says how many items a list has.
+pub struct Own {
+    pub kind: Kind,
+    pub map: usize,
+    pub trivia: usize,
+    pub trivia_count: usize,
+    pub text: usize,
+    pub end: usize,
+    pub count: usize,
+}
+
+pub enum OwnRead {
+    Record(Own),
+    Refused(Refusal),
+}
+
+// The place behind a part of a record's own bytes.
+pub enum Span {
+    Behind(usize),
+    Broken,
+}
+
+// A length of two bytes and as many bytes: the place behind them.
+pub fn sized_end(tree: &[u8], at: usize) -> Span {
+    let number = numbers::read_number(tree, at);
+    let Number::Read(count) = number else {
+        return Span::Broken;
+    };
+    let start = at + 2;
+    if tree.len() - start < count {
+        return Span::Broken;
+    }
+    Span::Behind(start + count)
+}
+
+// A trivia item: a code, and bytes unless it is a newline.
+pub fn trivium_end(tree: &[u8], at: usize) -> Span {
+    if tree.len() <= at {
+        return Span::Broken;
+    }
+    let code = tree[at];
+    if code == 1 {
+        return Span::Behind(at + 1);
+    }
+    if 3 < code {
+        return Span::Broken;
+    }
+    sized_end(tree, at + 1)
+}
+
+// `count` trivia items.
+pub fn trivia_end(tree: &[u8], at: usize, count: usize) -> Span {
+    let mut place = at;
+    let mut left = count;
+    while 0 < left {
+        let item = trivium_end(tree, place);
+        let Span::Behind(behind) = item else {
+            return Span::Broken;
+        };
+        place = behind;
+        left -= 1;
+    }
+    Span::Behind(place)
+}
+
+// Whether the fields' bits stand where the row's fields must and may, and nowhere else.
+fn fields_fit(row: u64, bits: usize) -> bool {
+    let mut slots = row;
+    let mut rest = bits;
+    while 0 < slots {
+        let slot = slots % 128;
+        if rest % 2 == 0 {
+            if slot < 64 {
+                return false;
+            }
+        }
+        slots = slots / 128;
+        rest = rest / 2;
+    }
+    rest == 0
+}
+
+// Whether the text's bits are right for a leaf.
+fn text_fits(rule: TextRule, bits: usize) -> bool {
+    match rule {
+        TextRule::NoText => bits == 0,
+        TextRule::Free => bits < 2,
+        TextRule::Byte(_, _) => bits == 1,
+    }
+}
+
+// Whether a map is right for a record; the two fields of an else stand together or not at all.
+fn map_fits(rule: Rule, number: usize, kind: Kind, map: usize) -> bool {
+    let text = rule.text;
+    let value = rule.value;
+    let bits = map / 2;
+    if number == 24 {
+        return map == 0;
+    }
+    if number == 26 {
+        return text_fits(text, bits);
+    }
+    if map % 2 == 1 {
+        if !rule.located {
+            return false;
+        }
+    }
+    if number == 25 {
+        return text_fits(text, bits);
+    }
+    if number == 10 {
+        if bits / 8 % 2 != bits / 16 % 2 {
+            return false;
+        }
+    }
+    fields_fit(grammar::row_of(kind, value), bits)
+}
+
+// Whether a kind may stand.
+fn may_stand(rule: Rule, number: usize) -> bool {
+    let items = rule.items;
+    if number == 24 {
+        if let Items::ListOf(_) = items {
+            return true;
+        }
+        return false;
+    }
+    if number < rule.first {
+        return false;
+    }
+    number <= rule.last
+}
+
+// Trivia: the place of the first item, how many there are, and the place behind them.
+pub struct TriviaSpan {
+    pub first: usize,
+    pub count: usize,
+    pub end: usize,
+}
+
+pub enum TriviaRead {
+    Trivia(TriviaSpan),
+    BrokenTrivia,
+}
+
+// The trivia behind a map, where its bit stands.
+fn read_trivia(tree: &[u8], at: usize, bit: usize) -> TriviaRead {
+    if bit == 0 {
+        return TriviaRead::Trivia(TriviaSpan {
+            first: at,
+            count: 0,
+            end: at,
+        });
+    }
+    let number = numbers::read_number(tree, at);
+    let Number::Read(count) = number else {
+        return TriviaRead::BrokenTrivia;
+    };
+    if count == 0 {
+        return TriviaRead::BrokenTrivia;
+    }
+    let first = at + 2;
+    let items = trivia_end(tree, first, count);
+    let Span::Behind(end) = items else {
+        return TriviaRead::BrokenTrivia;
+    };
+    TriviaRead::Trivia(TriviaSpan {
+        first: first,
+        count: count,
+        end: end,
+    })
+}
+
+// A leaf's text that stands: its length and its bytes; the place behind them.
+fn text_end(tree: &[u8], at: usize, rule: TextRule) -> Span {
+    let number = numbers::read_number(tree, at);
+    let Number::Read(count) = number else {
+        return Span::Broken;
+    };
+    if count == 0 {
+        return Span::Broken;
+    }
+    let start = at + 2;
+    match rule {
+        TextRule::NoText => Span::Broken,
+        TextRule::Free => {
+            if tree.len() - start < count {
+                return Span::Broken;
+            }
+            Span::Behind(start + count)
+        }
+        TextRule::Byte(low, high) => {
+            if count != 1 {
+                return Span::Broken;
+            }
+            if tree.len() <= start {
+                return Span::Broken;
+            }
+            let byte = numbers::wide(tree[start]);
+            if byte < low {
+                return Span::Broken;
+            }
+            if high < byte {
+                return Span::Broken;
+            }
+            Span::Behind(start + 1)
+        }
+    }
+}
+
+fn layout(place: usize) -> OwnRead {
+    OwnRead::Refused(Refusal {
+        reason: Reason::TreeLayout,
+        place: place,
+    })
+}
+
+// What stands behind the trivia: a list's count, a leaf's text, or nothing more.
+fn read_rest(tree: &[u8], at: usize, text: TextRule, number: usize, kind: Kind, map: usize, trivia: TriviaSpan) -> OwnRead {
+    let behind = trivia.end;
+    if number == 24 {
+        let read = numbers::read_number(tree, behind);
+        let Number::Read(count) = read else {
+            return layout(at);
+        };
+        return OwnRead::Record(Own {
+            kind: kind,
+            map: map,
+            trivia: trivia.first,
+            trivia_count: trivia.count,
+            text: behind + 2,
+            end: behind + 2,
+            count: count,
+        });
+    }
+    if number == 25 || number == 26 {
+        if 2 <= map {
+            let span = text_end(tree, behind, text);
+            let Span::Behind(end) = span else {
+                return layout(at);
+            };
+            return OwnRead::Record(Own {
+                kind: kind,
+                map: map,
+                trivia: trivia.first,
+                trivia_count: trivia.count,
+                text: behind + 2,
+                end: end,
+                count: 0,
+            });
+        }
+    }
+    OwnRead::Record(Own {
+        kind: kind,
+        map: map,
+        trivia: trivia.first,
+        trivia_count: trivia.count,
+        text: behind,
+        end: behind,
+        count: 0,
+    })
+}
+
+// A record that has a first byte.
+fn own_at(tree: &[u8], at: usize, class: Class) -> OwnRead {
+    let number = numbers::wide(tree[at]);
+    let rule = grammar::rule_of(class);
+    let text = rule.text;
+    if !may_stand(rule, number) {
+        return layout(at);
+    }
+    let read = grammar::kind_of(number);
+    let KindRead::Known(kind) = read else {
+        return layout(at);
+    };
+    if tree.len() - at < 2 {
+        return layout(at);
+    }
+    let map = numbers::wide(tree[at + 1]);
+    if !map_fits(rule, number, kind, map) {
+        return layout(at);
+    }
+    let trivia = read_trivia(tree, at + 2, map % 2);
+    let TriviaRead::Trivia(span) = trivia else {
+        return layout(at);
+    };
+    read_rest(tree, at, text, number, kind, map, span)
+}
+
+// A record's own bytes at a place, where so many levels are left: refusal 5 or 4 where they break the layout or stand too deep.
+pub fn read_own(tree: &[u8], at: usize, class: Class, levels: usize) -> OwnRead {
+    if tree.len() <= at {
+        return layout(tree.len());
+    }
+    if levels == 0 {
+        return OwnRead::Refused(Refusal {
+            reason: Reason::TreeDepth,
+            place: at,
+        });
+    }
+    own_at(tree, at, class)
+}
