@@ -30,3 +30,8 @@ answerOf (Failed refusal) = Refused refusal
 
 abbrev pub numbersChecked : Checked → ℕ × ℕ
 numbersChecked checked = numbers (answerOf checked)
+
+-- the first refusal in checking order
+abbrev pub andThen : Checked → Checked → Checked
+andThen Passed next = next
+andThen (Failed refusal) next = Failed refusal

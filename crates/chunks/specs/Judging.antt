@@ -8,6 +8,7 @@ use lib.Dec.{eqb, ltb}
 use Rattle.answers.specs.declared.Checked.{Checked}
 use Rattle.answers.specs.declared.Checked.the-variants.{Passed, Failed}
 use Rattle.answers.specs.declared.Reason.the-variants.{ChunkLayout, NotAscii}
+use Rattle.answers.specs.Numbers.{andThen}
 use Rattle.text.specs.Accepted.{acceptedText, faultAt}
 use Rattle.chunks.specs.Reading.{storedChunks}
 use Rattle.chunks.specs.declared.stored.StoredChunk.{StoredChunk}
@@ -31,11 +32,6 @@ textsChecked list (chunk ∷ chunks) =
     cond (acceptedText (slice (chunk .start) (chunk .end) list))
     (textsChecked list chunks)
     (Failed (record { reason = NotAscii; place = chunk .start + faultAt (slice (chunk .start) (chunk .end) list) }))
-
--- the first refusal in checking order
-abbrev pub andThen : Checked → Checked → Checked
-andThen Passed next = next
-andThen (Failed refusal) next = Failed refusal
 
 -- 6 over the whole list, then 7
 unfoldable pub chunksChecked : List ℕ → Checked

@@ -4,4 +4,5 @@ pub mod lines;
 pub mod margins;
 pub mod piece;
 pub mod setter;
+
 pub use setter::join_chunks;

@@ -93,7 +93,14 @@ pub(crate) fn grown(past: Past, cut: Cut) -> Past
 }
 
 // Writes a kept line behind the text so far.
-pub(crate) fn write_cut(text: &mut [u8], list: &[u8], margins: Margins, spot: Spot, past: Past, cut: Cut)
+pub(crate) fn write_cut(
+    text: &mut [u8],
+    list: &[u8],
+    margins: Margins,
+    spot: Spot,
+    past: Past,
+    cut: Cut,
+)
     requires { ⌜ Narrow margins × Standing (now list) spot × (spot .at < length (now list)) × (length (now list) ≤ 1048576) ⌝ }
     requires { ⌜ CutFits cut (length (lineAt margins (now list) spot .line .bytes)) ⌝ }
     requires { ⌜ past .length + length (cutBytes past cut (lineAt margins (now list) spot .line .bytes)) ≤ length (now text) ⌝ }
@@ -113,7 +120,15 @@ pub(crate) fn write_cut(text: &mut [u8], list: &[u8], margins: Margins, spot: Sp
 }
 
 // The same where the line is kept and the text is to be written; else nothing.
-pub(crate) fn place(text: &mut [u8], list: &[u8], margins: Margins, spot: Spot, past: Past, cut: Cut, writing: bool)
+pub(crate) fn place(
+    text: &mut [u8],
+    list: &[u8],
+    margins: Margins,
+    spot: Spot,
+    past: Past,
+    cut: Cut,
+    writing: bool,
+)
     requires { ⌜ Narrow margins × Standing (now list) spot × (spot .at < length (now list)) × (length (now list) ≤ 1048576) ⌝ }
     requires { ⌜ CutFits cut (length (lineAt margins (now list) spot .line .bytes)) ⌝ }
     requires { ⌜ (writing ≡ true → cut .kept ≡ true → past .length + length (cutBytes past cut (lineAt margins (now list) spot .line .bytes)) ≤ length (now text)) ⌝ }

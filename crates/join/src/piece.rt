@@ -1,23 +1,21 @@
 // The pieces of a chunk list: each chunk is cut after every newline. How each is laid on a line of a known length.
+use crate::margins::Margins;
 use chunks::stored::ChunkType;
 use chunks::stored::StoredChunk;
-use crate::margins::Margins;
 use options::Alignment;
 use text::numbers;
 use text::scans;
 ghost use mathlib.Core.Path.{_≡_};
-ghost use mathlib.Core.List.{_++_};
-ghost use mathlib.Core.Bool.{_&&_, _||_};
 ghost use Prim.Native.Nat.{_+_, _-_, _≤_, _<_};
 ghost use lib.ListN.{length};
 ghost use lib.Seq.{slice};
-ghost use lib.Dec.{eqb, ltb};
+ghost use lib.Dec.{ltb};
 ghost use Rattle.text.specs.Numbers.{numberAt};
 ghost use Rattle.text.specs.Lines.{newlineAt};
 ghost use Rattle.chunks.specs.Reading.{typeOf, chunkAt, chunksAt, ChunkFits};
 ghost use Rattle.chunks.specs.declared.stored.ChunkAt.the-variants.{Found};
 ghost use Rattle.join.specs.Pieces.{following};
-ghost use Rattle.join.specs.Walk.{Narrow, Laid, Standing, Reached, Passed, layLabel, layCode, layComment, layOf, pieceLength, pieceAt, Stepped};
+ghost use Rattle.join.specs.Walk.{Narrow, Laid, Standing, Reached, Passed, layLabel, layCode, layComment, layOf, pieceLength, Stepped};
 
 // What follows a chunk: none, a chunk that is exactly a newline, or another chunk.
 pub enum Follows {
@@ -254,7 +252,13 @@ pub(crate) fn lay_comment(margins: Margins, column: usize, follows: Follows) -> 
 }
 
 // How the piece at a spot is laid on a line of `column` bytes.
-pub(crate) fn lay_piece(list: &[u8], margins: Margins, spot: Spot, column: usize, piece: PieceEnd) -> Lay
+pub(crate) fn lay_piece(
+    list: &[u8],
+    margins: Margins,
+    spot: Spot,
+    column: usize,
+    piece: PieceEnd,
+) -> Lay
     requires { ⌜ Narrow margins × Standing (now list) spot × (spot .at < piece .end) × (piece .end ≤ spot .end) × (length (now list) ≤ 1048576) ⌝ }
     ensures { λ r. ⌜ r ≡ layOf margins (spot .ty) column (piece .end - spot .at) (piece .newline) (following (chunksAt (now (list .entry)) (spot .end))) ⌝ }
 {

@@ -1,12 +1,12 @@
 // The column setter over arbitrary bytes.
+use crate::lines;
+use crate::margins;
+use crate::margins::Margins;
 use answers::Answer;
 use answers::Checked;
 use answers::Reason;
 use answers::Refusal;
 use chunks::list;
-use crate::lines;
-use crate::margins;
-use crate::margins::Margins;
 use options::OptionsRead;
 ghost use mathlib.Core.Path.{_≡_};
 ghost use lib.ListN.{length};

@@ -33,6 +33,12 @@ unfoldable pub plain : List (List ℕ) → Bool
 plain [] = true
 plain (line ∷ lines) = not (hasNewline line) && plain lines
 
+-- "exactly a newline"
+unfoldable pub isNewline : List ℕ → Bool
+isNewline [] = false
+isNewline (b ∷ []) = eqb b 10
+isNewline (b ∷ c ∷ bs) = false
+
 abbrev pub isEmpty : List ℕ → Bool
 isEmpty [] = true
 isEmpty (b ∷ bs) = false

@@ -10,6 +10,17 @@ use crate::own::Own;
 use crate::own::OwnRead;
 use text::numbers;
 use text::scans;
+ghost use mathlib.Core.Path.{_≡_};
+ghost use mathlib.Core.List.{List};
+ghost use Prim.Native.Nat.{ℕ, _<_, _≤_, _+_};
+ghost use lib.ListN.{length};
+ghost use lib.Seq.{slice};
+ghost use Rattle.tree.specs.Grammar.{Slot};
+ghost use Rattle.tree.specs.Own.{OwnFits, triviaEnd};
+ghost use Rattle.tree.specs.Reading.{Due, slotClass, partsDue, textsOf, triviaTexts, read};
+ghost use Rattle.tree.specs.Checking.{treeChecked, batchChecked};
+ghost use Rattle.tree.specs.Walk.{slotCode, Plans, NextOf, faultWith, faultFrom, recordRead};
+ghost use Rattle.tree.specs.declared.own.Span.the-variants.{Behind};
 
 // The parts of a record that are still to be read: the fields of a row whose bits stand, then `count` items of a class.
 pub struct Plan {
@@ -30,7 +41,9 @@ pub enum RecordRead {
     Refused(Refusal),
 }
 
-fn plan_of(class: Class, own: Own) -> Plan {
+fn plan_of(class: Class, own: Own) -> Plan
+    ensures { λ r. ⌜ Plans r (partsDue class own) ⌝ }
+{
     let kind = own.kind;
     let rule = grammar::rule_of(class);
     let items = rule.items;
@@ -52,7 +65,9 @@ fn plan_of(class: Class, own: Own) -> Plan {
     }
 }
 
-fn slot_class(slot: u64) -> Class {
+fn slot_class(slot: u64) -> Class
+    ensures { λ r. ⌜ ((field : Slot) → slot ≡ slotCode field → r ≡ slotClass field) ⌝ }
+{
     if slot < 64 {
         return grammar::class_of(slot);
     }
@@ -60,7 +75,9 @@ fn slot_class(slot: u64) -> Class {
 }
 
 // The next part of a plan.
-fn next_part(plan: Plan) -> Part {
+fn next_part(plan: Plan) -> Part
+    ensures { λ r. ⌜ ((parts : List Due) → Plans plan parts → NextOf r parts) ⌝ }
+{
     let item = plan.item;
     let mut row = plan.row;
     let mut bits = plan.bits;
@@ -96,7 +113,10 @@ fn next_part(plan: Plan) -> Part {
 }
 
 // The first byte of tree[start..end] that no text may hold, unless one was found before.
-fn fault_in(tree: &[u8], start: usize, end: usize, fault: usize) -> usize {
+fn fault_in(tree: &[u8], start: usize, end: usize, fault: usize) -> usize
+    requires { ⌜ (start ≤ end) × (end ≤ length (now tree)) ⌝ }
+    ensures { λ r. ⌜ r ≡ faultWith (now (tree .entry)) fault (record { place = start; bytes = slice start end (now (tree .entry)) }) ⌝ }
+{
     if fault < tree.len() {
         return fault;
     }
@@ -108,7 +128,10 @@ fn fault_in(tree: &[u8], start: usize, end: usize, fault: usize) -> usize {
 }
 
 // The same for the bytes of one trivia item and then for the items behind it.
-fn fault_in_trivia(tree: &[u8], at: usize, count: usize, fault: usize) -> usize {
+fn fault_in_trivia(tree: &[u8], at: usize, count: usize, fault: usize) -> usize
+    requires { ⌜ ((end : ℕ) × (triviaEnd (now tree) at count ≡ Behind end)) ⌝ }
+    ensures { λ r. ⌜ r ≡ faultFrom (now (tree .entry)) fault (triviaTexts (now (tree .entry)) at count) ⌝ }
+{
     let mut place = at;
     let mut left = count;
     let mut found = fault;
@@ -126,19 +149,29 @@ fn fault_in_trivia(tree: &[u8], at: usize, count: usize, fault: usize) -> usize 
     found
 }
 
-fn own_fault(tree: &[u8], own: Own, fault: usize) -> usize {
+fn own_fault(tree: &[u8], own: Own, fault: usize) -> usize
+    requires { ⌜ ((at : ℕ) × OwnFits (now tree) at own) ⌝ }
+    ensures { λ r. ⌜ r ≡ faultFrom (now (tree .entry)) fault (textsOf (now (tree .entry)) own) ⌝ }
+{
     let first = fault_in_trivia(tree, own.trivia, own.trivia_count, fault);
     fault_in(tree, own.text, own.end, first)
 }
 
+// A refusal handed on.
+fn refused(read: OwnRead) -> RecordRead {
+    match read {
+        OwnRead::Record(own) => RecordRead::Whole(own.end, 0),
+        OwnRead::Refused(refusal) => RecordRead::Refused(refusal),
+    }
+}
+
 // The record of a class at a place, with all its parts.
-pub fn read_record(tree: &[u8], at: usize, class: Class, levels: usize, fault: usize) -> RecordRead {
+pub(crate) fn read_record(tree: &[u8], at: usize, class: Class, levels: usize, fault: usize) -> RecordRead
+    ensures { λ r. ⌜ r ≡ recordRead (now (tree .entry)) fault (read levels (now (tree .entry)) class at) ⌝ }
+{
     let read = own::read_own(tree, at, class, levels);
     let OwnRead::Record(own) = read else {
-        if let OwnRead::Refused(refusal) = read {
-            return RecordRead::Refused(refusal);
-        }
-        return RecordRead::Whole(at, fault);
+        return refused(read);
     };
     let mut place = own.end;
     let mut seen = own_fault(tree, own, fault);
@@ -158,20 +191,24 @@ pub fn read_record(tree: &[u8], at: usize, class: Class, levels: usize, fault: u
     }
 }
 
-fn failed(reason: Reason, place: usize) -> Checked {
+fn failed(reason: Reason, place: usize) -> Checked
+    ensures { λ r. ⌜ r ≡ Checked.Failed (record { reason = reason; place = place }) ⌝ }
+{
     Checked::Failed(Refusal {
         reason: reason,
         place: place,
     })
 }
 
-// Whether bytes are a stored tree of at most `length` bytes and `levels` levels: refusals 3, 4, 5 and 7.
-pub fn check_within(tree: &[u8], length: usize, levels: usize) -> Checked {
+// Whether bytes are a stored tree of at most `limit` bytes and `levels` levels: refusals 3, 4, 5 and 7.
+pub fn check_within(tree: &[u8], limit: usize, levels: usize) -> Checked
+    ensures { λ r. ⌜ r ≡ treeChecked limit levels (now (tree .entry)) ⌝ }
+{
     let end = tree.len();
     if end == 0 {
         return failed(Reason::TreeLength, 0);
     }
-    if length < end {
+    if limit < end {
         return failed(Reason::TreeLength, 0);
     }
     let read = read_record(tree, 0, Class::Tokens, levels, end);
@@ -190,6 +227,8 @@ pub fn check_within(tree: &[u8], length: usize, levels: usize) -> Checked {
 }
 
 // Whether bytes are a stored tree.
-pub fn check_tree(tree: &[u8]) -> Checked {
+pub fn check_tree(tree: &[u8]) -> Checked
+    ensures { λ r. ⌜ r ≡ batchChecked (now (tree .entry)) ⌝ }
+{
     check_within(tree, 65535, 64)
 }

@@ -1,4 +1,8 @@
 // The grammar of a stored tree: the kinds of records, and what may stand in a field.
+ghost use mathlib.Core.Path.{_≡_};
+ghost use Prim.Native.Nat.{_<_};
+ghost use Rattle.tree.specs.Grammar;
+ghost use Rattle.tree.specs.Walk.{classNumber, classOf, rowOf};
 
 // The kinds of records, in the order of their numbers 0 to 42.
 pub enum Kind {
@@ -26,7 +30,7 @@ pub enum Kind {
     Text,
     Trace,
     VariableDefinition,
-    List,
+    Vec,
     Leaf,
     PathItem,
     Block,
@@ -153,7 +157,9 @@ pub struct Rule {
     pub value: Class,
 }
 
-fn leaf(located: bool, text: TextRule) -> Rule {
+fn leaf(located: bool, text: TextRule) -> Rule
+    ensures { λ r. ⌜ r ≡ Grammar.leaf located text ⌝ }
+{
     Rule {
         first: 25,
         last: 25,
@@ -164,7 +170,9 @@ fn leaf(located: bool, text: TextRule) -> Rule {
     }
 }
 
-fn nodes(first: usize, last: usize, located: bool) -> Rule {
+fn nodes(first: usize, last: usize, located: bool) -> Rule
+    ensures { λ r. ⌜ r ≡ Grammar.nodes first last located ⌝ }
+{
     Rule {
         first: first,
         last: last,
@@ -176,7 +184,9 @@ fn nodes(first: usize, last: usize, located: bool) -> Rule {
 }
 
 // An argument with a value of a class.
-fn argument(value: Class) -> Rule {
+fn argument(value: Class) -> Rule
+    ensures { λ r. ⌜ r ≡ Grammar.argument value ⌝ }
+{
     Rule {
         first: 42,
         last: 42,
@@ -188,7 +198,9 @@ fn argument(value: Class) -> Rule {
 }
 
 // No kind but a list's.
-fn list_of(class: Class) -> Rule {
+fn list_of(class: Class) -> Rule
+    ensures { λ r. ⌜ r ≡ Grammar.listOf class ⌝ }
+{
     Rule {
         first: 24,
         last: 24,
@@ -200,7 +212,9 @@ fn list_of(class: Class) -> Rule {
 }
 
 // What may stand in a class.
-pub fn rule_of(class: Class) -> Rule {
+pub fn rule_of(class: Class) -> Rule
+    ensures { λ r. ⌜ r ≡ Grammar.rule class ⌝ }
+{
     match class {
         Class::Word => leaf(true, TextRule::Free),
         Class::Char => leaf(true, TextRule::Byte(0, 255)),
@@ -255,7 +269,9 @@ pub fn rule_of(class: Class) -> Rule {
 }
 
 // The kind that a byte stands for.
-pub fn kind_of(byte: usize) -> KindRead {
+pub fn kind_of(byte: usize) -> KindRead
+    ensures { λ r. ⌜ r ≡ Grammar.kindOf byte ⌝ }
+{
     match byte {
         0 => KindRead::Known(Kind::Align),
         1 => KindRead::Known(Kind::Assert),
@@ -281,7 +297,7 @@ pub fn kind_of(byte: usize) -> KindRead {
         21 => KindRead::Known(Kind::Text),
         22 => KindRead::Known(Kind::Trace),
         23 => KindRead::Known(Kind::VariableDefinition),
-        24 => KindRead::Known(Kind::List),
+        24 => KindRead::Known(Kind::Vec),
         25 => KindRead::Known(Kind::Leaf),
         26 => KindRead::Known(Kind::PathItem),
         27 => KindRead::Known(Kind::Block),
@@ -305,7 +321,9 @@ pub fn kind_of(byte: usize) -> KindRead {
 }
 
 // The fields of a kind in one number: for each, from the lowest on, seven bits with its class's number, 64 more where it need not stand.
-pub fn row_of(kind: Kind, value: Class) -> u64 {
+pub fn row_of(kind: Kind, value: Class) -> u64
+    ensures { λ r. ⌜ r ≡ rowOf (Grammar.fields kind value) ⌝ }
+{
     match kind {
         Kind::Align => 2177,
         Kind::Assert => 1427585,
@@ -331,7 +349,7 @@ pub fn row_of(kind: Kind, value: Class) -> u64 {
         Kind::Text => 288513,
         Kind::Trace => 138961153,
         Kind::VariableDefinition => 35684490,
-        Kind::List => 0,
+        Kind::Vec => 0,
         Kind::Leaf => 0,
         Kind::PathItem => 0,
         Kind::Block => 69635,
@@ -354,7 +372,9 @@ pub fn row_of(kind: Kind, value: Class) -> u64 {
 }
 
 // The number of a class in a row.
-fn number_of(class: Class) -> u64 {
+fn number_of(class: Class) -> u64
+    ensures { λ r. ⌜ (r ≡ classNumber class) × (r < 64) ⌝ }
+{
     match class {
         Class::Word => 1,
         Class::Char => 2,
@@ -395,7 +415,9 @@ fn number_of(class: Class) -> u64 {
 }
 
 // The class of a number in a row.
-pub fn class_of(number: u64) -> Class {
+pub fn class_of(number: u64) -> Class
+    ensures { λ r. ⌜ r ≡ classOf number ⌝ }
+{
     match number {
         1 => Class::Word,
         2 => Class::Char,

@@ -10,6 +10,13 @@ use crate::grammar::Rule;
 use crate::grammar::TextRule;
 use text::numbers;
 use text::numbers::Number;
+ghost use mathlib.Core.Path.{_≡_};
+ghost use mathlib.Core.List.{List};
+ghost use Prim.Native.Nat.{_<_, _≤_, _+_};
+ghost use lib.ListN.{length};
+ghost use Rattle.tree.specs.Grammar.{Slot};
+ghost use Rattle.tree.specs.Own.{sizedEnd, triviumEnd, triviaEnd, fieldsFit, textFits, mapFits, mayStand, triviaRead, textEnd, layout, restOf, ownAt, readOwn, Fits};
+ghost use Rattle.tree.specs.Walk.{rowOf};
 
 // A record's own bytes, by their places: `trivia` is the place of its first trivia item, of which there are `trivia_count`; its text is
 // the bytes from `text` to `end`, behind which its fields or items begin; `count` says how many items a list has.
@@ -35,7 +42,9 @@ pub enum Span {
 }
 
 // A length of two bytes and as many bytes: the place behind them.
-pub fn sized_end(tree: &[u8], at: usize) -> Span {
+pub fn sized_end(tree: &[u8], at: usize) -> Span
+    ensures { λ r. ⌜ r ≡ sizedEnd (now (tree .entry)) at ⌝ }
+{
     let number = numbers::read_number(tree, at);
     let Number::Read(count) = number else {
         return Span::Broken;
@@ -48,7 +57,9 @@ pub fn sized_end(tree: &[u8], at: usize) -> Span {
 }
 
 // A trivia item: a code, and bytes unless it is a newline.
-pub fn trivium_end(tree: &[u8], at: usize) -> Span {
+pub fn trivium_end(tree: &[u8], at: usize) -> Span
+    ensures { λ r. ⌜ r ≡ triviumEnd (now (tree .entry)) at ⌝ }
+{
     if tree.len() <= at {
         return Span::Broken;
     }
@@ -63,7 +74,9 @@ pub fn trivium_end(tree: &[u8], at: usize) -> Span {
 }
 
 // `count` trivia items.
-pub fn trivia_end(tree: &[u8], at: usize, count: usize) -> Span {
+pub fn trivia_end(tree: &[u8], at: usize, count: usize) -> Span
+    ensures { λ r. ⌜ r ≡ triviaEnd (now (tree .entry)) at count ⌝ }
+{
     let mut place = at;
     let mut left = count;
     while 0 < left {
@@ -78,7 +91,9 @@ pub fn trivia_end(tree: &[u8], at: usize, count: usize) -> Span {
 }
 
 // Whether the fields' bits stand where the row's fields must and may, and nowhere else.
-fn fields_fit(row: u64, bits: usize) -> bool {
+fn fields_fit(row: u64, bits: usize) -> bool
+    ensures { λ r. ⌜ ((slots : List Slot) → row ≡ rowOf slots → r ≡ fieldsFit slots bits) ⌝ }
+{
     let mut slots = row;
     let mut rest = bits;
     while 0 < slots {
@@ -95,7 +110,9 @@ fn fields_fit(row: u64, bits: usize) -> bool {
 }
 
 // Whether the text's bits are right for a leaf.
-fn text_fits(rule: TextRule, bits: usize) -> bool {
+fn text_fits(rule: TextRule, bits: usize) -> bool
+    ensures { λ r. ⌜ r ≡ textFits rule bits ⌝ }
+{
     match rule {
         TextRule::NoText => bits == 0,
         TextRule::Free => bits < 2,
@@ -104,7 +121,9 @@ fn text_fits(rule: TextRule, bits: usize) -> bool {
 }
 
 // Whether a map is right for a record; the two fields of an else stand together or not at all.
-fn map_fits(rule: Rule, number: usize, kind: Kind, map: usize) -> bool {
+fn map_fits(rule: Rule, number: usize, kind: Kind, map: usize) -> bool
+    ensures { λ r. ⌜ r ≡ mapFits rule number kind map ⌝ }
+{
     let text = rule.text;
     let value = rule.value;
     let bits = map / 2;
@@ -131,7 +150,9 @@ fn map_fits(rule: Rule, number: usize, kind: Kind, map: usize) -> bool {
 }
 
 // Whether a kind may stand.
-fn may_stand(rule: Rule, number: usize) -> bool {
+fn may_stand(rule: Rule, number: usize) -> bool
+    ensures { λ r. ⌜ r ≡ mayStand rule number ⌝ }
+{
     let items = rule.items;
     if number == 24 {
         if let Items::ListOf(_) = items {
@@ -158,7 +179,9 @@ pub enum TriviaRead {
 }
 
 // The trivia behind a map, where its bit stands.
-fn read_trivia(tree: &[u8], at: usize, bit: usize) -> TriviaRead {
+fn read_trivia(tree: &[u8], at: usize, bit: usize) -> TriviaRead
+    ensures { λ r. ⌜ r ≡ triviaRead (now (tree .entry)) at bit ⌝ }
+{
     if bit == 0 {
         return TriviaRead::Trivia(TriviaSpan {
             first: at,
@@ -186,7 +209,9 @@ fn read_trivia(tree: &[u8], at: usize, bit: usize) -> TriviaRead {
 }
 
 // A leaf's text that stands: its length and its bytes; the place behind them.
-fn text_end(tree: &[u8], at: usize, rule: TextRule) -> Span {
+fn text_end(tree: &[u8], at: usize, rule: TextRule) -> Span
+    ensures { λ r. ⌜ r ≡ textEnd (now (tree .entry)) at rule ⌝ }
+{
     let number = numbers::read_number(tree, at);
     let Number::Read(count) = number else {
         return Span::Broken;
@@ -222,7 +247,9 @@ fn text_end(tree: &[u8], at: usize, rule: TextRule) -> Span {
     }
 }
 
-fn layout(place: usize) -> OwnRead {
+fn layout(place: usize) -> OwnRead
+    ensures { λ r. ⌜ r ≡ OwnRead.Refused (layout place) ⌝ }
+{
     OwnRead::Refused(Refusal {
         reason: Reason::TreeLayout,
         place: place,
@@ -230,7 +257,9 @@ fn layout(place: usize) -> OwnRead {
 }
 
 // What stands behind the trivia: a list's count, a leaf's text, or nothing more.
-fn read_rest(tree: &[u8], at: usize, text: TextRule, number: usize, kind: Kind, map: usize, trivia: TriviaSpan) -> OwnRead {
+fn read_rest(tree: &[u8], at: usize, text: TextRule, number: usize, kind: Kind, map: usize, trivia: TriviaSpan) -> OwnRead
+    ensures { λ r. ⌜ r ≡ restOf (now (tree .entry)) at text number kind map trivia ⌝ }
+{
     let behind = trivia.end;
     if number == 24 {
         let read = numbers::read_number(tree, behind);
@@ -276,7 +305,10 @@ fn read_rest(tree: &[u8], at: usize, text: TextRule, number: usize, kind: Kind, 
 }
 
 // A record that has a first byte.
-fn own_at(tree: &[u8], at: usize, class: Class) -> OwnRead {
+fn own_at(tree: &[u8], at: usize, class: Class) -> OwnRead
+    requires { ⌜ at < length (now tree) ⌝ }
+    ensures { λ r. ⌜ r ≡ ownAt (now (tree .entry)) at class ⌝ }
+{
     let number = numbers::wide(tree[at]);
     let rule = grammar::rule_of(class);
     let text = rule.text;
@@ -302,7 +334,10 @@ fn own_at(tree: &[u8], at: usize, class: Class) -> OwnRead {
 }
 
 // A record's own bytes at a place, where so many levels are left: refusal 5 or 4 where they break the layout or stand too deep.
-pub fn read_own(tree: &[u8], at: usize, class: Class, levels: usize) -> OwnRead {
+pub fn read_own(tree: &[u8], at: usize, class: Class, levels: usize) -> OwnRead
+    ensures { λ r. ⌜ r ≡ readOwn (now (tree .entry)) at class levels ⌝ }
+    ensures { λ r. ⌜ Fits (now (tree .entry)) at r ⌝ }
+{
     if tree.len() <= at {
         return layout(tree.len());
     }

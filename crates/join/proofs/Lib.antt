@@ -1,0 +1,16 @@
+pub mod Pieces
+pub mod Places
+pub mod Lays
+pub mod Steps
+pub mod Measures
+pub mod Windows
+pub mod Walking
+pub mod Cuts
+pub mod Running
+pub mod Texts
+pub mod Ink
+pub mod Neatness
+pub mod Length
+pub mod Promises
+pub mod Samples
+pub mod Moving

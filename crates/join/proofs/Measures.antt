@@ -1,0 +1,86 @@
+-- A line's measures with more bytes behind it, by whether the line and the bytes have ink.
+use mathlib.Core.Path.{_≡_, refl, sym, ap, _∙_}
+use mathlib.Core.List.{List, _++_}
+use mathlib.Core.Bool.{true, false}
+use Prim.Native.Nat.{ℕ, _+_}
+use native.Mathlib.Omega.{arith}
+use lib.ListN.{length, length-append}
+use Rattle.text.specs.Ink.{allBlank, leadingBlanks, trimEnd, inkEnd}
+use Rattle.text.proofs.Choices.{by-test}
+use Rattle.text.proofs.Ink.{blank-append, trim-append-ink, trim-append-blank, ink-end-zero, ink-end-some, leading-append-ink, leading-append-blank, leading-blank}
+use Rattle.join.specs.Walk.{Measured}
+use Rattle.join.specs.declared.line.Measure.{Measure}
+
+-- where the ink ends at 0 there is none
+pub end-blank : (bytes : List ℕ) → inkEnd bytes ≡ 0 → allBlank bytes ≡ true
+end-blank bytes e = by-test (allBlank bytes) (λ q. q) (λ q. absurd (omega (arith, ink-end-some bytes q)))
+
+-- where it does not there is some
+pub end-ink : (bytes : List ℕ) → (inkEnd bytes ≡ 0 → ⊥) → allBlank bytes ≡ false
+end-ink bytes f = by-test (allBlank bytes) (λ q. absurd (f (ink-end-zero bytes q))) (λ q. q)
+
+module _ {measure : Measure} {line : List ℕ} (known : Measured measure line) (bytes : List ℕ) where
+  -- a line whose ink ends at 0 is blank
+  line-blank : measure .«ink_end» ≡ 0 → allBlank line ≡ true
+  line-blank none = end-blank line (sym (known .end) ∙ none)
+
+  -- any other has ink
+  line-ink : (measure .«ink_end» ≡ 0 → ⊥) → allBlank line ≡ false
+  line-ink some = end-ink line (λ e. some (known .end ∙ e))
+
+  -- the length with the bytes
+  length-behind : {count : ℕ} → length bytes ≡ count → measure .length + count ≡ length (line ++ bytes)
+  length-behind many = omega (arith, known .length, length-append line bytes)
+
+  -- with ink behind the line the ink ends where it ends there
+  end-behind : {end : ℕ} → allBlank bytes ≡ false → end ≡ inkEnd bytes → measure .length + end ≡ inkEnd (line ++ bytes)
+  end-behind ink e = rw (trim-append-ink line bytes ink) (omega (arith, known .length, length-append line (trimEnd bytes)))
+
+  -- blanks behind blanks lead with them
+  pub blanks-behind-blanks : {count : ℕ} → measure .«ink_end» ≡ 0 → allBlank bytes ≡ true → length bytes ≡ count
+      → Measured (record { length = measure .length + count; leading = measure .leading + count; «ink_end» = 0 }) (line ++ bytes)
+  blanks-behind-blanks none blank many =
+      let before = line-blank none in
+      record {
+        length = length-behind many;
+        leading = omega (arith, known .leading, leading-append-blank line bytes before, leading-blank line before, leading-blank bytes blank);
+        end = sym (ink-end-zero (line ++ bytes) (blank-append line bytes ∙ rw (before, blank)));
+      }
+
+  -- blanks behind ink change the length alone
+  pub blanks-behind-ink : {count : ℕ} → (measure .«ink_end» ≡ 0 → ⊥) → allBlank bytes ≡ true → length bytes ≡ count
+      → Measured (record { length = measure .length + count; leading = measure .leading; «ink_end» = measure .«ink_end» }) (line ++ bytes)
+  blanks-behind-ink some blank many = record {
+    length = length-behind many;
+    leading = known .leading ∙ sym (leading-append-ink line bytes (line-ink some));
+    end = known .end ∙ sym (ap length (trim-append-blank line bytes blank));
+  }
+
+  -- ink behind blanks: its own blanks lead with them, and its ink is the first
+  pub ink-behind-blanks : {leading end : ℕ} → measure .«ink_end» ≡ 0 → allBlank bytes ≡ false → leading ≡ leadingBlanks bytes → end ≡ inkEnd bytes
+      → Measured (record { length = measure .length + length bytes; leading = measure .length + leading; «ink_end» = measure .length + end }) (line ++ bytes)
+  ink-behind-blanks none ink e f = record {
+    length = length-behind refl;
+    leading = omega (arith, known .length, leading-append-blank line bytes (line-blank none));
+    end = end-behind ink f;
+  }
+
+  -- ink behind ink leaves the leading blanks as they are
+  pub ink-behind-ink : {end : ℕ} → (measure .«ink_end» ≡ 0 → ⊥) → allBlank bytes ≡ false → end ≡ inkEnd bytes
+      → Measured (record { length = measure .length + length bytes; leading = measure .leading; «ink_end» = measure .length + end }) (line ++ bytes)
+  ink-behind-ink some ink f = record {
+    length = length-behind refl;
+    leading = known .leading ∙ sym (leading-append-ink line bytes (line-ink some));
+    end = end-behind ink f;
+  }
+
+-- blanks behind a line measure alike, whichever they are
+pub blanks-alike : (measure : Measure) (line xs ys : List ℕ) → allBlank xs ≡ true → allBlank ys ≡ true → length xs ≡ length ys
+    → Measured measure (line ++ xs) → Measured measure (line ++ ys)
+blanks-alike measure line xs ys blank blank′ many known = record {
+  length = omega (arith, known .length, length-append line xs, length-append line ys);
+  leading = known .leading ∙ by-test (allBlank line)
+      (λ q. omega (arith, leading-append-blank line xs q, leading-append-blank line ys q, leading-blank xs blank, leading-blank ys blank′))
+      (λ q. leading-append-ink line xs q ∙ sym (leading-append-ink line ys q));
+  end = known .end ∙ ap length (trim-append-blank line xs blank ∙ sym (trim-append-blank line ys blank′));
+}

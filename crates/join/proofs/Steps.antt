@@ -1,0 +1,88 @@
+-- One step of a walk: what the piece at a spot adds, whether it ends the line, and the spot behind it.
+use mathlib.Core.Path.{_≡_, refl, sym, _∙_}
+use mathlib.Core.List.{List, _++_}
+use mathlib.Core.Bool.{Bool, true, false, not, _&&_, _||_, and-true, and-false, or-false}
+use Prim.Native.Nat.{ℕ, _+_, _-_, _≤_, _<_}
+use native.Mathlib.Omega.{arith}
+use lib.ListN.{length}
+use lib.Seq.{slice, slice-empty}
+use lib.Dec.{leb, ltb}
+use borrow.Author.Tests.{leb-false}
+use Rattle.text.specs.Ink.{spaces}
+use Rattle.text.specs.Lines.{newlineAt}
+use Rattle.chunks.specs.Reading.{chunksAt}
+use Rattle.join.specs.Pieces.{following}
+use Rattle.join.specs.Layout.{ignored, laid, added, ends}
+use Rattle.join.specs.Walk.{Narrow, Standing, Passed, layOf, pieceAt, Stepped}
+use Rattle.join.specs.declared.margins.Margins.{Margins}
+use Rattle.join.specs.declared.piece.Lay.{Lay}
+use Rattle.join.specs.declared.piece.PieceEnd.{PieceEnd}
+use Rattle.join.specs.declared.piece.Spot.{Spot}
+use Rattle.join.specs.declared.piece.Step.{Step}
+use Rattle.join.proofs.Places.{last-is}
+use Rattle.join.proofs.Pieces.{restAt, pieceEnd, piece-some, piece-within, piece-length, piece-newline-is, pieces-cons}
+use Rattle.join.proofs.Lays.{Lays, piece-lays}
+
+-- where neither of two tests holds the first does not
+or-left : (first second : Bool) → (first || second) ≡ false → first ≡ false
+or-left true second e = e
+or-left false second e = refl
+
+-- the lay of the piece at a spot, by where the piece ends
+abbrev pub layAt : Margins → List ℕ → Spot → ℕ → PieceEnd → Lay
+layAt margins list spot n piece = layOf margins (spot .ty) n (piece .end - spot .at) (piece .newline) (following (chunksAt list (spot .end)))
+
+module _ (margins : Margins) (list : List ℕ) (spot : Spot) (n : ℕ) (piece : PieceEnd) (lay : Lay) (behind : Spot)
+    (narrow : Narrow margins) (standing : Standing list spot) (inside : spot .at < length list)
+    (end : piece .end ≡ pieceEnd list spot) (newline : piece .newline ≡ ltb (newlineAt (restAt list spot)) (spot .end - spot .at))
+    (is : lay ≡ layAt margins list spot n piece) (passed : Passed list spot (piece .end) behind) where
+  -- how the piece is laid
+  lays-at : Lays (ignored margins n (pieceAt list spot)) (laid (spot .ty) margins n (pieceAt list spot)) (pieceAt list spot .text) lay
+  unfolding pieceAt
+  lays-at =
+      rw (is, end, newline, ← (piece-length list spot standing inside), piece-newline-is list spot standing inside)
+      (piece-lays margins narrow n (pieceAt list spot))
+
+  -- whether the piece ends its line
+  ends-at : (skipped : Bool) → lay .ignored ≡ skipped → ends margins n (pieceAt list spot) ≡ (leb (length list) (spot .end) || (piece .newline && not skipped))
+  unfolding ends pieceAt
+  ends-at skipped e =
+      rw (lays-at .ignored ∙ e, last-is list (spot .end) (standing .laid), newline ∙ piece-newline-is list spot standing inside)
+
+  -- the step, by what is written of the piece
+  stepped : (step : Step) (skipped : Bool) → lay .ignored ≡ skipped → step .spot ≡ behind → step .from ≡ spot .at → step .from ≤ step .to → step .to ≤ piece .end
+      → step .before + step .behind ≤ 511 → added margins n (pieceAt list spot) ≡ spaces (step .before) ++ (slice (step .from) (step .to) list ++ spaces (step .behind))
+      → step .ends ≡ (leb (length list) (spot .end) || (piece .newline && not skipped)) → Stepped margins list spot n step
+  stepped step skipped known there from part within few bytes ended =
+      let some : spot .at < piece .end = omega (arith, piece-some list spot standing inside, end) in
+      let to : piece .end ≤ spot .end = omega (arith, piece-within list spot standing inside, end) in
+      let onward : piece .end ≤ step .spot .at = rw there (passed .onward) in
+      record {
+        bytes = bytes;
+        ends = ended ∙ sym (ends-at skipped known);
+        pieces = rw there (pieces-cons list spot standing inside behind (rw end at passed));
+        standing = rw there (passed .standing);
+        part = part;
+        inside = omega (arith, standing .inside);
+        onward = omega arith;
+        more = λ on. rw there (passed .more (omega (arith, leb-false (length list) (spot .end) (or-left _ _ (sym ended ∙ on)))));
+        small = omega arith;
+      }
+
+  -- a piece that is ignored
+  pub stepped-ignored : {last : Bool} → lay .ignored ≡ true → last ≡ leb (length list) (spot .end)
+      → Stepped margins list spot n (record { before = 0; from = spot .at; to = spot .at; behind = 0; ends = last; spot = behind })
+  unfolding added
+  stepped-ignored skipped last =
+      stepped _ true skipped refl refl (omega arith) (omega (arith, piece-some list spot standing inside, end)) (omega arith)
+      (rw (lays-at .ignored ∙ skipped, slice-empty (spot .at) list))
+      (last ∙ rw (and-false (piece .newline)) (sym (or-false (leb (length list) (spot .end)))))
+
+  -- any other
+  pub stepped-kept : {ended : Bool} → lay .ignored ≡ false → ended ≡ (leb (length list) (spot .end) || piece .newline)
+      → Stepped margins list spot n (record { before = lay .before; from = spot .at; to = piece .end; behind = lay .behind; ends = ended; spot = behind })
+  unfolding added pieceAt
+  stepped-kept kept ended =
+      stepped _ false kept refl refl (omega (arith, piece-some list spot standing inside, end)) (omega arith) (lays-at .small)
+      (rw (lays-at .ignored ∙ kept, end) (lays-at .bytes kept))
+      (rw (and-true (piece .newline)) ended)

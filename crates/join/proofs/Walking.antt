@@ -1,0 +1,203 @@
+-- The walk of a line, piece by piece: what holds before each step, and that a step keeps it.
+use mathlib.Core.Path.{_≡_, refl, sym, ap, _∙_}
+use mathlib.Core.List.{List, _++_}
+use mathlib.Core.Bool.{Bool, true, false, cond}
+use Prim.Native.Nat.{ℕ, _+_, _-_, _*_, _≤_, _<_}
+use native.Mathlib.Omega.{arith}
+use lib.ListN.{length, length-append, length-replicate}
+use lib.Seq.{length-slice}
+use lib.Dec.{eqb}
+use Rattle.text.specs.Ink.{leadingBlanks, trimEnd}
+use Rattle.text.proofs.Choices.{by-test, true-false}
+use Rattle.join.specs.Layout.{Line, fresh, add, indentWith, indentOf}
+use Rattle.join.specs.Walk.{Standing, Stepped, Measured, LineWalked, piecesAt, pieceAt, firstLine, lineAt, taken, puts, Fits}
+use Rattle.join.specs.declared.margins.Margins.{Margins}
+use Rattle.join.specs.declared.piece.Spot.{Spot}
+use Rattle.join.specs.declared.piece.Step.{Step}
+use Rattle.join.specs.declared.line.Indent.{Indent}
+use Rattle.join.specs.declared.line.Indent.the-variants.{Unset, Set}
+use Rattle.join.specs.declared.line.Measure.{Measure}
+use Rattle.join.specs.declared.line.Window.{Window}
+use Rattle.join.proofs.Windows.{stepBytes, puts-append}
+
+-- how many bytes a step has
+step-length : (list : List ℕ) (step : Step) → step .to ≤ length list → length (stepBytes list step) ≡ step .before + (step .to - step .from) + step .behind
+step-length list step inside = simp (length-append, length-replicate, length-slice (step .from) (step .to) list inside) (omega arith)
+
+-- a line that was walked from its spot up to another: its rest goes on from there, or it has ended there
+pub record Walking (margins : Margins) (list : List ℕ) (spot : Spot) (line : Line) (here : Spot) (ended : Bool) : Type 0 where
+  pub left : lineAt margins list spot ≡ cond ended (record { line = line; rest = piecesAt list here; ended = true }) (firstLine margins line (piecesAt list here))
+  pub standing : Standing list here
+  pub more : ended ≡ false → here .at < length list
+  pub onward : ended ≡ true → spot .at < here .at
+  pub small : length (line .bytes) + 512 * spot .at ≤ 512 * here .at
+  pub low : indentOf (line .indent) ≤ 4096
+
+-- before the first step the line is fresh
+pub walking-start : (margins : Margins) (list : List ℕ) (spot : Spot) → Standing list spot → spot .at < length list → Walking margins list spot fresh spot false
+unfolding lineAt
+walking-start margins list spot standing some = record {
+  left = refl;
+  standing = standing;
+  more = λ _. some;
+  onward = λ e. true-false (sym e);
+  small = omega arith;
+  low = omega arith;
+}
+
+-- an indent that a line takes is that of the line or of the spot
+taken-low : (indent : Indent) (spot : Spot) → indentOf indent ≤ 4096 → spot .indent ≤ 4096 → indentOf (taken indent spot) ≤ 4096
+taken-low (Set n) spot low small = low
+taken-low Unset spot low small = by-test (eqb (spot .at) (spot .start)) (λ q. rw q small) (λ q. rw q (omega arith))
+
+-- a line with the piece at a spot more
+abbrev pub longer : Margins → List ℕ → Line → Spot → Line
+longer margins list line here = add margins line (pieceAt list here)
+
+-- the piece at a spot leaves the indent that the spot does
+piece-indent : (list : List ℕ) (here : Spot) (indent : Indent) → indentWith indent (pieceAt list here) ≡ taken indent here
+unfolding pieceAt
+piece-indent list here (Set n) = refl
+piece-indent list here Unset = refl
+
+-- so does the longer line
+longer-indent : (margins : Margins) (list : List ℕ) (line : Line) (here : Spot) → longer margins list line here .indent ≡ taken (line .indent) here
+unfolding add
+longer-indent margins list line here = piece-indent list here (line .indent)
+
+module _ {margins : Margins} {list : List ℕ} {spot here : Spot} {line : Line} {n : ℕ} {step : Step} (walking : Walking margins list spot line here false)
+    (long : n ≡ length (line .bytes)) (stepped : Stepped margins list here n step) where
+  -- the longer line's bytes are the line's and the step's
+  longer-bytes : longer margins list line here .bytes ≡ line .bytes ++ stepBytes list step
+  unfolding add
+  longer-bytes = rw (← long, stepped .bytes)
+
+  -- how many they are
+  longer-length : length (longer margins list line here .bytes) ≡ n + (step .before + (step .to - step .from) + step .behind)
+  longer-length = rw (longer-bytes, length-append (line .bytes) (stepBytes list step), step-length list step (stepped .inside), long)
+
+  -- few enough that sums do not wrap
+  pub step-room : length list ≤ 1048576 → n + (step .before + (step .to - step .from) + step .behind) < 4294967296
+  step-room short = omega (arith, walking .small, stepped .small, stepped .standing .within, stepped .standing .inside)
+
+  -- a step keeps the walk
+  walking-on : Walking margins list spot (longer margins list line here) (step .spot) (step .ends)
+  unfolding firstLine
+  walking-on = record {
+    left = walking .left ∙ rw (stepped .pieces, ← long, stepped .ends);
+    standing = stepped .standing;
+    more = stepped .more;
+    onward = λ _. omega (arith, walking .small, stepped .onward);
+    small = omega (arith, walking .small, stepped .small, stepped .onward, longer-length);
+    low = rw (longer-indent margins list line here) (taken-low (line .indent) here (walking .low) (walking .standing .small));
+  }
+
+-- where the walk has ended its line is the line at the spot
+walking-end : {margins : Margins} {list : List ℕ} {spot here : Spot} {line : Line} {ended : Bool} → Walking margins list spot line here ended → ended ≡ true
+    → lineAt margins list spot ≡ record { line = line; rest = piecesAt list here; ended = true }
+walking-end walking e = walking .left ∙ rw e
+
+-- ---- the walk that measures
+
+-- the measures and the indent are those of the line so far
+pub record Measuring (margins : Margins) (list : List ℕ) (spot : Spot) (measure : Measure) (indent : Indent) (here : Spot) (ended : Bool) : Type 0 where
+  pub line : Line
+  pub walking : Walking margins list spot line here ended
+  pub measured : Measured measure (line .bytes)
+  pub takes : indent ≡ line .indent
+  pub fits : measure .leading ≤ measure .length
+
+-- a fresh line measures nothing
+pub measuring-start : (margins : Margins) (list : List ℕ) (spot : Spot) → Standing list spot → spot .at < length list
+    → Measuring margins list spot (record { length = 0; leading = 0; «ink_end» = 0 }) Unset spot false
+unfolding leadingBlanks trimEnd
+measuring-start margins list spot standing some = record {
+  line = fresh;
+  walking = walking-start margins list spot standing some;
+  measured = record { length = refl; leading = refl; end = refl };
+  takes = refl;
+  fits = omega arith;
+}
+
+module _ {margins : Margins} {list : List ℕ} {spot here : Spot} {measure : Measure} {indent : Indent} {step : Step}
+    (measuring : Measuring margins list spot measure indent here false) (stepped : Stepped margins list here (measure .length) step) where
+  -- a step's bytes fit
+  pub step-fits : length list ≤ 1048576 → Fits measure (step .before + (step .to - step .from) + step .behind)
+  step-fits short = record {
+    leading = measuring .fits;
+    small = step-room (measuring .walking) (measuring .measured .length) stepped short;
+  }
+
+  -- and a step keeps the walk
+  pub measuring-on : {measure′ : Measure} {indent′ : Indent} → ((bytes : List ℕ) → Measured measure bytes → Measured measure′ (bytes ++ stepBytes list step))
+      → measure′ .leading ≤ measure′ .length → indent′ ≡ taken indent here → Measuring margins list spot measure′ indent′ (step .spot) (step .ends)
+  measuring-on counted fits takes =
+      let line = measuring .line in
+      let long = measuring .measured .length in
+      record {
+        line = longer margins list line here;
+        walking = walking-on (measuring .walking) long stepped;
+        measured = rw (longer-bytes (measuring .walking) long stepped) (counted (line .bytes) (measuring .measured));
+        takes = takes ∙ rw (measuring .takes) (sym (longer-indent margins list line here));
+        fits = fits;
+      }
+
+-- at its end the line is measured
+pub measuring-end : {margins : Margins} {list : List ℕ} {spot here : Spot} {measure : Measure} {indent : Indent} {ended : Bool} {n : ℕ}
+    → Measuring margins list spot measure indent here ended → ended ≡ true → n ≡ indentOf indent
+    → LineWalked margins list spot (record { measure = measure; indent = n; spot = here })
+measuring-end measuring e amount =
+    let walking = measuring .walking in
+    let line = walking-end walking e in
+    let same : indentOf (measuring .line .indent) ≡ _ = ap indentOf (sym (measuring .takes)) ∙ sym amount in
+    record {
+      measured = rw line (measuring .measured);
+      indent = rw line (sym same);
+      rest = rw line;
+      ended = rw line;
+      standing = walking .standing;
+      onward = walking .onward e;
+      small = omega (arith, measuring .measured .length, walking .small);
+      low = omega (arith, same, walking .low);
+    }
+
+-- ---- the walk that writes
+
+-- the text has what the window shows of the line so far, which is n bytes long
+pub record Writing (margins : Margins) (list : List ℕ) (spot : Spot) (window : Window) (before text : List ℕ) (n : ℕ) (here : Spot) (ended : Bool) : Type 0 where
+  pub line : Line
+  pub walking : Walking margins list spot line here ended
+  pub written : text ≡ puts before window 0 (line .bytes)
+  pub long : n ≡ length (line .bytes)
+
+-- of a fresh line nothing is written
+pub writing-start : (margins : Margins) (list : List ℕ) (spot : Spot) (window : Window) (text : List ℕ) → Standing list spot → spot .at < length list
+    → Writing margins list spot window text text 0 spot false
+unfolding puts
+writing-start margins list spot window text standing some = record {
+  line = fresh;
+  walking = walking-start margins list spot standing some;
+  written = refl;
+  long = refl;
+}
+
+-- a step keeps the walk
+pub writing-on : {margins : Margins} {list : List ℕ} {spot here : Spot} {window : Window} {before text text′ : List ℕ} {n n′ : ℕ} {step : Step}
+    → Writing margins list spot window before text n here false → Stepped margins list here n step
+    → text′ ≡ puts text window n (stepBytes list step) → n′ ≡ n + (step .before + (step .to - step .from) + step .behind)
+    → Writing margins list spot window before text′ n′ (step .spot) (step .ends)
+writing-on {margins} {list} {here} {window} {before} {n} {step} writing stepped writes counts =
+    let line = writing .line in
+    let walking = writing .walking in
+    let all : 0 + length (line .bytes) ≡ n = omega (arith, writing .long) in
+    record {
+      line = longer margins list line here;
+      walking = walking-on walking (writing .long) stepped;
+      written = writes ∙ sym (rw (longer-bytes walking (writing .long) stepped) (puts-append before window 0 (line .bytes) (stepBytes list step) ∙ rw (all, writing .written)));
+      long = counts ∙ sym (longer-length walking (writing .long) stepped);
+    }
+
+-- at its end the line is written
+pub writing-end : {margins : Margins} {list : List ℕ} {spot here : Spot} {window : Window} {before text : List ℕ} {n : ℕ} {ended : Bool}
+    → Writing margins list spot window before text n here ended → ended ≡ true → text ≡ puts before window 0 (lineAt margins list spot .line .bytes)
+writing-end writing e = writing .written ∙ rw (walking-end (writing .walking) e)

@@ -1,0 +1,60 @@
+-- The spaces that the window shows are stored as one run, and where it shows none nothing is.
+use Prim.Native.Nat.{ℕ}
+use mathlib.Core.Path.{_∙_}
+use lib.ListN.{length-replicate}
+use borrow.Author.Needs.{needs}
+use Rattle.text.specs.Ink.{spaces}
+use Rattle.join.proofs.Windows.{puts-hidden, spaces-shown}
+use Rattle.join.proofs.line.put_spaces.Statement.{statement}
+use Rattle.join.proofs.line.put_spaces.Tie as tie
+
+larger-requires : tie.Need-larger-requires
+larger-requires c κs = search needs
+
+add-smaller : tie.Need-add-smaller
+add-smaller c = search needs
+
+smaller-requires : tie.Need-smaller-requires
+smaller-requires c κs = search needs
+
+sub-fill : tie.Need-sub-fill
+sub-fill c = search needs
+
+add-fill : tie.Need-add-fill
+add-fill c = search needs
+
+sub-fill-2 : tie.Need-sub-fill-2
+sub-fill-2 c = search needs
+
+fill-requires : tie.Need-fill-requires
+fill-requires c κs = search needs
+
+same-length : tie.Need-same-length
+same-length c = search needs
+
+returns : tie.Need-returns
+returns c =
+    let start = c .before .before .before .before .before .before .before .before .before .before in
+    let test = c .before .before .before .before .before .before in
+    c .before .before .fill .ensures .1 ∙ spaces-shown (start .args .text .now) (start .args .window) (start .args .at) (start .args .count) (test .before .before .larger .ensures) (test .before .smaller .ensures) (test .if1 .taken) (start .pre .0)
+
+returns-2 : tie.Need-returns-2
+returns-2 c =
+    let start = c .before .before .before .before in
+    let count = start .args .count in
+    puts-hidden (start .args .text .now) (start .args .window) (start .args .at) (spaces count) (c .before .before .larger .ensures) (rw (length-replicate {A = ℕ} count 32) (c .before .smaller .ensures)) (c .if1 .left)
+
+pub put-spaces-spec : {M : Type 1} → statement M
+put-spaces-spec =
+    tie.close
+    (tie.spec
+    larger-requires
+    add-smaller
+    smaller-requires
+    sub-fill
+    add-fill
+    sub-fill-2
+    fill-requires
+    same-length
+    returns
+    returns-2)

@@ -1,0 +1,46 @@
+-- The check of a tree: refusals 3, 4, 5 and 7 of document 01, with the limits on length and depth as arguments.
+use Prim.Native.Nat.{ℕ, _+_}
+use mathlib.Core.List.{List, [], _∷_}
+use mathlib.Core.Bool.{Bool, cond}
+use lib.ListN.{length}
+use lib.Dec.{eqb, ltb}
+use Rattle.answers.specs.declared.Checked.{Checked}
+use Rattle.answers.specs.declared.Checked.the-variants.{Passed, Failed}
+use Rattle.answers.specs.declared.Reason.the-variants.{TreeLength, TreeLayout, NotAscii}
+use Rattle.text.specs.Accepted.{acceptedText, faultAt}
+use Rattle.answers.specs.Numbers.{andThen}
+use Rattle.tree.specs.Reading.{Placed, Reading, read}
+use Rattle.tree.specs.declared.grammar.Class.the-variants.{Tokens}
+
+-- "The file is a list of kinds 0 to 23."
+abbrev pub readFile : ℕ → List ℕ → Reading
+readFile levels bytes = read levels bytes Tokens 0
+
+-- "The tree has 0 bytes or more than 65,535; place 0."
+abbrev pub lengthChecked : ℕ → List ℕ → Checked
+lengthChecked limit bytes =
+    cond (eqb (length bytes) 0) (Failed (record { reason = TreeLength; place = 0 }))
+    (cond (ltb limit (length bytes)) (Failed (record { reason = TreeLength; place = 0 })) Passed)
+
+-- "or bytes follow the list (the first of them)"
+abbrev pub endChecked : List ℕ → ℕ → Checked
+endChecked bytes end = cond (ltb end (length bytes)) (Failed (record { reason = TreeLayout; place = end })) Passed
+
+-- "A text or trivia byte is above 127; the place of the first."
+unfoldable pub textsChecked : List Placed → Checked
+textsChecked [] = Passed
+textsChecked (text ∷ texts) =
+    cond (acceptedText (text .bytes)) (textsChecked texts)
+    (Failed (record { reason = NotAscii; place = text .place + faultAt (text .bytes) }))
+
+-- in checking order; "of 4 and 5 the one met first in reading is given"
+unfoldable pub treeChecked : ℕ → ℕ → List ℕ → Checked
+treeChecked limit levels bytes =
+    andThen (lengthChecked limit bytes)
+    (andThen (readFile levels bytes .checked)
+    (andThen (endChecked bytes (readFile levels bytes .end))
+    (textsChecked (readFile levels bytes .texts))))
+
+-- the batch limits: 65,535 bytes, depth 64
+abbrev pub batchChecked : List ℕ → Checked
+batchChecked bytes = treeChecked 65535 64 bytes
