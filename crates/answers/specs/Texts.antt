@@ -1,7 +1,7 @@
 -- A call that writes a text: what it comes to before the text buffer is looked at, and then whether the text fits.
 use Prim.Native.Nat.{ℕ}
 use mathlib.Core.List.{List, _++_}
-use mathlib.Core.Bool.{Bool, cond}
+use mathlib.Core.Bool.{cond}
 use lib.ListN.{length, drop}
 use lib.Dec.{leb}
 use Rattle.answers.specs.declared.Reason.the-variants.{TextRoom}

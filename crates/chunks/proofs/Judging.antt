@@ -139,7 +139,7 @@ passed-failed e = let z : _≡_ {A = ℕ} 0 1 = cc in absurd (omega arith)
 
 module _ (list : List ℕ) (passed : chunksChecked list ≡ Passed) where
   -- the list is within the limit
-  passed-short : length list ≤ 1048576
+  pub passed-short : length list ≤ 1048576
   unfolding chunksChecked layoutChecked
   passed-short = by-test (ltb 1048576 (length list)) (λ e. passed-failed (rw e at passed)) (λ e. ltb-false _ _ e)
 

@@ -9,14 +9,14 @@ use lib.ListN.{length, take, drop, take-append-drop}
 use lib.Dec.{eqb, ltb, leb}
 use borrow.Author.Tests.{eqb-true}
 use Rattle.text.specs.Ink.{ink, inks, blank, allBlank, spaces}
-use Rattle.text.specs.Lines.{onto}
+use Rattle.text.specs.Lines.{onto, isNewline}
 use Rattle.text.proofs.Choices.{cond-both, by-test, true-false, and-true-left, and-true-right}
 use Rattle.text.proofs.Ink.{ink-append, inks-append, ink-flat, ink-before, ink-behind, ink-blank, trim-ink}
 use Rattle.text.proofs.Lines.{ink-joined}
 use Rattle.chunks.specs.Stored.{Chunk, AllWellFormed}
 use Rattle.chunks.specs.declared.stored.ChunkType.{ChunkType}
 use Rattle.chunks.specs.declared.stored.ChunkType.the-variants.{Code, Label, Comment}
-use Rattle.join.specs.Pieces.{Piece, isNewline, cut, piecesOf, pieces, following}
+use Rattle.join.specs.Pieces.{Piece, cut, piecesOf, pieces, following}
 use Rattle.join.specs.Layout.{ignoredIn, ignored, added, Line, fresh, indentOf, add, isLast, ends, standalone, placed, setLine, Before, atStart, keeps, keptLines}
 use Rattle.join.specs.Setting.{linesKept, textOf}
 use Rattle.join.specs.Promise.{texts}

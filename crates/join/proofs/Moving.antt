@@ -16,7 +16,8 @@ use Rattle.options.specs.declared.Alignment.{Alignment}
 use Rattle.options.specs.declared.Alignment.the-variants.{Left, Right}
 use Rattle.chunks.specs.declared.stored.ChunkType.{ChunkType}
 use Rattle.chunks.specs.declared.stored.ChunkType.the-variants.{Code, Label, Comment}
-use Rattle.join.specs.Pieces.{Piece, isNewline}
+use Rattle.text.specs.Lines.{isNewline}
+use Rattle.join.specs.Pieces.{Piece}
 use Rattle.join.specs.Layout.{aligned, labelled, commented, ignoredIn, ignored, laid, added, Line, fresh, indentWith, add, isLast, ends, Before, keptLines}
 use Rattle.join.specs.Moving.{lineOn, lineOf, openOn, stillOpen, isLabel, isCode, loneNewline, allNewlines, oneLabelAlone}
 use Rattle.join.specs.declared.margins.Margins.{Margins}

@@ -8,11 +8,11 @@ use lib.ListN.{length, getD, take, drop}
 use lib.Seq.{slice, slice-cons, slice-empty, length-slice, drop-drop, take-take}
 use lib.Dec.{eqb, ltb}
 use borrow.Author.Tests.{lt-ltb, le-ltb, ne-eqb}
-use Rattle.text.specs.Lines.{onto, hasNewline, newlineAt}
+use Rattle.text.specs.Lines.{onto, hasNewline, newlineAt, isNewline}
 use Rattle.text.proofs.Choices.{by-test}
 use Rattle.text.proofs.Lines.{newline-at-lt, newline-at-none}
 use Rattle.chunks.proofs.Parts.{part-slice}
-use Rattle.join.specs.Pieces.{Piece, cut, isNewline, piecesOf, pieces}
+use Rattle.join.specs.Pieces.{Piece, cut, piecesOf, pieces}
 use Rattle.join.specs.Walk.{Standing, piecesAt, pieceLength, pieceAt, Passed}
 use Rattle.join.specs.declared.piece.Spot.{Spot}
 

@@ -21,7 +21,8 @@ use Rattle.chunks.proofs.Forms.{map-bits, map-type, indent-bit, indent-stored, 
 use Rattle.chunks.proofs.Reading.{chunk-laid, chunk-fits, chunk-end, chunks-at-found, chunks-at-none}
 use Rattle.chunks.proofs.Reading as reading
 use Rattle.chunks.proofs.Judging.{end-found, end-none}
-use Rattle.join.specs.Pieces.{cut, isNewline, following, piecesOf, pieces}
+use Rattle.text.specs.Lines.{isNewline}
+use Rattle.join.specs.Pieces.{cut, following, piecesOf, pieces}
 use Rattle.join.specs.Layout.{isLast}
 use Rattle.join.specs.Walk.{Laid, Standing, piecesAt, Reached, Passed}
 use Rattle.join.specs.declared.piece.Follows.the-variants.{Newline, Other}

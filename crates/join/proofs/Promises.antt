@@ -2,21 +2,18 @@
 use mathlib.Core.Path.{_≡_, refl, _∙_}
 use mathlib.Core.List.{List}
 use Prim.Native.Nat.{ℕ, _≤_, _<_}
-use native.Mathlib.Omega.{arith}
 use lib.ListN.{length}
 use lib.Seq.{sets}
-use lib.Dec.{ltb}
-use borrow.Author.Tests.{le-leb, lt-leb, ltb-true, ltb-false}
+use borrow.Author.Tests.{le-leb, lt-leb}
 use Rattle.answers.specs.Texts.{text, answerIn, bufferAfter}
 use Rattle.answers.specs.declared.Answer.the-variants.{Accepted, Refused}
 use Rattle.answers.specs.declared.Checked.the-variants.{Passed}
 use Rattle.answers.specs.declared.Reason.the-variants.{TextRoom}
-use Rattle.text.proofs.Choices.{by-test}
 use Rattle.text.proofs.Buffers.{sets-front}
 use Rattle.chunks.specs.Stored.{Bytes}
 use Rattle.chunks.specs.Reading.{chunksOf}
 use Rattle.chunks.specs.Judging.{chunksChecked}
-use Rattle.chunks.proofs.Judging.{too-long}
+use Rattle.chunks.proofs.Judging.{passed-short}
 use Rattle.chunks.proofs.RoundTrip.{accepted-stored}
 use Rattle.join.specs.Setting.{textOf}
 use Rattle.join.specs.Promise.{Faithful}
@@ -26,17 +23,7 @@ use Rattle.join.proofs.Ink.{text-ink}
 use Rattle.join.proofs.Neatness.{text-blanks, text-empties}
 use Rattle.join.proofs.Length.{text-short}
 
--- a list that was accepted is within the limit
-pub accepted-short : (list : List ℕ) → chunksChecked list ≡ Passed → length list ≤ 1048576
-accepted-short list passed =
-    by-test (ltb 1048576 (length list))
-    (λ e.
-    let failed = too-long list (ltb-true 1048576 (length list) e) in
-    let never : _≡_ {A = ℕ} 0 1 = cc in
-    absurd (omega arith))
-    (λ e. ltb-false 1048576 (length list) e)
-
--- its text keeps the ink, is neat, and is short
+-- the text of a list that was accepted keeps the ink, is neat, and is short
 pub text-faithful : (margins : Margins) (list : List ℕ) → Narrow margins → Bytes list → chunksChecked list ≡ Passed → Faithful (chunksOf list) (textOf margins (chunksOf list))
 text-faithful margins list narrow bytes passed =
     let chunks = chunksOf list in
@@ -46,7 +33,7 @@ text-faithful margins list narrow bytes passed =
       ink = text-ink margins chunks good;
       blanks = text-blanks margins chunks;
       empties = text-empties margins chunks;
-      short = text-short margins (narrow .label) (narrow .code) chunks good (rw (stored .0) (accepted-short list passed));
+      short = text-short margins (narrow .label) (narrow .code) chunks good (rw (stored .0) (passed-short list passed));
     }
 
 -- a text that is longer than its buffer leaves the buffer

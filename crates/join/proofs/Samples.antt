@@ -8,13 +8,13 @@ use Rattle.answers.specs.Texts.{Outcome, text, answerIn, bufferAfter}
 use Rattle.answers.specs.declared.Answer.{Answer}
 use Rattle.answers.specs.declared.Answer.the-variants.{Accepted}
 use Rattle.text.specs.Ink.{blank, allBlank, trimEnd}
-use Rattle.text.specs.Lines.{hasNewline, behind, joined}
+use Rattle.text.specs.Lines.{hasNewline, behind, joined, isNewline}
 use Rattle.text.specs.Accepted.{acceptedByte, acceptedText}
 use Rattle.options.specs.Stored.{standing, valuesChecked, storedOptions, readOptions}
 use Rattle.chunks.specs.Stored.{storedIndent, storedHead, storedChunk, storedList}
 use Rattle.chunks.specs.Reading.{textAt, chunkAt, chunksFrom, storedChunks, chunksAt}
 use Rattle.chunks.specs.Judging.{endFrom, layoutChecked, textsChecked, chunksChecked}
-use Rattle.join.specs.Pieces.{cut, isNewline, piecesOf, pieces}
+use Rattle.join.specs.Pieces.{cut, piecesOf, pieces}
 use Rattle.join.specs.Layout.{ignored, added, add, ends, standalone, setLine, keeps, after, keptLines}
 use Rattle.join.specs.Setting.{linesKept, textOf, joinOutcome}
 use Rattle.join.specs.Samples.{ascii, Sample, samples}

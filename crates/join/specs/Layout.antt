@@ -5,12 +5,12 @@ use mathlib.Core.Bool.{Bool, true, false, cond, not, _&&_, _||_}
 use lib.ListN.{length, take, drop}
 use lib.Dec.{ltb, leb}
 use Rattle.text.specs.Ink.{allBlank, trimEnd, spaces}
-use Rattle.text.specs.Lines.{hasNewline}
+use Rattle.text.specs.Lines.{hasNewline, isNewline}
 use Rattle.options.specs.declared.Alignment.{Alignment}
 use Rattle.options.specs.declared.Alignment.the-variants.{Left, Right}
 use Rattle.chunks.specs.declared.stored.ChunkType.{ChunkType}
 use Rattle.chunks.specs.declared.stored.ChunkType.the-variants.{Code, Label, Comment}
-use Rattle.join.specs.Pieces.{Piece, isNewline}
+use Rattle.join.specs.Pieces.{Piece}
 use Rattle.join.specs.declared.margins.Margins.{Margins}
 use Rattle.join.specs.declared.piece.Follows.{Follows}
 use Rattle.join.specs.declared.piece.Follows.the-variants.{Nothing, Newline, Other}

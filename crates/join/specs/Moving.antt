@@ -8,7 +8,8 @@ use lib.ListN.{length}
 use lib.Dec.{leb}
 use Rattle.chunks.specs.declared.stored.ChunkType.{ChunkType}
 use Rattle.chunks.specs.declared.stored.ChunkType.the-variants.{Code, Label, Comment}
-use Rattle.join.specs.Pieces.{Piece, isNewline}
+use Rattle.text.specs.Lines.{isNewline}
+use Rattle.join.specs.Pieces.{Piece}
 use Rattle.join.specs.Layout.{Line, fresh, add, ends}
 use Rattle.join.specs.declared.margins.Margins.{Margins}
 

@@ -3,7 +3,7 @@ use Prim.Native.Nat.{ℕ}
 use mathlib.Core.List.{List, [], _∷_, _++_}
 use mathlib.Core.Bool.{Bool, true, false, cond}
 use lib.Dec.{eqb}
-use Rattle.text.specs.Lines.{onto}
+use Rattle.text.specs.Lines.{onto, isNewline}
 use Rattle.chunks.specs.Stored.{Chunk}
 use Rattle.chunks.specs.declared.stored.ChunkType.{ChunkType}
 use Rattle.join.specs.declared.piece.Follows.{Follows}
@@ -12,12 +12,6 @@ use Rattle.join.specs.declared.piece.Follows.the-variants.{Nothing, Newl
 unfoldable pub cut : List ℕ → List (List ℕ)
 cut [] = []
 cut (b ∷ bs) = cond (eqb b 10) ((b ∷ []) ∷ cut bs) (onto b (cut bs))
-
--- "exactly a newline"
-unfoldable pub isNewline : List ℕ → Bool
-isNewline [] = false
-isNewline (b ∷ []) = eqb b 10
-isNewline (b ∷ c ∷ bs) = false
 
 -- what follows a chunk, by the chunks behind it
 abbrev pub following : List Chunk → Follows

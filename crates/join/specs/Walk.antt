@@ -1,12 +1,12 @@
 -- Not part of any promise of this crate: what its inner functions hand on, in terms of places in the stored list and of measures of a line.
-use Prim.Native.Nat.{ℕ, _+_, _-_, _*_, _≤_, _<_, min, max}
+use Prim.Native.Nat.{ℕ, _+_, _-_, _*_, _≤_, _<_, min}
 use mathlib.Core.Path.{_≡_}
 use mathlib.Core.List.{List, [], _∷_, _++_}
 use mathlib.Core.Bool.{Bool, true, false, cond, not, _&&_, _||_}
-use lib.ListN.{length, take, drop, set}
-use lib.Seq.{slice, sets}
+use lib.ListN.{length, set}
+use lib.Seq.{slice}
 use lib.Dec.{eqb, ltb, leb}
-use Rattle.text.specs.Ink.{allBlank, leadingBlanks, inkEnd, spaces}
+use Rattle.text.specs.Ink.{leadingBlanks, inkEnd, spaces}
 use Rattle.text.specs.Lines.{newlineAt}
 use Rattle.options.specs.declared.Alignment.{Alignment}
 use Rattle.options.specs.declared.Alignment.the-variants.{Left, Right}
@@ -14,7 +14,6 @@ use Rattle.chunks.specs.Reading.{storedChunks, chunksAt}
 use Rattle.chunks.specs.Judging.{endFrom}
 use Rattle.chunks.specs.declared.stored.ChunkType.{ChunkType}
 use Rattle.chunks.specs.declared.stored.ChunkType.the-variants.{Code, Label, Comment}
-use Rattle.chunks.specs.declared.stored.ChunkAt.the-variants.{Found}
 use Rattle.join.specs.Pieces.{Piece, cut, piecesOf, pieces, following}
 use Rattle.join.specs.Layout.{Line, fresh, indentOf, add, added, ends}
 use Rattle.join.specs.declared.margins.Margins.{Margins}

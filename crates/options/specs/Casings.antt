@@ -1,7 +1,7 @@
 -- `Casing::format`: document 01, "ASCII upper and lower only."
 use Prim.Native.Nat.{ℕ, _+_, _-_}
 use mathlib.Core.List.{List, map}
-use mathlib.Core.Bool.{Bool, cond, _&&_}
+use mathlib.Core.Bool.{cond, _&&_}
 use lib.Dec.{leb}
 use Rattle.options.specs.declared.Casing.{Casing}
 use Rattle.options.specs.declared.Casing.the-variants.{Uppercase, Lowercase}

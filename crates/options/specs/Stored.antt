@@ -1,7 +1,7 @@
 -- The stored options: document 01, "Options" ("a bit map and then only the fields whose bit stands ... One byte each") and refusals 1 and 2.
 use Prim.Native.Nat.{ℕ, zero, suc, _+_, _/_, _%_, _^_}
 use mathlib.Core.List.{List, [], _∷_}
-use mathlib.Core.Bool.{Bool, true, false, cond, not, _&&_}
+use mathlib.Core.Bool.{Bool, true, cond, not, _&&_}
 use lib.ListN.{length, getD}
 use lib.Dec.{eqb, ltb}
 use Rattle.answers.specs.declared.Checked.{Checked}

@@ -1,6 +1,6 @@
 -- The options that eight values stand for: document 01, "Options", the bits 0 to 7 in order.
 use Prim.Native.Nat.{ℕ, _≤_}
-use mathlib.Core.Bool.{Bool, cond}
+use mathlib.Core.Bool.{cond}
 use lib.Dec.{eqb}
 use Rattle.options.specs.declared.Casing.{Casing}
 use Rattle.options.specs.declared.Casing.the-variants.{Uppercase, Lowercase}

@@ -1,7 +1,8 @@
-// Answers a stream of cases from standard input on standard output: see the README beside this crate's input.
+// Answers a stream of cases from standard input on standard output: README.md beside src/ says how a case and an answer are written.
 use answers::Answer;
 use libc::STDIN_FILENO;
 use libc::STDOUT_FILENO;
+use text::numbers;
 use text::stores;
 
 // A number that was read, or the end of the input.
@@ -17,13 +18,9 @@ fn read_four() -> Got {
     if got < 4 {
         return Got::Ended;
     }
-    let low = wide(bytes[0]) + 256 * wide(bytes[1]);
-    let high = wide(bytes[2]) + 256 * wide(bytes[3]);
+    let low = numbers::wide(bytes[0]) + 256 * numbers::wide(bytes[1]);
+    let high = numbers::wide(bytes[2]) + 256 * numbers::wide(bytes[3]);
     Got::Number(low + 65536 * high)
-}
-
-fn wide(b: u8) -> usize {
-    b as usize
 }
 
 // Reads `count` bytes to a buffer's start; false where they do not fit or the input ends.
@@ -97,7 +94,7 @@ fn answer_join(options: &[u8], chunks: &[u8], text: &mut [u8]) {
     }
 }
 
-// One case; false where the input ends or a case is cut or too long.
+// One case; false where the input ends, or a case is cut, too long or of no command.
 fn answer_case(options: &mut [u8], payload: &mut [u8], text: &mut [u8]) -> bool {
     let mut command = [0u8; 1];
     if io::read_full(STDIN_FILENO, &mut command) < 1 {
@@ -112,29 +109,54 @@ fn answer_case(options: &mut [u8], payload: &mut [u8], text: &mut [u8]) -> bool 
         return false;
     };
     let third = read_four();
-    let Got::Number(_) = third else {
+    let Got::Number(room_length) = third else {
         return false;
     };
+    if 1114112 < room_length {
+        return false;
+    }
     let fourth = read_four();
     let Got::Number(text_length) = fourth else {
         return false;
     };
+    if options.len() < options_length {
+        return false;
+    }
+    if payload.len() < payload_length {
+        return false;
+    }
     if text.len() < text_length {
         return false;
     }
-    answer_join(&options[..options_length], &payload[..payload_length], &mut text[..text_length]);
+    if command[0] != b'J' {
+        return false;
+    }
+    answer_join(
+        &options[..options_length],
+        &payload[..payload_length],
+        &mut text[..text_length],
+    );
     true
+}
+
+// Answers every case; the buffers have the longest lengths that a case may have.
+fn answer_all(options: &mut [u8; 16], payload: &mut [u8; 1114112], text: &mut [u8; 1114112]) {
+    let option_bytes: &mut [u8] = options;
+    let payload_bytes: &mut [u8] = payload;
+    let text_bytes: &mut [u8] = text;
+    // More cases than any input has: a program is proved to end.
+    let mut left: usize = 18446744073709551615;
+    while 0 < left {
+        if !answer_case(option_bytes, payload_bytes, text_bytes) {
+            return;
+        }
+        left -= 1;
+    }
 }
 
 fn main() {
     let mut options = [0u8; 16];
     let mut payload = [0u8; 1114112];
     let mut text = [0u8; 1114112];
-    let mut left: usize = 1000000000;
-    while 0 < left {
-        if !answer_case(&mut options, &mut payload, &mut text) {
-            left = 1;
-        }
-        left -= 1;
-    }
+    answer_all(&mut options, &mut payload, &mut text);
 }

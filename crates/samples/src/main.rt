@@ -52,12 +52,17 @@ fn show_answer(name: &[u8], answer: Answer, text: &[u8]) {
     }
 }
 
-// The text of a stored chunk list in a buffer of up to 64 bytes.
+// The text of a stored chunk list in a buffer.
+fn show_text(name: &[u8], chunks: &[u8], options: &[u8], text: &mut [u8]) {
+    let answer = join::join_chunks(chunks, options, text);
+    show_answer(name, answer, text);
+}
+
+// The same in a buffer of up to 64 bytes.
 fn show_join(name: &[u8], chunks: &[u8], options: &[u8], room: usize) {
     let mut buffer = [0u8; 64];
     if room <= 64 {
-        let answer = join::join_chunks(chunks, options, &mut buffer[..room]);
-        show_answer(name, answer, &buffer);
+        show_text(name, chunks, options, &mut buffer[..room]);
     }
 }
 
@@ -68,25 +73,86 @@ fn show_all_options() {
     show_options(b"options, indent 64", b"\x08\x40");
     show_options(b"options, indent 65", b"\x08\x41");
     show_options(b"options, casings 1 and 2", b"\x03\x01\x02");
-    show_options(b"options, alignment 2 behind two margins", b"\x70\xff\x02\x00");
-    show_options(b"options, all bits stand", b"\xff\x01\x00\x01\x02\x03\x00\x04\x05");
+    show_options(
+        b"options, alignment 2 behind two margins",
+        b"\x70\xff\x02\x00",
+    );
+    show_options(
+        b"options, all bits stand",
+        b"\xff\x01\x00\x01\x02\x03\x00\x04\x05",
+    );
 }
 
 fn show_all_chunks() {
     show_join(b"no chunks", b"", b"\x00", 64);
     show_join(b"a newline", b"\x00\x01\x00\n", b"\x00", 64);
-    show_join(b"two newlines", b"\x00\x01\x00\n\x00\x01\x00\n", b"\x00", 64);
-    show_join(b"label / nop", b"\x01\x02\x00a:\x00\x03\x00nop", b"\x00", 64);
-    show_join(b"label / newline", b"\x01\x02\x00a:\x00\x01\x00\n", b"\x00", 64);
-    show_join(b"label / newline / nop", b"\x01\x02\x00a:\x00\x01\x00\n\x00\x03\x00nop", b"\x00", 64);
-    show_join(b"nop / three newlines / rts", b"\x00\x03\x00nop\x00\x01\x00\n\x00\x01\x00\n\x00\x01\x00\n\x00\x03\x00rts", b"\x00", 64);
+    show_join(
+        b"two newlines",
+        b"\x00\x01\x00\n\x00\x01\x00\n",
+        b"\x00",
+        64,
+    );
+    show_join(
+        b"label / nop",
+        b"\x01\x02\x00a:\x00\x03\x00nop",
+        b"\x00",
+        64,
+    );
+    show_join(
+        b"label / newline",
+        b"\x01\x02\x00a:\x00\x01\x00\n",
+        b"\x00",
+        64,
+    );
+    show_join(
+        b"label / newline / nop",
+        b"\x01\x02\x00a:\x00\x01\x00\n\x00\x03\x00nop",
+        b"\x00",
+        64,
+    );
+    show_join(
+        b"nop / three newlines / rts",
+        b"\x00\x03\x00nop\x00\x01\x00\n\x00\x01\x00\n\x00\x01\x00\n\x00\x03\x00rts",
+        b"\x00",
+        64,
+    );
     show_join(b"comment", b"\x02\x04\x00// c", b"\x00", 64);
-    show_join(b"comment / two newlines / nop", b"\x02\x04\x00// c\x00\x01\x00\n\x00\x01\x00\n\x00\x03\x00nop", b"\x00", 64);
-    show_join(b"comment / nop", b"\x02\x07\x00/* c */\x00\x03\x00nop", b"\x00", 64);
-    show_join(b"comment of two lines, indent 4", b"\x06\x04\x00\x09\x00/* a\nb */", b"\x00", 64);
-    show_join(b"code margin 0, nop / two newlines / rts", b"\x00\x03\x00nop\x00\x01\x00\n\x00\x01\x00\n\x00\x03\x00rts", b"\x40\x00", 64);
-    show_join(b"23 bytes in a buffer of 22", b"\x01\x02\x00a:\x00\x03\x00nop", b"\x00", 22);
-    show_join(b"23 bytes in a buffer of 23", b"\x01\x02\x00a:\x00\x03\x00nop", b"\x00", 23);
+    show_join(
+        b"comment / two newlines / nop",
+        b"\x02\x04\x00// c\x00\x01\x00\n\x00\x01\x00\n\x00\x03\x00nop",
+        b"\x00",
+        64,
+    );
+    show_join(
+        b"comment / nop",
+        b"\x02\x07\x00/* c */\x00\x03\x00nop",
+        b"\x00",
+        64,
+    );
+    show_join(
+        b"comment of two lines, indent 4",
+        b"\x06\x04\x00\x09\x00/* a\nb */",
+        b"\x00",
+        64,
+    );
+    show_join(
+        b"code margin 0, nop / two newlines / rts",
+        b"\x00\x03\x00nop\x00\x01\x00\n\x00\x01\x00\n\x00\x03\x00rts",
+        b"\x40\x00",
+        64,
+    );
+    show_join(
+        b"23 bytes in a buffer of 22",
+        b"\x01\x02\x00a:\x00\x03\x00nop",
+        b"\x00",
+        22,
+    );
+    show_join(
+        b"23 bytes in a buffer of 23",
+        b"\x01\x02\x00a:\x00\x03\x00nop",
+        b"\x00",
+        23,
+    );
     show_join(b"a text length of 0", b"\x00\x00\x00", b"\x00", 64);
     show_join(b"byte 128 in a text", b"\x00\x01\x00\x80", b"\x00", 64);
 }

@@ -1,7 +1,7 @@
 -- Which bytes a text may hold, by document 01: "Only texts of bytes 0 to 127 are accepted."
 use Prim.Native.Nat.{ℕ, _+_}
 use mathlib.Core.List.{List, [], _∷_}
-use mathlib.Core.Bool.{Bool, true, false, cond, _&&_}
+use mathlib.Core.Bool.{Bool, true, cond, _&&_}
 use lib.Dec.{leb}
 
 unfoldable pub acceptedByte : ℕ → Bool

@@ -1,7 +1,7 @@
 -- Blank and ink, by document 01: "Blank means bytes 9 to 13 and 32. All else is ink."
 use Prim.Native.Nat.{ℕ, _+_}
 use mathlib.Core.List.{List, [], _∷_, _++_}
-use mathlib.Core.Bool.{Bool, true, false, cond, _&&_, _||_}
+use mathlib.Core.Bool.{Bool, true, cond, _&&_, _||_}
 use lib.ListN.{length, replicate}
 use lib.Dec.{eqb, leb}
 

@@ -1,7 +1,7 @@
 -- What a call that stores bytes into a lent buffer answers, and what the buffer then holds.
 -- Where the bytes do not fit nothing is written.
 use Prim.Native.Nat.{ℕ, _+_}
-use mathlib.Core.List.{List, [], _∷_}
+use mathlib.Core.List.{List}
 use mathlib.Core.Bool.{Bool, cond}
 use lib.ListN.{length, replicate}
 use lib.Seq.{sets}

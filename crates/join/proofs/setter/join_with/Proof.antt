@@ -4,9 +4,9 @@ use native.Mathlib.Omega.{arith}
 use borrow.Author.Needs.{needs}
 use Rattle.text.proofs.Choices.{true-false}
 use Rattle.chunks.specs.Reading.{chunksOf}
-use Rattle.chunks.proofs.Judging.{passed-end}
+use Rattle.chunks.proofs.Judging.{passed-end, passed-short}
 use Rattle.join.specs.Setting.{textOf}
-use Rattle.join.proofs.Promises.{accepted-short, text-faithful, text-long, text-fits}
+use Rattle.join.proofs.Promises.{text-faithful, text-long, text-fits}
 use Rattle.join.proofs.setter.join_with.Statement.{statement}
 use Rattle.join.proofs.setter.join_with.Tie as tie
 
@@ -27,7 +27,7 @@ enum-told c = search needs
 set-lines-requires : tie.Need-set-lines-requires
 set-lines-requires c κs =
     let passed = sym (c .before .before .before .check-chunks .ensures) ∙ c .before .enum-told .given .1 in
-    ((c .before .before .before .before .before .before .pre, passed-end _ passed, accepted-short _ passed), λ e. true-false (sym e))
+    ((c .before .before .before .before .before .before .pre, passed-end _ passed, passed-short _ passed), λ e. true-false (sym e))
 
 same-length : tie.Need-same-length
 same-length c = search needs
@@ -45,7 +45,7 @@ returns-2 c =
 set-lines-requires-2 : tie.Need-set-lines-requires-2
 set-lines-requires-2 c κs =
     let passed = sym (c .before .before .before .before .before .before .before .before .check-chunks .ensures) ∙ c .before .before .before .before .before .before .enum-told .given .1 in
-    ((c .before .before .before .before .before .before .before .before .before .before .before .pre, passed-end _ passed, accepted-short _ passed), λ _. rw (c .before .before .before .before .set-lines .ensures .0) at (c .before .if1 .left))
+    ((c .before .before .before .before .before .before .before .before .before .before .before .pre, passed-end _ passed, passed-short _ passed), λ _. rw (c .before .before .before .before .set-lines .ensures .0) at (c .before .if1 .left))
 
 same-length-2 : tie.Need-same-length-2
 same-length-2 c = search needs

@@ -1,0 +1,223 @@
+-- The parts lent are as long as was tested.
+use native.Mathlib.Omega.{arith}
+use lib.ListN.{length-take}
+use borrow.Author.Needs.{needs}
+use Rattle.replay.proofs.answer_case.Statement.{statement}
+use Rattle.replay.proofs.answer_case.Tie as tie
+
+slice-aggregate-read-full : tie.Need-slice-aggregate-read-full
+slice-aggregate-read-full c = search needs
+
+read-full-requires : tie.Need-read-full-requires
+read-full-requires c κs = search needs
+
+returns : tie.Need-returns
+returns c = search needs
+
+read-sized-requires : tie.Need-read-sized-requires
+read-sized-requires c κs = search needs
+
+enum-known-first : tie.Need-enum-known-first
+enum-known-first c = search needs
+
+enum-told : tie.Need-enum-told
+enum-told c = search needs
+
+same-length : tie.Need-same-length
+same-length c = search needs
+
+returns-2 : tie.Need-returns-2
+returns-2 c = search needs
+
+read-sized-requires-2 : tie.Need-read-sized-requires-2
+read-sized-requires-2 c κs = search needs
+
+enum-known-second : tie.Need-enum-known-second
+enum-known-second c = search needs
+
+enum-told-2 : tie.Need-enum-told-2
+enum-told-2 c = search needs
+
+same-length-2 : tie.Need-same-length-2
+same-length-2 c = search needs
+
+same-length-3 : tie.Need-same-length-3
+same-length-3 c = search needs
+
+returns-3 : tie.Need-returns-3
+returns-3 c = search needs
+
+read-four-requires : tie.Need-read-four-requires
+read-four-requires c κs = search needs
+
+enum-known-third : tie.Need-enum-known-third
+enum-known-third c = search needs
+
+enum-told-3 : tie.Need-enum-told-3
+enum-told-3 c = search needs
+
+same-length-4 : tie.Need-same-length-4
+same-length-4 c = search needs
+
+same-length-5 : tie.Need-same-length-5
+same-length-5 c = search needs
+
+returns-4 : tie.Need-returns-4
+returns-4 c = search needs
+
+same-length-6 : tie.Need-same-length-6
+same-length-6 c = search needs
+
+same-length-7 : tie.Need-same-length-7
+same-length-7 c = search needs
+
+returns-5 : tie.Need-returns-5
+returns-5 c = search needs
+
+read-four-requires-2 : tie.Need-read-four-requires-2
+read-four-requires-2 c κs = search needs
+
+enum-known-fourth : tie.Need-enum-known-fourth
+enum-known-fourth c = search needs
+
+enum-told-4 : tie.Need-enum-told-4
+enum-told-4 c = search needs
+
+same-length-8 : tie.Need-same-length-8
+same-length-8 c = search needs
+
+same-length-9 : tie.Need-same-length-9
+same-length-9 c = search needs
+
+returns-6 : tie.Need-returns-6
+returns-6 c = search needs
+
+same-length-10 : tie.Need-same-length-10
+same-length-10 c = search needs
+
+same-length-11 : tie.Need-same-length-11
+same-length-11 c = search needs
+
+returns-7 : tie.Need-returns-7
+returns-7 c = search needs
+
+same-length-12 : tie.Need-same-length-12
+same-length-12 c = search needs
+
+same-length-13 : tie.Need-same-length-13
+same-length-13 c = search needs
+
+returns-8 : tie.Need-returns-8
+returns-8 c = search needs
+
+same-length-14 : tie.Need-same-length-14
+same-length-14 c = search needs
+
+same-length-15 : tie.Need-same-length-15
+same-length-15 c = search needs
+
+returns-9 : tie.Need-returns-9
+returns-9 c = search needs
+
+array-read-if6 : tie.Need-array-read-if6
+array-read-if6 c = search needs
+
+same-length-16 : tie.Need-same-length-16
+same-length-16 c = search needs
+
+same-length-17 : tie.Need-same-length-17
+same-length-17 c = search needs
+
+returns-10 : tie.Need-returns-10
+returns-10 c = search needs
+
+slice-reshare-prefix-answer-join : tie.Need-slice-reshare-prefix-answer-join
+slice-reshare-prefix-answer-join c = search needs
+
+slice-aggregate-answer-join : tie.Need-slice-aggregate-answer-join
+slice-aggregate-answer-join c = simp length-take (omega arith)
+
+slice-reshare-prefix-answer-join-2 : tie.Need-slice-reshare-prefix-answer-join-2
+slice-reshare-prefix-answer-join-2 c = search needs
+
+slice-aggregate-answer-join-2 : tie.Need-slice-aggregate-answer-join-2
+slice-aggregate-answer-join-2 c = simp length-take (omega arith)
+
+slice-relend-prefix-answer-join : tie.Need-slice-relend-prefix-answer-join
+slice-relend-prefix-answer-join c = search needs
+
+slice-aggregate-answer-join-3 : tie.Need-slice-aggregate-answer-join-3
+slice-aggregate-answer-join-3 c = simp length-take (omega arith)
+
+answer-join-requires : tie.Need-answer-join-requires
+answer-join-requires c κs = search needs
+
+same-length-18 : tie.Need-same-length-18
+same-length-18 c = search needs
+
+same-length-19 : tie.Need-same-length-19
+same-length-19 c = search needs
+
+same-length-20 : tie.Need-same-length-20
+same-length-20 c = search needs
+
+returns-11 : tie.Need-returns-11
+returns-11 c = search needs
+
+pub answer-case-spec : {M : Type 1} → statement M
+answer-case-spec =
+    tie.close
+    (tie.spec
+    slice-aggregate-read-full
+    read-full-requires
+    returns
+    read-sized-requires
+    enum-known-first
+    enum-told
+    same-length
+    returns-2
+    read-sized-requires-2
+    enum-known-second
+    enum-told-2
+    same-length-2
+    same-length-3
+    returns-3
+    read-four-requires
+    enum-known-third
+    enum-told-3
+    same-length-4
+    same-length-5
+    returns-4
+    same-length-6
+    same-length-7
+    returns-5
+    read-four-requires-2
+    enum-known-fourth
+    enum-told-4
+    same-length-8
+    same-length-9
+    returns-6
+    same-length-10
+    same-length-11
+    returns-7
+    same-length-12
+    same-length-13
+    returns-8
+    same-length-14
+    same-length-15
+    returns-9
+    array-read-if6
+    same-length-16
+    same-length-17
+    returns-10
+    slice-reshare-prefix-answer-join
+    slice-aggregate-answer-join
+    slice-reshare-prefix-answer-join-2
+    slice-aggregate-answer-join-2
+    slice-relend-prefix-answer-join
+    slice-aggregate-answer-join-3
+    answer-join-requires
+    same-length-18
+    same-length-19
+    same-length-20
+    returns-11)

@@ -1,0 +1,10 @@
+pub mod Cases
+pub mod Places
+pub mod OwnBytes
+pub mod Readings
+pub mod KindLayout
+pub mod RoundTrip
+pub mod Whole
+pub mod Limits
+pub mod Bounds
+pub mod Samples
