@@ -1,6 +1,4 @@
 // A record's own bytes: kind, map, trivia, and a list's count or a leaf's text.
-use answers::Reason;
-use answers::Refusal;
 use crate::grammar;
 use crate::grammar::Class;
 use crate::grammar::Items;
@@ -8,14 +6,18 @@ use crate::grammar::Kind;
 use crate::grammar::KindRead;
 use crate::grammar::Rule;
 use crate::grammar::TextRule;
+use answers::Reason;
+use answers::Refusal;
 use text::numbers;
 use text::numbers::Number;
 ghost use mathlib.Core.Path.{_≡_};
 ghost use mathlib.Core.List.{List};
-ghost use Prim.Native.Nat.{_<_, _≤_, _+_};
+ghost use Prim.Native.Nat.{_<_};
+ghost use mathlib.Core.Bool.{_&&_, _||_};
+ghost use lib.Dec.{eqb, leb};
 ghost use lib.ListN.{length};
 ghost use Rattle.tree.specs.Grammar.{Slot};
-ghost use Rattle.tree.specs.Own.{sizedEnd, triviumEnd, triviaEnd, fieldsFit, textFits, mapFits, mayStand, triviaRead, textEnd, layout, restOf, ownAt, readOwn, Fits};
+ghost use Rattle.tree.specs.Own.{sizedEnd, triviumEnd, triviaEnd, fieldsFit, textFits, elseFits, triviaFits, mapFits, mayStand, triviaRead, textEnd, layout, restOf, ownAt, readOwn, Fits};
 ghost use Rattle.tree.specs.Walk.{rowOf};
 
 // A record's own bytes, by their places: `trivia` is the place of its first trivia item, of which there are `trivia_count`; its text is
@@ -90,6 +92,16 @@ pub fn trivia_end(tree: &[u8], at: usize, count: usize) -> Span
     Span::Behind(place)
 }
 
+// Whether a field's bit may be as it is: its code is below 64 where the field must stand.
+fn slot_fits(slot: u64, bit: usize) -> bool
+    ensures { λ r. ⌜ r ≡ (eqb bit 1 || leb 64 slot) ⌝ }
+{
+    if bit == 1 {
+        return true;
+    }
+    64 <= slot
+}
+
 // Whether the fields' bits stand where the row's fields must and may, and nowhere else.
 fn fields_fit(row: u64, bits: usize) -> bool
     ensures { λ r. ⌜ ((slots : List Slot) → row ≡ rowOf slots → r ≡ fieldsFit slots bits) ⌝ }
@@ -97,11 +109,8 @@ fn fields_fit(row: u64, bits: usize) -> bool
     let mut slots = row;
     let mut rest = bits;
     while 0 < slots {
-        let slot = slots % 128;
-        if rest % 2 == 0 {
-            if slot < 64 {
-                return false;
-            }
+        if !slot_fits(slots % 128, rest % 2) {
+            return false;
         }
         slots = slots / 128;
         rest = rest / 2;
@@ -120,7 +129,30 @@ fn text_fits(rule: TextRule, bits: usize) -> bool
     }
 }
 
-// Whether a map is right for a record; the two fields of an else stand together or not at all.
+// Whether the two fields of an else stand together or not at all.
+fn else_fits(number: usize, bits: usize) -> bool
+    ensures { λ r. ⌜ r ≡ elseFits number bits ⌝ }
+{
+    if number != 10 {
+        return true;
+    }
+    bits / 8 % 2 == bits / 16 % 2
+}
+
+// Whether trivia stand only where they may.
+fn trivia_fits(rule: Rule, number: usize, map: usize) -> bool
+    ensures { λ r. ⌜ r ≡ triviaFits rule number map ⌝ }
+{
+    if map % 2 == 0 {
+        return true;
+    }
+    if rule.located {
+        return true;
+    }
+    number == 26
+}
+
+// Whether a map is right for a record.
 fn map_fits(rule: Rule, number: usize, kind: Kind, map: usize) -> bool
     ensures { λ r. ⌜ r ≡ mapFits rule number kind map ⌝ }
 {
@@ -130,21 +162,17 @@ fn map_fits(rule: Rule, number: usize, kind: Kind, map: usize) -> bool
     if number == 24 {
         return map == 0;
     }
-    if number == 26 {
-        return text_fits(text, bits);
-    }
-    if map % 2 == 1 {
-        if !rule.located {
-            return false;
-        }
+    if !trivia_fits(rule, number, map) {
+        return false;
     }
     if number == 25 {
         return text_fits(text, bits);
     }
-    if number == 10 {
-        if bits / 8 % 2 != bits / 16 % 2 {
-            return false;
-        }
+    if number == 26 {
+        return text_fits(text, bits);
+    }
+    if !else_fits(number, bits) {
+        return false;
     }
     fields_fit(grammar::row_of(kind, value), bits)
 }
@@ -242,7 +270,7 @@ fn text_end(tree: &[u8], at: usize, rule: TextRule) -> Span
             if high < byte {
                 return Span::Broken;
             }
-            Span::Behind(start + 1)
+            Span::Behind(at + 3)
         }
     }
 }
@@ -256,8 +284,29 @@ fn layout(place: usize) -> OwnRead
     })
 }
 
+// Whether a text stands: of a leaf or a path item, where the map has its bit.
+fn has_text(number: usize, map: usize) -> bool
+    ensures { λ r. ⌜ r ≡ ((eqb number 25 || eqb number 26) && leb 2 map) ⌝ }
+{
+    if number == 25 {
+        return 2 <= map;
+    }
+    if number == 26 {
+        return 2 <= map;
+    }
+    false
+}
+
 // What stands behind the trivia: a list's count, a leaf's text, or nothing more.
-fn read_rest(tree: &[u8], at: usize, text: TextRule, number: usize, kind: Kind, map: usize, trivia: TriviaSpan) -> OwnRead
+fn read_rest(
+    tree: &[u8],
+    at: usize,
+    text: TextRule,
+    number: usize,
+    kind: Kind,
+    map: usize,
+    trivia: TriviaSpan,
+) -> OwnRead
     ensures { λ r. ⌜ r ≡ restOf (now (tree .entry)) at text number kind map trivia ⌝ }
 {
     let behind = trivia.end;
@@ -276,22 +325,20 @@ fn read_rest(tree: &[u8], at: usize, text: TextRule, number: usize, kind: Kind, 
             count: count,
         });
     }
-    if number == 25 || number == 26 {
-        if 2 <= map {
-            let span = text_end(tree, behind, text);
-            let Span::Behind(end) = span else {
-                return layout(at);
-            };
-            return OwnRead::Record(Own {
-                kind: kind,
-                map: map,
-                trivia: trivia.first,
-                trivia_count: trivia.count,
-                text: behind + 2,
-                end: end,
-                count: 0,
-            });
-        }
+    if has_text(number, map) {
+        let span = text_end(tree, behind, text);
+        let Span::Behind(end) = span else {
+            return layout(at);
+        };
+        return OwnRead::Record(Own {
+            kind: kind,
+            map: map,
+            trivia: trivia.first,
+            trivia_count: trivia.count,
+            text: behind + 2,
+            end: end,
+            count: 0,
+        });
     }
     OwnRead::Record(Own {
         kind: kind,

@@ -1,34 +1,40 @@
+-- The loop's invariant: whatever fields the row has, some fields are left whose row and bits are left, and these fit if and only if all do. The measure is the row.
+use mathlib.Core.Path.{_≡_, refl}
+use mathlib.Core.List.{List}
+use native.Mathlib.Omega.{arith}
+use Rattle.tree.specs.Grammar.{Slot}
+use Rattle.tree.specs.Walk.{rowOf}
+use Rattle.tree.proofs.Maps.{Onward, fit-not, fit-on, fit-end}
 use Rattle.tree.proofs.own.fields_fit.Statement.{statement}
 use Rattle.tree.proofs.own.fields_fit.Tie as tie
-use Rattle.tree.proofs.own.fields_fit.Reads as reads
-use Rattle.tree.proofs.own.fields_fit.Lts as lts
 
 abbrev Inv-loop : tie.InvT-loop
-Inv-loop row bits slots₀ rest₀ slots rest = ?
+Inv-loop row bits slots₀ rest₀ slots rest = (fields : List Slot) → row ≡ rowOf fields → Onward fields bits slots rest
 
 abbrev μ-loop : tie.MeasureT-loop
-μ-loop row bits slots₀ rest₀ slots rest = ?
+μ-loop row bits slots₀ rest₀ slots rest = slots
 
--- src/own.rt:99:5
 loop-holds : tie.Need-loop-holds Inv-loop μ-loop
-loop-holds c = ?
+loop-holds c = λ fields e. record { left = fields; code = e; same = refl }
 
--- src/own.rt:103:17
+slot-fits-requires : tie.Need-slot-fits-requires Inv-loop μ-loop
+slot-fits-requires c κs = tt
+
 returns : tie.Need-returns Inv-loop μ-loop
-returns c = ?
+returns c =
+    λ fields e. fit-not (c .before .before .before .loop .inv fields e) (c .before .before .loop-test .taken) (c .before .slot-fits .ensures) (c .if1 .taken)
 
--- src/own.rt:99:5
 loop-less : tie.Need-loop-less Inv-loop μ-loop
-loop-less c = ?
+loop-less c = omega arith
 
--- src/own.rt:99:5
 loop-again : tie.Need-loop-again Inv-loop μ-loop
-loop-again c = ?
+loop-again c =
+    λ fields e. fit-on (c .before .before .before .loop .inv fields e) (c .before .before .loop-test .taken) (c .before .slot-fits .ensures) (c .if1 .left)
 
--- src/own.rt:94:1
 returns-2 : tie.Need-returns-2 Inv-loop μ-loop
-returns-2 c = ?
+returns-2 c = λ fields e. fit-end (c .before .loop .inv fields e) (c .loop-test .left)
 
 pub fields-fit-spec : {M : Type 1} → statement M
 fields-fit-spec =
-    tie.close (tie.spec Inv-loop μ-loop loop-holds returns loop-less loop-again returns-2)
+    tie.close
+    (tie.spec Inv-loop μ-loop loop-holds slot-fits-requires returns loop-less loop-again returns-2)

@@ -1,79 +1,76 @@
+-- Each answer is the one that the definition has after the same tests, for what the count or the text reads as.
+use mathlib.Core.Path.{sym, _∙_}
+use native.Mathlib.Omega.{arith}
+use Rattle.tree.proofs.OwnBytes.{text-held}
+use Rattle.tree.proofs.Spans.{read-inside}
+use Rattle.tree.proofs.OwnReading.{rest-list, rest-leaf, rest-none}
 use borrow.Author.Needs.{needs}
 use Rattle.tree.proofs.own.read_rest.Statement.{statement}
 use Rattle.tree.proofs.own.read_rest.Tie as tie
-use Rattle.tree.proofs.own.read_rest.Reads as reads
-use Rattle.tree.proofs.own.read_rest.Lts as lts
-use Rattle.text.proofs.numbers.read_number.Reads as read-number-reads
-use Rattle.tree.proofs.own.layout.Reads as layout-reads
-use Rattle.tree.proofs.own.text_end.Reads as text-end-reads
 
--- src/own.rt:265:13
 read-number-requires : tie.Need-read-number-requires
 read-number-requires c κs = search needs
 
--- src/own.rt:266:26
 enum-known-read : tie.Need-enum-known-read
 enum-known-read c = search needs
 
--- src/own.rt:267:13
 enum-told : tie.Need-enum-told
 enum-told c = search needs
 
--- src/own.rt:267:13
 layout-requires : tie.Need-layout-requires
 layout-requires c κs = search needs
 
--- src/own.rt:267:13
 returns : tie.Need-returns
-returns c = ?
+returns c =
+    c .layout .ensures ∙ rest-list _ _ _ _ _ _ _ (c .before .before .before .before .if1 .taken) (c .before .before .before .read-number .ensures) _ (c .before .enum-told .given .1)
 
--- src/own.rt:274:19
 add-t14 : tie.Need-add-t14
-add-t14 c = ?
+add-t14 c =
+    let start = c .before .before .before .before .before .before in
+    omega (arith, read-inside (start .args .tree .now) (start .args .trivia .end) (c .before .before .before .read-number .ensures) _ (c .before .read .given .1))
 
--- src/own.rt:275:18
 add-t15 : tie.Need-add-t15
-add-t15 c = ?
+add-t15 c =
+    let start = c .before .before .before .before .before .before in
+    omega (arith, read-inside (start .args .tree .now) (start .args .trivia .end) (c .before .before .before .read-number .ensures) _ (c .before .read .given .1))
 
--- src/own.rt:269:9
 returns-2 : tie.Need-returns-2
-returns-2 c = ?
+returns-2 c =
+    rest-list _ _ _ _ _ _ _ (c .before .before .before .before .if1 .taken) (c .before .before .before .read-number .ensures) _ (c .before .read .given .1)
 
--- src/own.rt:281:17
+has-text-requires : tie.Need-has-text-requires
+has-text-requires c κs = search needs
+
 text-end-requires : tie.Need-text-end-requires
 text-end-requires c κs = search needs
 
--- src/own.rt:282:30
 enum-known-span : tie.Need-enum-known-span
 enum-known-span c = search needs
 
--- src/own.rt:283:17
 enum-told-2 : tie.Need-enum-told-2
 enum-told-2 c = search needs
 
--- src/own.rt:283:17
 layout-requires-2 : tie.Need-layout-requires-2
 layout-requires-2 c κs = search needs
 
--- src/own.rt:283:17
 returns-3 : tie.Need-returns-3
-returns-3 c = ?
+returns-3 c =
+    c .layout2 .ensures
+    ∙ rest-leaf _ _ _ _ _ _ _ (c .before .before .before .before .before .before .if1 .left) (c .before .before .before .before .before .has-text .ensures) (c .before .before .before .before .if2 .taken)
+    (c .before .before .before .text-end .ensures) _ (c .before .enum-told2 .given .1)
 
--- src/own.rt:290:23
-add-t20 : tie.Need-add-t20
-add-t20 c = ?
+add-t18 : tie.Need-add-t18
+add-t18 c =
+    let start = c .before .before .before .before .before .before .before .before in
+    omega (arith, text-held (start .args .tree .now) (start .args .trivia .end) _ (start .args .text) (sym (c .before .before .before .text-end .ensures) ∙ c .before .span .given .1))
 
--- src/own.rt:285:13
 returns-4 : tie.Need-returns-4
-returns-4 c = ?
+returns-4 c =
+    rest-leaf _ _ _ _ _ _ _ (c .before .before .before .before .before .before .if1 .left) (c .before .before .before .before .before .has-text .ensures) (c .before .before .before .before .if2 .taken)
+    (c .before .before .before .text-end .ensures) _ (c .before .span .given .1)
 
--- src/own.rt:260:1
 returns-5 : tie.Need-returns-5
-returns-5 c = ?
-
--- src/own.rt:260:1
-returns-6 : tie.Need-returns-6
-returns-6 c = ?
+returns-5 c = rest-none _ _ _ _ _ _ _ (c .before .before .if1 .left) (c .before .has-text .ensures) (c .if2 .left)
 
 pub read-rest-spec : {M : Type 1} → statement M
 read-rest-spec =
@@ -87,12 +84,12 @@ read-rest-spec =
     add-t14
     add-t15
     returns-2
+    has-text-requires
     text-end-requires
     enum-known-span
     enum-told-2
     layout-requires-2
     returns-3
-    add-t20
+    add-t18
     returns-4
-    returns-5
-    returns-6)
+    returns-5)

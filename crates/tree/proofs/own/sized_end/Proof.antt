@@ -1,45 +1,42 @@
+-- Each answer is the one that the definition has for what the length reads as.
+use native.Mathlib.Omega.{arith}
+use Rattle.tree.proofs.Spans.{read-inside, sized-missing, sized-short, sized-whole}
 use borrow.Author.Needs.{needs}
 use Rattle.tree.proofs.own.sized_end.Statement.{statement}
 use Rattle.tree.proofs.own.sized_end.Tie as tie
-use Rattle.tree.proofs.own.sized_end.Reads as reads
-use Rattle.tree.proofs.own.sized_end.Lts as lts
-use Rattle.text.proofs.numbers.read_number.Reads as read-number-reads
 
--- src/own.rt:48:9
 read-number-requires : tie.Need-read-number-requires
 read-number-requires c κs = search needs
 
--- src/own.rt:49:22
 enum-known-number : tie.Need-enum-known-number
 enum-known-number c = search needs
 
--- src/own.rt:50:9
 enum-told : tie.Need-enum-told
 enum-told c = search needs
 
--- src/own.rt:50:9
 returns : tie.Need-returns
-returns c = ?
+returns c = sized-missing _ _ (c .before .before .read-number .ensures) (c .enum-told .given .1)
 
--- src/own.rt:52:17
 add-start : tie.Need-add-start
-add-start c = ?
+add-start c =
+    let start = c .before .before .before .before .before in
+    omega (arith, read-inside (start .args .tree .now) (start .args .at) (c .before .before .before .read-number .ensures) _ (c .before .number .given .1))
 
--- src/own.rt:53:8
 sub-if1 : tie.Need-sub-if1
-sub-if1 c = ?
+sub-if1 c =
+    let start = c .before .before .before .before .before in
+    read-inside (start .args .tree .now) (start .args .at) (c .before .before .before .read-number .ensures) _ (c .before .number .given .1)
 
--- src/own.rt:54:9
 returns-2 : tie.Need-returns-2
-returns-2 c = ?
+returns-2 c = sized-short _ _ (c .before .before .before .before .read-number .ensures) _ (c .before .before .number .given .1) (c .if1 .taken)
 
--- src/own.rt:56:18
 add-t6 : tie.Need-add-t6
-add-t6 c = ?
+add-t6 c =
+    let start = c .before .before .before .before .before .before in
+    omega (arith, read-inside (start .args .tree .now) (start .args .at) (c .before .before .before .before .read-number .ensures) _ (c .before .before .number .given .1))
 
--- src/own.rt:45:1
 returns-3 : tie.Need-returns-3
-returns-3 c = ?
+returns-3 c = sized-whole _ _ (c .before .before .before .before .read-number .ensures) _ (c .before .before .number .given .1) (c .if1 .left)
 
 pub sized-end-spec : {M : Type 1} → statement M
 sized-end-spec =

@@ -1,41 +1,38 @@
+-- Each answer is the one that the definition has after the same tests.
+use borrow.Author.Tests.{le-leb, lt-leb, lt-ltb, le-ltb, eq-eqb, ne-eqb}
+use Rattle.tree.specs.Own.{triviumEnd}
 use borrow.Author.Needs.{needs}
 use Rattle.tree.proofs.own.trivium_end.Statement.{statement}
 use Rattle.tree.proofs.own.trivium_end.Tie as tie
-use Rattle.tree.proofs.own.trivium_end.Reads as reads
-use Rattle.tree.proofs.own.trivium_end.Lts as lts
-use Rattle.tree.proofs.own.sized_end.Reads as sized-end-reads
 
--- src/own.rt:64:9
 returns : tie.Need-returns
-returns c = ?
+unfolding triviumEnd
+returns c = simp (le-leb _ _ (c .if1 .taken))
 
--- src/own.rt:66:16
 shared-slice-read-code : tie.Need-shared-slice-read-code
 shared-slice-read-code c = search needs
 
--- src/own.rt:68:29
 add-t8 : tie.Need-add-t8
 add-t8 c = search needs
 
--- src/own.rt:68:9
 returns-2 : tie.Need-returns-2
-returns-2 c = ?
+unfolding triviumEnd
+returns-2 c = simp (lt-leb _ _ (c .before .before .if1 .left), eq-eqb _ _ (c .if2 .taken))
 
--- src/own.rt:71:9
 returns-3 : tie.Need-returns-3
-returns-3 c = ?
+unfolding triviumEnd
+returns-3 c = simp (lt-leb _ _ (c .before .before .before .if1 .left), ne-eqb _ _ (c .before .if2 .left), lt-ltb _ _ (c .if3 .taken))
 
--- src/own.rt:73:21
 add-sized-end : tie.Need-add-sized-end
 add-sized-end c = search needs
 
--- src/own.rt:73:5
 sized-end-requires : tie.Need-sized-end-requires
 sized-end-requires c κs = search needs
 
--- src/own.rt:60:1
 returns-4 : tie.Need-returns-4
-returns-4 c = ?
+unfolding triviumEnd
+returns-4 c =
+    simp (lt-leb _ _ (c .before .before .before .before .if1 .left), ne-eqb _ _ (c .before .before .if2 .left), le-ltb _ _ (c .before .if3 .left), c .sized-end .ensures)
 
 pub trivium-end-spec : {M : Type 1} → statement M
 trivium-end-spec =
