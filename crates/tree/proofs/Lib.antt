@@ -13,3 +13,8 @@ pub mod Rows
 pub mod Maps
 pub mod Spans
 pub mod OwnReading
+pub mod Planning
+pub mod Faults
+pub mod Records
+pub mod Judging
+pub mod Heads

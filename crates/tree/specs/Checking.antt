@@ -1,7 +1,7 @@
 -- The check of a tree: refusals 3, 4, 5 and 7 of document 01, with the limits on length and depth as arguments.
 use Prim.Native.Nat.{ℕ, _+_}
 use mathlib.Core.List.{List, [], _∷_}
-use mathlib.Core.Bool.{Bool, cond}
+use mathlib.Core.Bool.{cond}
 use lib.ListN.{length}
 use lib.Dec.{eqb, ltb}
 use Rattle.answers.specs.declared.Checked.{Checked}

@@ -1,6 +1,6 @@
 -- The grammar of a stored tree: document 01, "Tree", held against ast.rs. A line for each class says what may stand in a field of that Rust type; a line for
 -- each kind says which fields a record of it has, in declared order.
-use Prim.Native.Nat.{ℕ, _+_, _*_}
+use Prim.Native.Nat.{ℕ}
 use mathlib.Core.List.{List, [], _∷_, map}
 use mathlib.Core.Bool.{Bool, true, false}
 use lib.ListN.{getD}
@@ -12,7 +12,6 @@ use Rattle.tree.specs.declared.grammar.Class.{Class}
 use Rattle.tree.specs.declared.grammar.Class.the-variants.{Word, Char, OpenBrace, CloseBrace, Colon, Unit, Mnemonic, IndexRegister, AddressModifier, VariableType, NumberType, DataSize, BinaryOp, TextEncoding, AddressingMode, StringItem, LocatedExpression, BareExpression, LocatedFactor, BareToken, LocatedToken, BlockRecord, StringRecord, OperandRecord, SuffixRecord, AsRecord, ImportArguments, ImportPath, ExpressionArgument, IdentifierArgument, ImportArgument, Tokens, ExpressionArguments, IdentifierArguments, StringItems}
 use Rattle.tree.specs.declared.grammar.TextRule.{TextRule}
 use Rattle.tree.specs.declared.grammar.TextRule.the-variants.{NoText, Free, Byte}
-use Rattle.tree.specs.declared.grammar.Items.{Items}
 use Rattle.tree.specs.declared.grammar.Items.the-variants.{NoList, ListOf}
 use Rattle.tree.specs.declared.grammar.Rule.{Rule}
 

@@ -6,3 +6,4 @@ pub mod Stored
 pub mod Checking
 pub mod Measures
 pub mod Walk
+pub mod Parts

@@ -2,8 +2,8 @@
 -- layout, or the levels end, the tree has a node with the refusal there.
 use Prim.Native.Nat.{ℕ, zero, suc, _+_, _/_, _%_}
 use mathlib.Core.List.{List, [], _∷_, _++_}
-use mathlib.Core.Bool.{Bool, cond}
-use lib.ListN.{length, getD, replicate}
+use mathlib.Core.Bool.{cond}
+use lib.ListN.{getD, replicate}
 use lib.Seq.{slice}
 use lib.Dec.{eqb}
 use Rattle.answers.specs.declared.Checked.{Checked}

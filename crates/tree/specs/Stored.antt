@@ -1,7 +1,7 @@
 -- The stored form of a tree: document 01, "Tree", the shortest statement of the layout.
 use Prim.Native.Nat.{ℕ, _+_, _*_}
 use mathlib.Core.List.{List, [], _∷_, _++_}
-use mathlib.Core.Bool.{Bool, cond}
+use mathlib.Core.Bool.{cond}
 use lib.ListN.{length}
 use lib.Dec.{eqb}
 use Rattle.text.specs.Numbers.{twoBytes}

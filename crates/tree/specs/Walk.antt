@@ -1,8 +1,8 @@
 -- Not part of any promise of this crate: the grammar's rows as numbers, and what its inner functions hand on.
-use Prim.Native.Nat.{ℕ, _+_, _*_, _≤_, _<_}
+use Prim.Native.Nat.{ℕ, _+_, _*_}
 use mathlib.Core.Path.{_≡_}
 use mathlib.Core.List.{List, [], _∷_, _++_}
-use mathlib.Core.Bool.{Bool, cond}
+use mathlib.Core.Bool.{cond}
 use lib.ListN.{length, getD, replicate}
 use lib.Dec.{ltb}
 use Rattle.answers.specs.declared.Checked.{Checked}
@@ -98,6 +98,14 @@ abbrev pub NextOf : Part → List Due → Type 0
 NextOf (Next class rest) parts = (others : List Due) × (standing parts ≡ class ∷ standing others) × Plans rest others
 NextOf NoPart parts = standing parts ≡ []
 
+-- a number that is less for the rest of a plan
+abbrev pub planSize : Plan → ℕ
+planSize plan = plan .row + plan .count
+
+abbrev pub sizeWith : Part → ℕ
+sizeWith (Next class rest) = 1 + planSize rest
+sizeWith NoPart = 0
+
 -- ---- refusal 7 while the tree is read
 
 -- the place of the first byte that no text may hold; a place past the bytes while there is none
@@ -110,9 +118,9 @@ faultFrom bytes fault (text ∷ texts) = faultFrom bytes (faultWith bytes fault 
 
 -- ---- a record that was read
 
-abbrev pub recordOn : List ℕ → ℕ → Reading → Checked → RecordRead
-recordOn bytes fault reading Passed = Whole (reading .end) (faultFrom bytes fault (reading .texts))
-recordOn bytes fault reading (Failed refusal) = Refused refusal
+abbrev pub recordOn : List ℕ → ℕ → ℕ → List Placed → Checked → RecordRead
+recordOn bytes fault end texts Passed = Whole end (faultFrom bytes fault texts)
+recordOn bytes fault end texts (Failed refusal) = Refused refusal
 
 unfoldable pub recordRead : List ℕ → ℕ → Reading → RecordRead
-recordRead bytes fault reading = recordOn bytes fault reading (reading .checked)
+recordRead bytes fault reading = recordOn bytes fault (reading .end) (reading .texts) (reading .checked)

@@ -1,13 +1,13 @@
 // The check of a whole tree, in one pass.
-use answers::Checked;
-use answers::Reason;
-use answers::Refusal;
 use crate::grammar;
 use crate::grammar::Class;
 use crate::grammar::Items;
 use crate::own;
 use crate::own::Own;
 use crate::own::OwnRead;
+use answers::Checked;
+use answers::Reason;
+use answers::Refusal;
 use text::numbers;
 use text::scans;
 ghost use mathlib.Core.Path.{_≡_};
@@ -19,7 +19,7 @@ ghost use Rattle.tree.specs.Grammar.{Slot};
 ghost use Rattle.tree.specs.Own.{OwnFits, triviaEnd};
 ghost use Rattle.tree.specs.Reading.{Due, slotClass, partsDue, textsOf, triviaTexts, read};
 ghost use Rattle.tree.specs.Checking.{treeChecked, batchChecked};
-ghost use Rattle.tree.specs.Walk.{slotCode, Plans, NextOf, faultWith, faultFrom, recordRead};
+ghost use Rattle.tree.specs.Walk.{slotCode, Plans, NextOf, planSize, sizeWith, faultWith, faultFrom, recordRead};
 ghost use Rattle.tree.specs.declared.own.Span.the-variants.{Behind};
 
 // The parts of a record that are still to be read: the fields of a row whose bits stand, then `count` items of a class.
@@ -65,7 +65,7 @@ fn plan_of(class: Class, own: Own) -> Plan
     }
 }
 
-fn slot_class(slot: u64) -> Class
+pub(crate) fn slot_class(slot: u64) -> Class
     ensures { λ r. ⌜ ((field : Slot) → slot ≡ slotCode field → r ≡ slotClass field) ⌝ }
 {
     if slot < 64 {
@@ -77,6 +77,7 @@ fn slot_class(slot: u64) -> Class
 // The next part of a plan.
 fn next_part(plan: Plan) -> Part
     ensures { λ r. ⌜ ((parts : List Due) → Plans plan parts → NextOf r parts) ⌝ }
+    ensures { λ r. ⌜ sizeWith r ≤ planSize plan ⌝ }
 {
     let item = plan.item;
     let mut row = plan.row;
@@ -157,21 +158,22 @@ fn own_fault(tree: &[u8], own: Own, fault: usize) -> usize
     fault_in(tree, own.text, own.end, first)
 }
 
-// A refusal handed on.
-fn refused(read: OwnRead) -> RecordRead {
-    match read {
-        OwnRead::Record(own) => RecordRead::Whole(own.end, 0),
-        OwnRead::Refused(refusal) => RecordRead::Refused(refusal),
-    }
-}
-
 // The record of a class at a place, with all its parts.
-pub(crate) fn read_record(tree: &[u8], at: usize, class: Class, levels: usize, fault: usize) -> RecordRead
+pub(crate) fn read_record(
+    tree: &[u8],
+    at: usize,
+    class: Class,
+    levels: usize,
+    fault: usize,
+) -> RecordRead
     ensures { λ r. ⌜ r ≡ recordRead (now (tree .entry)) fault (read levels (now (tree .entry)) class at) ⌝ }
 {
     let read = own::read_own(tree, at, class, levels);
-    let OwnRead::Record(own) = read else {
-        return refused(read);
+    let own = match read {
+        OwnRead::Record(own) => own,
+        OwnRead::Refused(refusal) => {
+            return RecordRead::Refused(refusal);
+        }
     };
     let mut place = own.end;
     let mut seen = own_fault(tree, own, fault);

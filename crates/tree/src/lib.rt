@@ -2,4 +2,6 @@
 pub mod check;
 pub mod grammar;
 pub mod own;
+pub mod parts;
+
 pub use check::check_tree;

@@ -1,41 +1,49 @@
+-- The same tests as the definition's, on the place that `fault_at` finds in the part.
+use mathlib.Core.Path.{_≡_, ap, _∙_}
+use native.Mathlib.Omega.{arith}
+use lib.Seq.{slice, length-slice}
+use borrow.Author.Tests.{lt-ltb, le-ltb, lt-leb, le-leb}
 use borrow.Author.Needs.{needs}
+use Rattle.text.specs.Accepted.{faultAt}
+use Rattle.tree.proofs.Faults.{part-slice, fault-within, part-accepted}
 use Rattle.tree.proofs.check.fault_in.Statement.{statement}
 use Rattle.tree.proofs.check.fault_in.Tie as tie
-use Rattle.tree.proofs.check.fault_in.Reads as reads
-use Rattle.tree.proofs.check.fault_in.Lts as lts
-use Rattle.text.proofs.scans.fault_at.Reads as fault-at-reads
 
--- src/check.rt:121:9
 returns : tie.Need-returns
-returns c = ?
+returns c = simp (lt-ltb _ _ (c .if1 .taken))
 
--- src/check.rt:123:41
 sub-fault-at : tie.Need-sub-fault-at
 sub-fault-at c = search needs
 
--- src/check.rt:123:41
 part-fault-at-start : tie.Need-part-fault-at-start
 part-fault-at-start c = search needs
 
--- src/check.rt:123:41
 part-fault-at-end : tie.Need-part-fault-at-end
 part-fault-at-end c = search needs
 
--- src/check.rt:123:25
 fault-at-requires : tie.Need-fault-at-requires
 fault-at-requires c κs = search needs
 
--- src/check.rt:123:17
 add-found : tie.Need-add-found
-add-found c = ?
+add-found c =
+    let start = c .before .before .before .before in
+    let part = slice (start .args .start) (start .args .end) (start .args .tree .now) in
+    let found : c .fault-at .result ≡ faultAt part = c .fault-at .ensures ∙ ap faultAt (part-slice (start .args .start) (start .args .end) (start .args .tree .now)) in
+    omega (arith, fault-within part, length-slice (start .args .start) (start .args .end) (start .args .tree .now) (start .pre .1))
 
--- src/check.rt:125:9
 returns-2 : tie.Need-returns-2
-returns-2 c = ?
+returns-2 c =
+    let start = c .before .before .before .before .before in
+    let part = part-slice (start .args .start) (start .args .end) (start .args .tree .now) in
+    let accepted = part-accepted (start .args .start) (start .args .end) (start .args .tree .now) (start .pre .0) (start .pre .1) in
+    simp (le-ltb _ _ (c .before .before .before .if1 .left), accepted, ← part, ← (c .before .fault-at .ensures), lt-leb _ _ (c .if2 .taken))
 
--- src/check.rt:116:1
 returns-3 : tie.Need-returns-3
-returns-3 c = ?
+returns-3 c =
+    let start = c .before .before .before .before .before in
+    let part = part-slice (start .args .start) (start .args .end) (start .args .tree .now) in
+    let accepted = part-accepted (start .args .start) (start .args .end) (start .args .tree .now) (start .pre .0) (start .pre .1) in
+    simp (le-ltb _ _ (c .before .before .before .if1 .left), accepted, ← part, ← (c .before .fault-at .ensures), le-leb _ _ (c .if2 .left))
 
 pub fault-in-spec : {M : Type 1} → statement M
 fault-in-spec =

@@ -1,91 +1,92 @@
+-- At the head of the loop the items that are left give the place that all of them give.
+use mathlib.Core.Path.{_≡_, refl}
+use mathlib.Core.Logic.{⊎-elim}
+use Prim.Native.Nat.{_+_, _*_, _≤_}
+use native.Mathlib.Omega.{arith}
+use lib.ListN.{length, getD}
+use Rattle.tree.proofs.Faults.{ItemsLeft, items-done, item-inside, newline-on, text-inside, text-on}
 use Rattle.tree.proofs.check.fault_in_trivia.Statement.{statement}
 use Rattle.tree.proofs.check.fault_in_trivia.Tie as tie
-use Rattle.tree.proofs.check.fault_in_trivia.Reads as reads
-use Rattle.tree.proofs.check.fault_in_trivia.Lts as lts
-use Rattle.text.proofs.numbers.wide.Reads as wide-reads
-use Rattle.tree.proofs.check.fault_in.Reads as fault-in-reads
 
 abbrev Inv-loop : tie.InvT-loop
-Inv-loop tree at count fault place₀ left₀ found₀ place left found = ?
+Inv-loop tree at count fault place₀ left₀ found₀ place left found = ItemsLeft tree at count fault place left found
 
 abbrev μ-loop : tie.MeasureT-loop
-μ-loop tree at count fault place₀ left₀ found₀ place left found = ?
+μ-loop tree at count fault place₀ left₀ found₀ place left found = left
 
--- src/check.rt:138:5
 loop-holds : tie.Need-loop-holds Inv-loop μ-loop
-loop-holds c = ?
+loop-holds c = record { end = c .before .pre .0; items = c .before .pre .1; same = refl }
 
--- src/check.rt:139:12
 shared-slice-read-if1 : tie.Need-shared-slice-read-if1 Inv-loop μ-loop
-shared-slice-read-if1 c = ?
+shared-slice-read-if1 c = omega (arith, item-inside _ _ _ _ _ _ _ (c .before .before .loop .inv) (c .before .loop-test .taken))
 
--- src/check.rt:140:13
 add-place : tie.Need-add-place Inv-loop μ-loop
-add-place c = ?
+add-place c = omega (arith, item-inside _ _ _ _ _ _ _ (c .before .before .before .loop .inv) (c .before .before .loop-test .taken))
 
--- src/check.rt:142:45
 add-wide : tie.Need-add-wide Inv-loop μ-loop
-add-wide c = ?
+add-wide c = omega (arith, item-inside _ _ _ _ _ _ _ (c .before .before .before .loop .inv) (c .before .before .loop-test .taken))
 
--- src/check.rt:142:40
+-- an item with a text has its length and its bytes
+text-room : (c : tie.Else1 Inv-loop μ-loop)
+    → let place = c .before .before .before .loop .place in
+    let bytes = c .before .before .before .before .before .args .tree .now in
+    place + 3 + (getD bytes (place + 1) 0 + 256 * getD bytes (place + 2) 0) ≤ length bytes
+text-room c = text-inside _ _ _ _ _ _ _ (c .before .before .before .loop .inv) (c .before .before .loop-test .taken) (c .if1 .left) _ refl
+
 shared-slice-read-wide : tie.Need-shared-slice-read-wide Inv-loop μ-loop
-shared-slice-read-wide c = ?
+shared-slice-read-wide c = omega (arith, text-room (c .before))
 
--- src/check.rt:142:26
 wide-requires : tie.Need-wide-requires Inv-loop μ-loop
-wide-requires c κs = ?
+wide-requires c κs = tt
 
--- src/check.rt:142:84
 add-wide-2 : tie.Need-add-wide-2 Inv-loop μ-loop
-add-wide-2 c = ?
+add-wide-2 c = omega (arith, text-room (c .before .before))
 
--- src/check.rt:142:79
 shared-slice-read-wide-2 : tie.Need-shared-slice-read-wide-2 Inv-loop μ-loop
-shared-slice-read-wide-2 c = ?
+shared-slice-read-wide-2 c = omega (arith, text-room (c .before .before .before))
 
--- src/check.rt:142:65
 wide-requires-2 : tie.Need-wide-requires-2 Inv-loop μ-loop
-wide-requires-2 c κs = ?
+wide-requires-2 c κs = tt
 
--- src/check.rt:142:59
 mul-length : tie.Need-mul-length Inv-loop μ-loop
-mul-length c = ?
+mul-length c = omega arith
 
--- src/check.rt:142:26
 add-length : tie.Need-add-length Inv-loop μ-loop
-add-length c = ?
+add-length c = omega arith
 
--- src/check.rt:143:25
 add-start : tie.Need-add-start Inv-loop μ-loop
-add-start c = ?
+add-start c = omega (arith, text-room (c .before .before .before .before))
 
--- src/check.rt:144:43
 add-fault-in : tie.Need-add-fault-in Inv-loop μ-loop
-add-fault-in c = ?
+add-fault-in c = omega (arith, text-room (c .before .before .before .before))
 
--- src/check.rt:144:13
 fault-in-requires : tie.Need-fault-in-requires Inv-loop μ-loop
-fault-in-requires c κs = ?
+fault-in-requires c κs = omega (arith, text-room (c .before .before .before .before))
 
--- src/check.rt:145:21
 add-place-2 : tie.Need-add-place-2 Inv-loop μ-loop
-add-place-2 c = ?
+add-place-2 c = omega (arith, text-room (c .before .before .before .before .before))
 
--- src/check.rt:147:9
 sub-left : tie.Need-sub-left Inv-loop μ-loop
-sub-left c = ?
+sub-left c = omega arith
 
--- src/check.rt:138:5
 loop-less : tie.Need-loop-less Inv-loop μ-loop
-loop-less c = ?
+loop-less c = omega arith
 
--- src/check.rt:138:5
 loop-again : tie.Need-loop-again Inv-loop μ-loop
-loop-again c = ?
+loop-again c =
+    let head = c .before .before .before .loop in
+    let taken = c .before .before .loop-test .taken in
+    let bytes = c .before .before .before .before .before .args .tree .now in
+    ⊎-elim
+    (λ way. rw (way .1, way .2) (newline-on _ _ _ _ _ _ _ (head .inv) taken (way .0 .taken)))
+    (λ way.
+    let sized : way .2 .result + 256 * way .4 .result ≡ getD bytes (head .place + 1) 0 + 256 * getD bytes (head .place + 2) 0 =
+    omega (arith, way .2 .ensures .0, way .4 .ensures .0) in
+    rw (way .6, way .7) (text-on _ _ _ _ _ _ _ (head .inv) taken (way .0 .left) _ sized _ (way .5 .ensures)))
+    (c .if1 .came)
 
--- src/check.rt:131:1
 returns : tie.Need-returns Inv-loop μ-loop
-returns c = ?
+returns c = items-done _ _ _ _ _ _ _ (c .before .loop .inv) (c .loop-test .left)
 
 pub fault-in-trivia-spec : {M : Type 1} → statement M
 fault-in-trivia-spec =

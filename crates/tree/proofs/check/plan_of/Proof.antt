@@ -1,34 +1,42 @@
+-- The row is that of the kind's fields, and the items are those of the class's rule.
+use mathlib.Core.Path.{sym, ap, _∙_}
 use borrow.Author.Needs.{needs}
+use Rattle.tree.specs.Grammar.{fields}
+use Rattle.tree.specs.Walk.{rowOf}
+use Rattle.tree.specs.declared.grammar.Rule.{Rule}
+use Rattle.tree.proofs.Planning.{plan-list, plan-fields}
 use Rattle.tree.proofs.check.plan_of.Statement.{statement}
 use Rattle.tree.proofs.check.plan_of.Tie as tie
-use Rattle.tree.proofs.check.plan_of.Reads as reads
-use Rattle.tree.proofs.check.plan_of.Lts as lts
-use Rattle.tree.proofs.grammar.row_of.Reads as row-of-reads
-use Rattle.tree.proofs.grammar.rule_of.Reads as rule-of-reads
 
--- src/check.rt:48:9
 rule-of-requires : tie.Need-rule-of-requires
 rule-of-requires c κs = search needs
 
--- src/check.rt:51:9
 row-of-requires : tie.Need-row-of-requires
 row-of-requires c κs = search needs
 
--- src/check.rt:53:23
 enum-known-items : tie.Need-enum-known-items
 enum-known-items c = search needs
 
--- src/check.rt:61:19
 enum-told : tie.Need-enum-told
 enum-told c = search needs
 
--- src/check.rt:44:1
 returns : tie.Need-returns
-returns c = ?
+returns c =
+    let calls = c .before .before .before .before in
+    let own = calls .before .before .args .own in
+    let same = calls .before .rule-of .ensures in
+    plan-list _ own _ _
+    (calls .row-of .ensures ∙ ap (λ (rule : Rule). rowOf (fields (own .kind) (rule .value))) same)
+    (sym (ap (λ (rule : Rule). rule .items) same) ∙ c .before .before .items .given .1)
 
--- src/check.rt:44:1
 returns-2 : tie.Need-returns-2
-returns-2 c = ?
+returns-2 c =
+    let calls = c .before .before .before in
+    let own = calls .before .before .args .own in
+    let same = calls .before .rule-of .ensures in
+    plan-fields _ own _ _
+    (calls .row-of .ensures ∙ ap (λ (rule : Rule). rowOf (fields (own .kind) (rule .value))) same)
+    (sym (ap (λ (rule : Rule). rule .items) same) ∙ c .before .enum-told .given .1)
 
 pub plan-of-spec : {M : Type 1} → statement M
 plan-of-spec =

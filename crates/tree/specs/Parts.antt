@@ -1,0 +1,87 @@
+-- What the walk over a tree reads beside the records' own bytes: the place behind a record, a trivia item, and a token's head.
+use Prim.Native.Nat.{ℕ, _+_, _-_}
+use mathlib.Core.List.{List, [], _∷_}
+use mathlib.Core.Bool.{cond, _||_}
+use lib.ListN.{getD}
+use lib.Dec.{eqb}
+use Rattle.answers.specs.declared.Checked.{Checked}
+use Rattle.answers.specs.declared.Checked.the-variants.{Passed, Failed}
+use Rattle.tree.specs.Grammar.{Slot, rule, fields}
+use Rattle.tree.specs.Own.{triviumEnd, readOwn}
+use Rattle.tree.specs.Reading.{slotClass, read}
+use Rattle.tree.specs.declared.grammar.Class.{Class}
+use Rattle.tree.specs.declared.grammar.Class.the-variants.{DataSize, BinaryOp, LocatedExpression, BareExpression, BlockRecord, ExpressionArguments}
+use Rattle.tree.specs.declared.own.Own.{Own}
+use Rattle.tree.specs.declared.own.OwnRead.{OwnRead}
+use Rattle.tree.specs.declared.own.OwnRead.the-variants.{Record, Refused}
+use Rattle.tree.specs.declared.own.Span.{Span}
+use Rattle.tree.specs.declared.own.Span.the-variants.{Behind, Broken}
+use Rattle.tree.specs.declared.parts.Skipped.{Skipped}
+use Rattle.tree.specs.declared.parts.Skipped.the-variants.{Next, NotSkipped}
+use Rattle.tree.specs.declared.parts.TriviumSpan.{TriviumSpan}
+use Rattle.tree.specs.declared.parts.TriviumRead.{TriviumRead}
+use Rattle.tree.specs.declared.parts.TriviumRead.the-variants.{Item, BrokenItem}
+use Rattle.tree.specs.declared.parts.HeadRead.{HeadRead}
+use Rattle.tree.specs.declared.parts.HeadRead.the-variants.{Found, NoHead}
+
+-- ---- the place behind a record
+
+abbrev pub skippedOn : ℕ → Checked → Skipped
+skippedOn end Passed = Next end
+skippedOn end (Failed refusal) = NotSkipped refusal
+
+-- the place behind the record of a class, or the first refusal in it
+unfoldable pub skipped : ℕ → List ℕ → Class → ℕ → Skipped
+skipped levels bytes class at = skippedOn (read levels bytes class at .end) (read levels bytes class at .checked)
+
+-- ---- a trivia item
+
+-- the item between a place and the place behind it: its code, and the places of its text, of which a newline has none
+abbrev pub itemTo : List ℕ → ℕ → ℕ → TriviumSpan
+itemTo bytes at end = record { code = getD bytes at 0; start = cond (eqb (getD bytes at 0) 1) end (at + 3); end = end }
+
+abbrev pub triviumOn : List ℕ → ℕ → Span → TriviumRead
+triviumOn bytes at (Behind end) = Item (itemTo bytes at end)
+triviumOn bytes at Broken = BrokenItem
+
+-- "each a code (.. 1 newline ..) and, but for newline, a two-byte length and bytes"
+unfoldable pub triviumAt : List ℕ → ℕ → TriviumRead
+triviumAt bytes at = triviumOn bytes at (triviumEnd bytes at)
+
+-- ---- a token's head, as in `Token::trivia` of ast.rs
+
+-- the class of the first of some fields; a record without fields, which no token is, counts as its own
+abbrev pub firstClass : Class → List Slot → Class
+firstClass class [] = class
+firstClass class (slot ∷ slots) = slotClass slot
+
+-- the field of a class behind a first one
+abbrev pub secondField : ℕ → Class → Skipped → HeadRead
+secondField levels class (Next place) = Found (record { place = place; class = class; levels = levels })
+secondField levels class (NotSkipped refusal) = NoHead refusal
+
+-- of a `Data` (5) `size`, behind `values`; of a binary expression (28) `lhs`, behind `op`; of any other record its first field
+unfoldable pub fieldHead : ℕ → List ℕ → Class → ℕ → Own → HeadRead
+fieldHead levels bytes class number own =
+    cond (eqb number 5) (secondField (levels - 1) DataSize (skipped (levels - 1) bytes ExpressionArguments (own .end)))
+    (cond (eqb number 28) (secondField (levels - 1) LocatedExpression (skipped (levels - 1) bytes BinaryOp (own .end)))
+    (Found (record { place = own .end; class = firstClass class (fields (own .kind) (rule class .value)); levels = levels - 1 })))
+
+abbrev pub innerOn : ℕ → List ℕ → Class → ℕ → OwnRead → HeadRead
+innerOn levels bytes class at (Record own) = fieldHead levels bytes class (getD bytes at 0) own
+innerOn levels bytes class at (Refused refusal) = NoHead refusal
+
+unfoldable pub innerHead : ℕ → List ℕ → Class → ℕ → HeadRead
+innerHead levels bytes class at = innerOn levels bytes class at (readOwn bytes at class levels)
+
+-- of `Braces` (2) and `Config` (3) that of the block, its `{`; of an `Expression` (9) that of its expression
+abbrev pub headOn : ℕ → List ℕ → Class → ℕ → OwnRead → HeadRead
+headOn levels bytes class at (Refused refusal) = NoHead refusal
+headOn levels bytes class at (Record own) =
+    cond (eqb (getD bytes at 0) 2 || eqb (getD bytes at 0) 3) (innerHead (levels - 1) bytes BlockRecord (own .end))
+    (cond (eqb (getD bytes at 0) 9) (innerHead (levels - 1) bytes BareExpression (own .end))
+    (fieldHead levels bytes class (getD bytes at 0) own))
+
+-- the head of a token's record: its place, its class and the levels left there, or the refusal that is met before it
+unfoldable pub headAt : ℕ → List ℕ → Class → ℕ → HeadRead
+headAt levels bytes class at = headOn levels bytes class at (readOwn bytes at class levels)
