@@ -1,6 +1,7 @@
 -- The same events on the work room and the formatter's state, byte by byte.
-use Prim.Native.Nat.{ℕ, _+_}
-use mathlib.Core.List.{List, [], _∷_, _++_}
+use Prim.Native.Nat.{ℕ}
+use mathlib.Core.Path.{_≡_}
+use mathlib.Core.List.{List, _∷_}
 use mathlib.Core.Bool.{Bool, true, false, cond, not, _||_}
 use lib.ListN.{length}
 use lib.Dec.{eqb}
@@ -15,6 +16,8 @@ use Rattle.chunks.specs.declared.stored.ChunkType.{ChunkType}
 use Rattle.printing.specs.Events.{Events, nothing, push, space, clear, trim, stop, _▹_}
 use Rattle.printing.specs.declared.Context.{Context}
 use Rattle.printing.specs.declared.CodeFormatter.{CodeFormatter}
+use Rattle.printing.specs.declared.Printed.{Printed}
+use Rattle.printing.specs.declared.Printed.the-variants.{Done, Refused}
 
 -- "a pending space goes in front"
 abbrev pub withSpace : Bool → List ℕ → List ℕ
@@ -41,25 +44,29 @@ trimmed state = record { used = state .solid; solid = state .solid; «spc_if_nex
 abbrev pub chunkWith : CodeFormatter → ChunkType → Context → List ℕ → Chunk
 chunkWith state ty context text = record { ty = ty; indent = context .indent; text = withSpace (state .«spc_if_next») text }
 
+-- the state behind a chunk that ends at `end`; a newline chunk leaves the solid end where it was
+abbrev pub grown : CodeFormatter → ℕ → Bool → CodeFormatter
+grown state end newline = record { used = end; solid = cond newline (state .solid) end; «spc_if_next» = false; full = 0 }
+
 -- a state that is full: a push does nothing to it any more
 abbrev pub filled : CodeFormatter → ℕ → CodeFormatter
 filled state needed = record { used = state .used; solid = state .solid; «spc_if_next» = state .«spc_if_next»; full = needed }
 
--- the state behind an appended chunk; a chunk that cannot be stored (which none of a checked tree is) counts as one that does not fit in any room
-abbrev pub appendedState : CodeFormatter → List ℕ → Appended → CodeFormatter
-appendedState state text (Used end) = record { used = end; solid = cond (isNewline text) (state .solid) end; «spc_if_next» = false; full = 0 }
-appendedState state text (NoRoom needed) = filled state needed
-appendedState state text NoChunk = filled state 1048577
-appendedState state text UsedPastRoom = filled state 1048577
+-- the state behind an appended chunk, exactly a newline or not; a chunk that cannot be stored (which none of a checked tree is) counts as one that fits in no room
+abbrev pub behind : CodeFormatter → Bool → Appended → CodeFormatter
+behind state newline (Used end) = grown state end newline
+behind state newline (NoRoom needed) = filled state needed
+behind state newline NoChunk = filled state 1048577
+behind state newline UsedPastRoom = filled state 1048577
 
 -- "an empty text is no push and keeps the pending space"; on a full state nothing is pushed
 abbrev pub noPush : CodeFormatter → List ℕ → Bool
-noPush state text = isEmpty text || not (eqb (state .full) 0)
+noPush state text = not (eqb (state .full) 0) || isEmpty text
 
 unfoldable pub pushed : ℕ → CodeFormatter → ChunkType → Context → List ℕ → CodeFormatter
 pushed room state ty context text =
     cond (noPush state text) state
-    (appendedState state (withSpace (state .«spc_if_next») text) (appended room (state .used) (chunkWith state ty context text)))
+    (behind state (isNewline (withSpace (state .«spc_if_next») text)) (appended room (state .used) (chunkWith state ty context text)))
 
 unfoldable pub pushedRoom : List ℕ → CodeFormatter → ChunkType → Context → List ℕ → List ℕ
 pushedRoom room state ty context text = cond (noPush state text) room (roomAfter room (state .used) (chunkWith state ty context text))
@@ -88,8 +95,31 @@ run trim x = onGoing (λ room state. going room (trimmed state)) x
 run (stop why) x = onGoing (stopped why) x
 run (first ▹ next) x = run next (run first x)
 
+-- ---- what a printer of a record promises
+
+-- refusal 8: "place is the length needed at that push"
+abbrev pub noRoom : CodeFormatter → Refusal
+noRoom state = record { reason = WorkRoom; place = state .full }
+
 -- a record's end: a full state is refusal 8
 abbrev pub settled : Run → Run
-settled (going room state) =
-    cond (eqb (state .full) 0) (going room state) (ended room (record { reason = WorkRoom; place = state .full }))
+settled (going room state) = cond (eqb (state .full) 0) (going room state) (ended room (noRoom state))
 settled (ended room why) = ended room why
+
+-- the answer there
+abbrev pub finished : CodeFormatter → ℕ → Printed
+finished state end = cond (eqb (state .full) 0) (Done state end) (Refused (noRoom state))
+
+-- what an answer says of the run, and of the place behind the record
+abbrev pub outcome : Printed → List ℕ → Run
+outcome (Done state at) room = going room state
+outcome (Refused why) room = ended room why
+
+abbrev pub placeOf : Printed → ℕ → ℕ
+placeOf (Done state at) end = at
+placeOf (Refused why) end = end
+
+-- an answer and the room are what a run of the events leaves, and the place behind the record is `end`
+pub record Shown (answer : Printed) (room : List ℕ) (events : Events) (before : Run) (end : ℕ) : Type 0 where
+  pub state : outcome answer room ≡ settled (run events before)
+  pub next : placeOf answer end ≡ end

@@ -1,12 +1,15 @@
 // The formatter's state, and what every printer does to it: push a chunk, remember a space, forget it, drop newlines at the end.
+use answers::Reason;
+use answers::Refusal;
 use chunks::append;
 use chunks::append::Appended;
 use chunks::stored::ChunkType;
 use options::FormattingOptions;
 ghost use mathlib.Core.Path.{_≡_};
-ghost use mathlib.Core.List.{_++_};
+ghost use mathlib.Core.List.{[], _++_};
 ghost use lib.ListN.{length};
-ghost use Rattle.printing.specs.Running.{atStart, spaced, cleared, trimmed, filled, pushed, pushedRoom};
+ghost use Rattle.text.specs.Lines.{isEmpty, isNewline};
+ghost use Rattle.printing.specs.Running.{withSpace, atStart, spaced, cleared, trimmed, grown, filled, behind, pushed, pushedRoom, finished};
 
 // What stays the same down a subtree.
 pub struct Context {
@@ -21,6 +24,12 @@ pub struct CodeFormatter {
     pub solid: usize,
     pub spc_if_next: bool,
     pub full: usize,
+}
+
+// A printer's answer: the state and the place behind the record, or why the walk ended.
+pub enum Printed {
+    Done(CodeFormatter, usize),
+    Refused(Refusal),
 }
 
 impl CodeFormatter {
@@ -61,23 +70,43 @@ impl CodeFormatter {
     }
 
     // Pushes a text, handed over in two parts, as a chunk; a pending space goes in front.
-    pub fn push_type(self, room: &mut [u8], context: Context, ty: ChunkType, text: &[u8], back: &[u8]) -> Self
+    pub fn push_type(
+        self,
+        room: &mut [u8],
+        context: Context,
+        ty: ChunkType,
+        text: &[u8],
+        back: &[u8],
+    ) -> Self
         ensures { λ r. ⌜ r ≡ pushed (length (now (room .entry))) self ty context (now (text .entry) ++ now (back .entry)) ⌝ }
         ensures { λ _. ⌜ now (room .exit) ≡ pushedRoom (now (room .entry)) self ty context (now (text .entry) ++ now (back .entry)) ⌝ }
     {
         if self.full != 0 {
             return self;
         }
-        if text.len() == 0 {
-            if back.len() == 0 {
-                return self;
-            }
+        if no_text(text, back) {
+            return self;
         }
-        let used = self.used;
+        let pending = self.spc_if_next;
+        let newline = lone_newline(pending, text, back);
         let space = [32u8; 1];
-        let count = space_count(self.spc_if_next);
-        let newline = lone_newline(count, text, back);
-        let appended = append::append_chunk(room, used, ty, context.indent, &space[..count], text, back);
+        let count = space_count(pending);
+        let appended = append::append_chunk(
+            room,
+            self.used,
+            ty,
+            context.indent,
+            &space[..count],
+            text,
+            back,
+        );
+        self.behind(appended, newline)
+    }
+
+    // The state behind what appending answered, of a chunk that is exactly a newline or not.
+    fn behind(self, appended: Appended, newline: bool) -> Self
+        ensures { λ r. ⌜ r ≡ behind self newline appended ⌝ }
+    {
         match appended {
             Appended::Used(end) => self.grown(end, newline),
             Appended::NoRoom(needed) => self.filled(needed),
@@ -87,21 +116,18 @@ impl CodeFormatter {
     }
 
     // The state behind a chunk that ends at `end`.
-    fn grown(self, end: usize, newline: bool) -> Self {
+    fn grown(self, end: usize, newline: bool) -> Self
+        ensures { λ r. ⌜ r ≡ grown self end newline ⌝ }
+    {
+        let mut next = self;
+        next.used = end;
+        next.spc_if_next = false;
+        next.full = 0;
         if newline {
-            return CodeFormatter {
-                used: end,
-                solid: self.solid,
-                spc_if_next: false,
-                full: 0,
-            };
+            return next;
         }
-        CodeFormatter {
-            used: end,
-            solid: end,
-            spc_if_next: false,
-            full: 0,
-        }
+        next.solid = end;
+        next
     }
 
     // The state that remembers the length that did not fit.
@@ -119,31 +145,63 @@ impl CodeFormatter {
     {
         self.push_type(room, context, ChunkType::Code, text, b"")
     }
+
+    // The answer at the end of a record: a state that is full is refusal 8.
+    pub fn finish(self, end: usize) -> Printed
+        ensures { λ r. ⌜ r ≡ finished self end ⌝ }
+    {
+        if self.full == 0 {
+            return Printed::Done(self, end);
+        }
+        Printed::Refused(Refusal {
+            reason: Reason::WorkRoom,
+            place: self.full,
+        })
+    }
 }
 
 // How many spaces go in front.
-fn space_count(pending: bool) -> usize {
+fn space_count(pending: bool) -> usize
+    ensures { λ r. ⌜ r ≡ length (withSpace pending []) ⌝ }
+{
     if pending {
         return 1;
     }
     0
 }
 
-// Whether `count` spaces, a text and what stands behind it are exactly a newline.
-fn lone_newline(count: usize, text: &[u8], back: &[u8]) -> bool {
-    if count != 0 {
-        return false;
+// Whether a text in two parts is empty.
+fn no_text(text: &[u8], back: &[u8]) -> bool
+    ensures { λ r. ⌜ r ≡ isEmpty (now (text .entry) ++ now (back .entry)) ⌝ }
+{
+    if text.len() == 0 {
+        return back.len() == 0;
     }
+    false
+}
+
+// Whether a text is exactly a newline.
+fn is_newline(text: &[u8]) -> bool
+    ensures { λ r. ⌜ r ≡ isNewline (now (text .entry)) ⌝ }
+{
     if text.len() == 1 {
-        if back.len() == 0 {
-            return text[0] == 10;
-        }
+        return text[0] == 10;
+    }
+    false
+}
+
+// Whether a text in two parts, behind a pending space, is exactly a newline.
+fn lone_newline(pending: bool, text: &[u8], back: &[u8]) -> bool
+    ensures { λ r. ⌜ r ≡ isNewline (withSpace pending (now (text .entry) ++ now (back .entry))) ⌝ }
+{
+    if pending {
         return false;
     }
     if text.len() == 0 {
-        if back.len() == 1 {
-            return back[0] == 10;
-        }
+        return is_newline(back);
+    }
+    if back.len() == 0 {
+        return is_newline(text);
     }
     false
 }

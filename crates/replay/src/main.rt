@@ -94,6 +94,26 @@ fn answer_join(options: &[u8], chunks: &[u8], text: &mut [u8]) {
     }
 }
 
+// A case of the tree's check, which has no text.
+fn answer_check(bytes: &[u8], text: &mut [u8]) {
+    stores::fill(text, 0, text.len(), 165);
+    let checked = tree::check_tree(bytes);
+    write_head(checked.answer(), flag_of(text, 0));
+}
+
+// Answers a case by its command; false where there is no such command.
+fn answer_command(command: u8, options: &[u8], payload: &[u8], text: &mut [u8]) -> bool {
+    if command == b'J' {
+        answer_join(options, payload, text);
+        return true;
+    }
+    if command == b'K' {
+        answer_check(payload, text);
+        return true;
+    }
+    false
+}
+
 // One case; false where the input ends, or a case is cut, too long or of no command.
 fn answer_case(options: &mut [u8], payload: &mut [u8], text: &mut [u8]) -> bool {
     let mut command = [0u8; 1];
@@ -128,15 +148,8 @@ fn answer_case(options: &mut [u8], payload: &mut [u8], text: &mut [u8]) -> bool 
     if text.len() < text_length {
         return false;
     }
-    if command[0] != b'J' {
-        return false;
-    }
-    answer_join(
-        &options[..options_length],
-        &payload[..payload_length],
-        &mut text[..text_length],
-    );
-    true
+    let first_byte = command[0];
+    answer_command(first_byte, &options[..options_length], &payload[..payload_length], &mut text[..text_length])
 }
 
 // Answers every case; the buffers have the longest lengths that a case may have.

@@ -212,7 +212,7 @@ fn list_of(class: Class) -> Rule
 }
 
 // What may stand in a class.
-pub fn rule_of(class: Class) -> Rule
+pub(crate) fn rule_of(class: Class) -> Rule
     ensures { λ r. ⌜ r ≡ Grammar.rule class ⌝ }
 {
     match class {
@@ -316,7 +316,7 @@ const KINDS: [Kind; 43] = [
 ];
 
 // The kind that a byte stands for.
-pub fn kind_of(byte: usize) -> KindRead
+pub(crate) fn kind_of(byte: usize) -> KindRead
     ensures { λ r. ⌜ r ≡ Grammar.kindOf byte ⌝ }
 {
     if byte < 43 {
@@ -326,7 +326,7 @@ pub fn kind_of(byte: usize) -> KindRead
 }
 
 // The fields of a kind in one number: for each, from the lowest on, seven bits with its class's number, 64 more where it need not stand.
-pub fn row_of(kind: Kind, value: Class) -> u64
+pub(crate) fn row_of(kind: Kind, value: Class) -> u64
     ensures { λ r. ⌜ r ≡ rowOf (Grammar.fields kind value) ⌝ }
 {
     match kind {
@@ -460,7 +460,7 @@ const CLASSES: [Class; 36] = [
 ];
 
 // The class of a number in a row.
-pub fn class_of(number: u64) -> Class
+pub(crate) fn class_of(number: u64) -> Class
     ensures { λ r. ⌜ r ≡ classOf number ⌝ }
 {
     if number < 36 {

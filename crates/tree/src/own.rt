@@ -44,7 +44,7 @@ pub enum Span {
 }
 
 // A length of two bytes and as many bytes: the place behind them.
-pub fn sized_end(tree: &[u8], at: usize) -> Span
+pub(crate) fn sized_end(tree: &[u8], at: usize) -> Span
     ensures { λ r. ⌜ r ≡ sizedEnd (now (tree .entry)) at ⌝ }
 {
     let number = numbers::read_number(tree, at);
@@ -59,7 +59,7 @@ pub fn sized_end(tree: &[u8], at: usize) -> Span
 }
 
 // A trivia item: a code, and bytes unless it is a newline.
-pub fn trivium_end(tree: &[u8], at: usize) -> Span
+pub(crate) fn trivium_end(tree: &[u8], at: usize) -> Span
     ensures { λ r. ⌜ r ≡ triviumEnd (now (tree .entry)) at ⌝ }
 {
     if tree.len() <= at {
@@ -76,7 +76,7 @@ pub fn trivium_end(tree: &[u8], at: usize) -> Span
 }
 
 // `count` trivia items.
-pub fn trivia_end(tree: &[u8], at: usize, count: usize) -> Span
+pub(crate) fn trivia_end(tree: &[u8], at: usize, count: usize) -> Span
     ensures { λ r. ⌜ r ≡ triviaEnd (now (tree .entry)) at count ⌝ }
 {
     let mut place = at;

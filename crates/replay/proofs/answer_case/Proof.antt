@@ -119,8 +119,29 @@ same-length-15 c = search needs
 returns-9 : tie.Need-returns-9
 returns-9 c = search needs
 
-array-read-if6 : tie.Need-array-read-if6
-array-read-if6 c = search needs
+array-read-first-byte : tie.Need-array-read-first-byte
+array-read-first-byte c = search needs
+
+slice-reshare-prefix-answer-command : tie.Need-slice-reshare-prefix-answer-command
+slice-reshare-prefix-answer-command c = search needs
+
+slice-aggregate-answer-command : tie.Need-slice-aggregate-answer-command
+slice-aggregate-answer-command c = simp length-take (omega arith)
+
+slice-reshare-prefix-answer-command-2 : tie.Need-slice-reshare-prefix-answer-command-2
+slice-reshare-prefix-answer-command-2 c = search needs
+
+slice-aggregate-answer-command-2 : tie.Need-slice-aggregate-answer-command-2
+slice-aggregate-answer-command-2 c = simp length-take (omega arith)
+
+slice-relend-prefix-answer-command : tie.Need-slice-relend-prefix-answer-command
+slice-relend-prefix-answer-command c = search needs
+
+slice-aggregate-answer-command-3 : tie.Need-slice-aggregate-answer-command-3
+slice-aggregate-answer-command-3 c = simp length-take (omega arith)
+
+answer-command-requires : tie.Need-answer-command-requires
+answer-command-requires c κs = search needs
 
 same-length-16 : tie.Need-same-length-16
 same-length-16 c = search needs
@@ -128,41 +149,11 @@ same-length-16 c = search needs
 same-length-17 : tie.Need-same-length-17
 same-length-17 c = search needs
 
-returns-10 : tie.Need-returns-10
-returns-10 c = search needs
-
-slice-reshare-prefix-answer-join : tie.Need-slice-reshare-prefix-answer-join
-slice-reshare-prefix-answer-join c = search needs
-
-slice-aggregate-answer-join : tie.Need-slice-aggregate-answer-join
-slice-aggregate-answer-join c = simp length-take (omega arith)
-
-slice-reshare-prefix-answer-join-2 : tie.Need-slice-reshare-prefix-answer-join-2
-slice-reshare-prefix-answer-join-2 c = search needs
-
-slice-aggregate-answer-join-2 : tie.Need-slice-aggregate-answer-join-2
-slice-aggregate-answer-join-2 c = simp length-take (omega arith)
-
-slice-relend-prefix-answer-join : tie.Need-slice-relend-prefix-answer-join
-slice-relend-prefix-answer-join c = search needs
-
-slice-aggregate-answer-join-3 : tie.Need-slice-aggregate-answer-join-3
-slice-aggregate-answer-join-3 c = simp length-take (omega arith)
-
-answer-join-requires : tie.Need-answer-join-requires
-answer-join-requires c κs = search needs
-
 same-length-18 : tie.Need-same-length-18
 same-length-18 c = search needs
 
-same-length-19 : tie.Need-same-length-19
-same-length-19 c = search needs
-
-same-length-20 : tie.Need-same-length-20
-same-length-20 c = search needs
-
-returns-11 : tie.Need-returns-11
-returns-11 c = search needs
+returns-10 : tie.Need-returns-10
+returns-10 c = search needs
 
 pub answer-case-spec : {M : Type 1} → statement M
 answer-case-spec =
@@ -206,18 +197,15 @@ answer-case-spec =
     same-length-14
     same-length-15
     returns-9
-    array-read-if6
+    array-read-first-byte
+    slice-reshare-prefix-answer-command
+    slice-aggregate-answer-command
+    slice-reshare-prefix-answer-command-2
+    slice-aggregate-answer-command-2
+    slice-relend-prefix-answer-command
+    slice-aggregate-answer-command-3
+    answer-command-requires
     same-length-16
     same-length-17
-    returns-10
-    slice-reshare-prefix-answer-join
-    slice-aggregate-answer-join
-    slice-reshare-prefix-answer-join-2
-    slice-aggregate-answer-join-2
-    slice-relend-prefix-answer-join
-    slice-aggregate-answer-join-3
-    answer-join-requires
     same-length-18
-    same-length-19
-    same-length-20
-    returns-11)
+    returns-10)

@@ -1,0 +1,216 @@
+-- The events of a tree: formatting/mod.rs arm by arm, from `format_tokens` to the `Formattable` types. A clause for each kind, in the order of printing.
+use Prim.Native.Nat.{ℕ, _+_}
+use mathlib.Core.List.{List, [], _∷_, _++_}
+use mathlib.Core.Bool.{Bool, true, false, cond, not, _&&_, _||_}
+use lib.ListN.{getD}
+use lib.Dec.{eqb}
+use Rattle.options.specs.declared.BracePosition.{BracePosition}
+use Rattle.options.specs.declared.BracePosition.the-variants.{SameLine, NewLine}
+use Rattle.chunks.specs.declared.stored.ChunkType.the-variants as chunk
+use Rattle.text.specs.Lines.{isEmpty, isNewline}
+use Rattle.tree.specs.Tree.{Tree, Trivium, absent, refused, node, nil, cons, Align, Assert, Braces, Config, ConfigPair, Data, Definition, Eof, Error, Expression, If, Import, File, Instruction, Label, Loop, MacroDefinition, MacroInvocation, ProgramCounterDefinition, Segment, Test, Text, Trace, VariableDefinition, Vec, Leaf, PathItem, Block, BinaryExpression, Factor, CurrentProgramCounter, ExprParens, FunctionCall, IdentifierValue, Number, StringFactor, InterpolatedString, Operand, RegisterSuffix, ImportAs, ImportAll, SpecificImportArg, ArgItem}
+use Rattle.printing.specs.Events.{Events, nothing, push, space, clear, trim, stop, _▹_}
+use Rattle.printing.specs.declared.Context.{Context}
+use Rattle.events.specs.Printed.{Style, plain, mnemonic, register, operator, dataSize, encoding, variableType, numberType, modifier, ascii, printed}
+use Rattle.events.specs.Views.{ownTrivia, headTrivia, tokenNumber, stands, hasBlock, indexOf}
+
+-- ---- plain pushes
+
+-- a text of code
+abbrev pub word : Context → List ℕ → Events
+word context text = push chunk.Code context text
+
+abbrev pub blank : Context → Events
+blank context = word context (32 ∷ [])
+
+abbrev pub newline : Context → Events
+newline context = word context (10 ∷ [])
+
+-- ---- trivia: `Formattable for &Vec<Trivia>`
+
+-- comments are codes 2 and 3; whitespace prints nothing
+abbrev pub triviumEvents : Context → Trivium → Events
+triviumEvents context item =
+    cond (eqb (item .code) 0) nothing (cond (eqb (item .code) 1) (newline context) (push chunk.Comment context (item .text)))
+
+unfoldable pub triviaEvents : Context → List Trivium → Events
+triviaEvents context [] = nothing
+triviaEvents context (item ∷ items) = triviumEvents context item ▹ triviaEvents context items
+
+-- an item whose chunk, if it makes one, is exactly a newline
+abbrev pub onlyNewline : Trivium → Bool
+onlyNewline item = eqb (item .code) 0 || (eqb (item .code) 1 || (isEmpty (item .text) || isNewline (item .text)))
+
+-- "A newline chunk dropped first in a list is never held": trivia first in a block's list, without the newlines before any other chunk
+unfoldable pub leadEvents : Context → List Trivium → Events
+leadEvents context [] = nothing
+leadEvents context (item ∷ items) = cond (onlyNewline item) (leadEvents context items) (triviumEvents context item ▹ triviaEvents context items)
+
+abbrev pub listTrivia : Context → Bool → List Trivium → Events
+listTrivia context true trivia = leadEvents context trivia
+listTrivia context false trivia = triviaEvents context trivia
+
+-- ---- the newline rule of `format_tokens`, by the kinds' numbers
+
+unfoldable pub oneOf : ℕ → List ℕ → Bool
+oneOf number [] = false
+oneOf number (n ∷ ns) = eqb number n || oneOf number ns
+
+-- after a token of the same kind: `Braces`, `Definition`, `If`, `Loop`, `Segment`; `Import` and `Label` with a block
+abbrev pub afterSame : ℕ → Bool → Bool
+afterSame number block = oneOf number (2 ∷ 6 ∷ 10 ∷ 15 ∷ 19 ∷ []) || (oneOf number (11 ∷ 14 ∷ []) && block)
+
+-- two kinds of one group: `Assert` and `Trace`, `Data` and `Text`, `Instruction` and `MacroInvocation`
+abbrev pub grouped : ℕ → ℕ → Bool
+grouped previous number =
+    (oneOf previous (1 ∷ 22 ∷ []) && oneOf number (1 ∷ 22 ∷ []))
+    || ((oneOf previous (5 ∷ 21 ∷ []) && oneOf number (5 ∷ 21 ∷ [])) || (oneOf previous (13 ∷ 17 ∷ []) && oneOf number (13 ∷ 17 ∷ [])))
+
+-- after a token of another kind: all but groups; a `Label` only with a block, or after `Braces` or `If`
+abbrev pub afterOther : ℕ → ℕ → Bool → Bool
+afterOther previous number block = cond (eqb number 14) (block || oneOf previous (2 ∷ 10 ∷ [])) (not (grouped previous number))
+
+-- what stood before a token in its list
+pub data Before : Type 0 where
+  first : Before
+  behind : ℕ → Before
+
+-- none before the first token, nor before an `Error`
+abbrev pub breakBefore : Context → Before → ℕ → Bool → Events
+breakBefore context first number block = nothing
+breakBefore context (behind previous) number block =
+    cond (not (eqb number 8) && cond (eqb previous number) (afterSame number block) (afterOther previous number block)) (newline context) nothing
+
+-- ---- where a tree stands
+
+-- the end of a token list: the file's, or a block's, whose `}` stands for an added `Eof` with its trivia
+pub data Closing : Type 0 where
+  fileEnd : Closing
+  blockEnd : List Trivium → Closing
+
+-- how a tree prints by where it stands
+pub data Place : Type 0 where
+  leaf : Style → Place                        -- by itself, a leaf of a style
+  labelled : Place                            -- the id of a label
+  arguments : Place                           -- in an argument list
+  imports : Place                             -- in the argument list of an import
+  inString : Place                               -- in a string
+  tokens : Bool → Before → Closing → Place    -- in a token list: whether newlines first in it are dropped, what came before, its end
+
+abbrev pub closingEvents : Context → Bool → Before → Closing → Events
+closingEvents context drops before fileEnd = nothing
+closingEvents context drops before (blockEnd trivia) = listTrivia context drops trivia ▹ breakBefore context before 7 false
+
+-- the end of a list
+abbrev pub endEvents : Context → Place → Events
+endEvents context (leaf style) = nothing
+endEvents context labelled = nothing
+endEvents context arguments = clear
+endEvents context imports = clear
+endEvents context inString = nothing
+endEvents context (tokens drops before closing) = closingEvents context drops before closing
+
+-- an item of a list: itself without its own trivia and with them, and the items behind it where they stand
+abbrev pub itemEvents : Context → Place → Tree → Events → Events → (Place → Events) → Events
+itemEvents context (leaf style) item bare whole rest = whole ▹ rest (leaf style)
+itemEvents context labelled item bare whole rest = whole ▹ rest labelled
+itemEvents context arguments item bare whole rest = whole ▹ rest arguments
+itemEvents context imports item bare whole rest = whole ▹ rest imports
+itemEvents context inString item bare whole rest = bare ▹ rest inString
+itemEvents context (tokens drops before closing) item bare whole rest =
+    listTrivia context drops (headTrivia item) ▹ breakBefore context before (tokenNumber item) (hasBlock item)
+    ▹ bare ▹ rest (tokens false (behind (tokenNumber item)) closing)
+
+-- a leaf's text where it stands; a label is one chunk with its colon
+abbrev pub leafEvents : Context → Place → List ℕ → Events
+leafEvents context (leaf style) text = word context (printed context style text)
+leafEvents context labelled text = push chunk.Label context (text ++ (58 ∷ []))
+leafEvents context arguments text = word context text
+leafEvents context imports text = word context text
+leafEvents context inString text = word context text
+leafEvents context (tokens drops before closing) text = word context text
+
+-- the trivia of an argument's value are printed but in an import's list
+abbrev pub valueShown : Place → Bool
+valueShown (leaf style) = true
+valueShown labelled = true
+valueShown arguments = true
+valueShown imports = false
+valueShown inString = true
+valueShown (tokens drops before closing) = true
+
+-- inside a block
+abbrev pub deeper : Context → Context
+deeper context = record { options = context .options; indent = context .indent + context .options .whitespace .indent }
+
+-- `{` by the brace position, and a newline
+abbrev pub opening : Context → BracePosition → Events → Events
+opening context SameLine brace = brace ▹ newline context
+opening context NewLine brace = newline context ▹ brace ▹ newline context
+
+-- `else` and its block by the brace position
+abbrev pub elseEvents : Context → BracePosition → Events → Events → Events
+elseEvents context SameLine tag block = blank context ▹ tag ▹ blank context ▹ block
+elseEvents context NewLine tag block = newline context ▹ tag ▹ block
+
+-- the closing character and the suffix by the addressing mode: 3 is `Indirect`, 4 `OuterIndirect`; no other mode prints the character
+abbrev pub operandEvents : List ℕ → Events → Events → Events
+operandEvents mode rchar suffix =
+    cond (eqb (getD mode 0 0) 3) (suffix ▹ rchar) (cond (eqb (getD mode 0 0) 4) (rchar ▹ suffix) suffix)
+
+-- ---- the events of a tree: its context, where it stands, whether its own trivia are printed
+
+unfoldable pub eventsIn : Context → Place → Bool → Tree → Events
+eventsIn c place shown absent = nothing
+eventsIn c place shown (refused refusal) = stop refusal
+eventsIn c place shown (node offset trivia tree) = cond shown (triviaEvents c trivia) nothing ▹ eventsIn c place true tree
+eventsIn c place shown nil = endEvents c place
+eventsIn c place shown (cons item items) =
+    itemEvents c place item (eventsIn c (leaf plain) false item) (eventsIn c place true item) (λ next. eventsIn c next true items)
+eventsIn c place shown (Align tag value) = eventsIn c (leaf plain) false tag ▹ blank c ▹ eventsIn c (leaf plain) true value
+eventsIn c place shown (Assert tag value message) = eventsIn c (leaf plain) false tag ▹ blank c ▹ eventsIn c (leaf plain) true value ▹ space ▹ eventsIn c (leaf plain) true message
+eventsIn c place shown (Braces block) = eventsIn c (leaf plain) true block
+eventsIn c place shown (Config block) = eventsIn c (leaf plain) true block
+eventsIn c place shown (ConfigPair key eq value) = eventsIn c (leaf plain) false key ▹ blank c ▹ eventsIn c (leaf plain) true eq ▹ blank c ▹ eventsIn c (leaf plain) true value
+eventsIn c place shown (Data values size) = eventsIn c (leaf dataSize) false size ▹ blank c ▹ eventsIn c arguments true values
+eventsIn c place shown (Definition tag id value) = eventsIn c (leaf plain) false tag ▹ blank c ▹ eventsIn c (leaf plain) true id ▹ blank c ▹ eventsIn c (leaf plain) true value
+eventsIn c place shown (Eof unit) = nothing
+eventsIn c place shown (Error text) = eventsIn c (leaf plain) false text
+eventsIn c place shown (Expression expression) = eventsIn c (leaf plain) true expression
+eventsIn c place shown (If tagIf value then tagElse otherwise) = eventsIn c (leaf plain) false tagIf ▹ blank c ▹ eventsIn c (leaf plain) true value ▹ blank c ▹ eventsIn c (leaf plain) true then ▹ cond (stands tagElse) (elseEvents c (c .options .braces .position) (eventsIn c (leaf plain) true tagElse) (eventsIn c (leaf plain) true otherwise)) nothing
+eventsIn c place shown (Import tag args source filename block) = eventsIn c (leaf plain) false tag ▹ blank c ▹ eventsIn c imports true args ▹ blank c ▹ eventsIn c (leaf plain) true source ▹ blank c ▹ eventsIn c (leaf plain) true filename ▹ space ▹ eventsIn c (leaf plain) true block
+eventsIn c place shown (File tag filename) = eventsIn c (leaf plain) false tag ▹ blank c ▹ eventsIn c (leaf plain) true filename
+eventsIn c place shown (Instruction mnemonic′ operand) = eventsIn c (leaf mnemonic) false mnemonic′ ▹ space ▹ eventsIn c (leaf plain) true operand ▹ clear
+eventsIn c place shown (Label id colon block) = eventsIn c labelled false id ▹ eventsIn c (leaf plain) true block
+eventsIn c place shown (Loop tag expr block) = eventsIn c (leaf plain) false tag ▹ blank c ▹ eventsIn c (leaf plain) true expr ▹ blank c ▹ eventsIn c (leaf plain) true block
+eventsIn c place shown (MacroDefinition tag id lparen args rparen block) = eventsIn c (leaf plain) false tag ▹ blank c ▹ eventsIn c (leaf plain) true id ▹ eventsIn c (leaf plain) true lparen ▹ eventsIn c arguments true args ▹ eventsIn c (leaf plain) true rparen ▹ space ▹ eventsIn c (leaf plain) true block
+eventsIn c place shown (MacroInvocation id lparen args rparen) = eventsIn c (leaf plain) false id ▹ eventsIn c (leaf plain) true lparen ▹ eventsIn c arguments true args ▹ eventsIn c (leaf plain) true rparen
+eventsIn c place shown (ProgramCounterDefinition star eq value) = eventsIn c (leaf plain) false star ▹ blank c ▹ eventsIn c (leaf plain) true eq ▹ blank c ▹ eventsIn c (leaf plain) true value
+eventsIn c place shown (Segment tag id block) = eventsIn c (leaf plain) false tag ▹ blank c ▹ eventsIn c (leaf plain) true id ▹ blank c ▹ eventsIn c (leaf plain) true block
+eventsIn c place shown (Test tag id block) = eventsIn c (leaf plain) false tag ▹ space ▹ eventsIn c (leaf plain) true id ▹ space ▹ eventsIn c (leaf plain) true block
+eventsIn c place shown (Text tag encoding′ text) = eventsIn c (leaf plain) false tag ▹ space ▹ eventsIn c (leaf encoding) true encoding′ ▹ space ▹ eventsIn c (leaf plain) true text
+eventsIn c place shown (Trace tag lparen args rparen) = eventsIn c (leaf plain) false tag ▹ space ▹ eventsIn c (leaf plain) true lparen ▹ eventsIn c arguments true args ▹ eventsIn c (leaf plain) true rparen
+eventsIn c place shown (VariableDefinition ty id eq value) = eventsIn c (leaf variableType) false ty ▹ blank c ▹ eventsIn c (leaf plain) true id ▹ blank c ▹ eventsIn c (leaf plain) true eq ▹ blank c ▹ eventsIn c (leaf plain) true value
+eventsIn c place shown (Vec items) = eventsIn c place true items
+eventsIn c place shown (Leaf text) = leafEvents c place text
+eventsIn c place shown (PathItem text) = word c (123 ∷ []) ▹ word c text ▹ word c (125 ∷ [])
+eventsIn c place shown (Block lparen inner rparen) = opening c (c .options .braces .position) (eventsIn c (leaf plain) false lparen) ▹ eventsIn (deeper c) (tokens true first (blockEnd (ownTrivia rparen))) true inner ▹ trim ▹ newline c ▹ eventsIn c (leaf plain) false rparen
+eventsIn c place shown (BinaryExpression op lhs rhs) = eventsIn c (leaf plain) true lhs ▹ blank c ▹ eventsIn c (leaf operator) true op ▹ blank c ▹ eventsIn c (leaf plain) true rhs
+eventsIn c place shown (Factor factor tagNot tagNeg) = eventsIn c (leaf plain) true tagNot ▹ eventsIn c (leaf plain) true tagNeg ▹ eventsIn c (leaf plain) true factor
+eventsIn c place shown (CurrentProgramCounter star) = eventsIn c (leaf plain) true star
+eventsIn c place shown (ExprParens lparen inner rparen) = eventsIn c (leaf plain) true lparen ▹ eventsIn c (leaf plain) true inner ▹ eventsIn c (leaf plain) true rparen
+eventsIn c place shown (FunctionCall name lparen args rparen) = eventsIn c (leaf plain) true name ▹ eventsIn c (leaf plain) true lparen ▹ eventsIn c arguments true args ▹ eventsIn c (leaf plain) true rparen
+eventsIn c place shown (IdentifierValue path modifier′) = eventsIn c (leaf modifier) true modifier′ ▹ eventsIn c (leaf plain) true path
+eventsIn c place shown (Number ty value) = eventsIn c (leaf numberType) true ty ▹ eventsIn c (leaf plain) true value
+eventsIn c place shown (StringFactor string) = eventsIn c (leaf plain) true string
+eventsIn c place shown (InterpolatedString lquote items) = eventsIn c (leaf plain) true lquote ▹ eventsIn c inString true items ▹ word c (34 ∷ [])
+eventsIn c place shown (Operand expr lchar rchar mode suffix) = eventsIn c (leaf plain) true lchar ▹ eventsIn c (leaf plain) true expr ▹ operandEvents (indexOf mode) (eventsIn c (leaf plain) true rchar) (eventsIn c (leaf plain) true suffix)
+eventsIn c place shown (RegisterSuffix comma register′) = eventsIn c (leaf plain) true comma ▹ space ▹ eventsIn c (leaf register) true register′ ▹ clear
+eventsIn c place shown (ImportAs tag path) = eventsIn c (leaf plain) true tag ▹ blank c ▹ eventsIn c (leaf plain) true path
+eventsIn c place shown (ImportAll star alias) = eventsIn c (leaf plain) true star ▹ space ▹ eventsIn c (leaf plain) true alias ▹ clear
+eventsIn c place shown (SpecificImportArg path alias) = eventsIn c (leaf plain) true path ▹ space ▹ eventsIn c (leaf plain) true alias
+eventsIn c place shown (ArgItem value comma) = eventsIn c (leaf plain) (valueShown place) value ▹ eventsIn c (leaf plain) true comma ▹ space
+
+-- the events of a file: a token list of which no newline is dropped, with no end of its own
+abbrev pub eventsOf : Context → Tree → Events
+eventsOf context tree = eventsIn context (tokens false first fileEnd) true tree

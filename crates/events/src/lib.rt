@@ -1,0 +1,1 @@
+// The events of a tree: definitions only, which the printers' contracts cite.

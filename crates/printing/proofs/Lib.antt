@@ -1,0 +1,4 @@
+pub mod Pushing
+pub mod Running
+pub mod Holding
+pub mod Held
