@@ -51,7 +51,7 @@ modifiers = ">" ∷ "<" ∷ []
 
 -- how a leaf prints
 pub data Style : Type 0 where
-  plain : Style          -- as it stands
+  plain : Style  -- as it stands
   mnemonic : Style
   register : Style
   operator : Style

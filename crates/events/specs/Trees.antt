@@ -90,12 +90,12 @@ pub data Closing : Type 0 where
 
 -- how a tree prints by where it stands
 pub data Place : Type 0 where
-  leaf : Style → Place                        -- by itself, a leaf of a style
-  labelled : Place                            -- the id of a label
-  arguments : Place                           -- in an argument list
-  imports : Place                             -- in the argument list of an import
-  inString : Place                               -- in a string
-  tokens : Bool → Before → Closing → Place    -- in a token list: whether newlines first in it are dropped, what came before, its end
+  leaf : Style → Place  -- by itself, a leaf of a style
+  labelled : Place  -- the id of a label
+  arguments : Place  -- in an argument list
+  imports : Place  -- in the argument list of an import
+  inString : Place  -- in a string
+  tokens : Bool → Before → Closing → Place  -- in a token list: whether newlines first in it are dropped, what came before, its end
 
 abbrev pub closingEvents : Context → Bool → Before → Closing → Events
 closingEvents context drops before fileEnd = nothing

@@ -149,7 +149,12 @@ fn answer_case(options: &mut [u8], payload: &mut [u8], text: &mut [u8]) -> bool 
         return false;
     }
     let first_byte = command[0];
-    answer_command(first_byte, &options[..options_length], &payload[..payload_length], &mut text[..text_length])
+    answer_command(
+        first_byte,
+        &options[..options_length],
+        &payload[..payload_length],
+        &mut text[..text_length],
+    )
 }
 
 // Answers every case; the buffers have the longest lengths that a case may have.

@@ -83,7 +83,8 @@ fn show_all_options() {
     );
 }
 
-fn show_all_chunks() {
+// No line, one line, and lines of labels and code.
+fn show_labels_and_code() {
     show_join(b"no chunks", b"", b"\x00", 64);
     show_join(b"a newline", b"\x00\x01\x00\n", b"\x00", 64);
     show_join(
@@ -116,6 +117,10 @@ fn show_all_chunks() {
         b"\x00",
         64,
     );
+}
+
+// Comments.
+fn show_comments() {
     show_join(b"comment", b"\x02\x04\x00// c", b"\x00", 64);
     show_join(
         b"comment / two newlines / nop",
@@ -141,6 +146,10 @@ fn show_all_chunks() {
         b"\x40\x00",
         64,
     );
+}
+
+// Texts that do not fit, and lists that are refused.
+fn show_limits() {
     show_join(
         b"23 bytes in a buffer of 22",
         b"\x01\x02\x00a:\x00\x03\x00nop",
@@ -159,5 +168,7 @@ fn show_all_chunks() {
 
 fn main() {
     show_all_options();
-    show_all_chunks();
+    show_labels_and_code();
+    show_comments();
+    show_limits();
 }
