@@ -1,17 +1,11 @@
 -- What leaves print: document 01, "Printed leaves": the `Display` texts of ast.rs and the mnemonics of mnemonic.rs, by index in declared order.
 use Prim.Native.Nat.{ℕ}
-use Prim.Native.String as string
 use Prim.Native.String.{String}
-use Prim.Native.Char.{code as codeOf}
-use mathlib.Core.List.{List, [], _∷_, _++_}
+use mathlib.Core.List.{List, [], _∷_}
 use lib.ListN.{getD}
 use Rattle.options.specs.Casings.{cased}
+unfoldable pub use Rattle.text.specs.Literals.{ascii}
 use Rattle.printing.specs.declared.Context.{Context}
-
--- the bytes of a text of ASCII characters
-unfoldable pub ascii : String → List ℕ
-ascii string.[] = []
-ascii (string._∷_ c text) = codeOf c ∷ ascii text
 
 -- "56 mnemonics of mnemonic.rs, `Adc` 0 to `Tya` 55"
 unfoldable pub mnemonics : List String

@@ -11,7 +11,7 @@ use Rattle.text.specs.Lines.{isEmpty, isNewline}
 use Rattle.tree.specs.Tree.{Tree, Trivium, absent, refused, node, nil, cons, Align, Assert, Braces, Config, ConfigPair, Data, Definition, Eof, Error, Expression, If, Import, File, Instruction, Label, Loop, MacroDefinition, MacroInvocation, ProgramCounterDefinition, Segment, Test, Text, Trace, VariableDefinition, Vec, Leaf, PathItem, Block, BinaryExpression, Factor, CurrentProgramCounter, ExprParens, FunctionCall, IdentifierValue, Number, StringFactor, InterpolatedString, Operand, RegisterSuffix, ImportAs, ImportAll, SpecificImportArg, ArgItem}
 use Rattle.printing.specs.Events.{Events, nothing, push, space, clear, trim, stop, _▹_}
 use Rattle.printing.specs.declared.Context.{Context}
-use Rattle.events.specs.Printed.{Style, plain, mnemonic, register, operator, dataSize, encoding, variableType, numberType, modifier, ascii, printed}
+use Rattle.events.specs.Printed.{Style, plain, mnemonic, register, operator, dataSize, encoding, variableType, numberType, modifier, printed}
 use Rattle.events.specs.Views.{ownTrivia, headTrivia, tokenNumber, stands, hasBlock, indexOf}
 
 -- ---- plain pushes

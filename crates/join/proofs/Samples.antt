@@ -17,7 +17,8 @@ use Rattle.chunks.specs.Judging.{endFrom, layoutChecked, textsChecked, chunksCh
 use Rattle.join.specs.Pieces.{cut, piecesOf, pieces}
 use Rattle.join.specs.Layout.{ignored, added, add, ends, standalone, setLine, keeps, after, keptLines}
 use Rattle.join.specs.Setting.{linesKept, textOf, joinOutcome}
-use Rattle.join.specs.Samples.{ascii, Sample, samples}
+use Rattle.text.specs.Literals.{ascii}
+use Rattle.join.specs.Samples.{Sample, samples}
 
 -- a buffer of so many marks
 abbrev marks : ℕ → List ℕ

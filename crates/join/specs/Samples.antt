@@ -1,17 +1,11 @@
 -- The starred samples of document 01 that are chunk lists, as one table: "Samples at L 20, C 30, right, indent 0 unless said".
 use Prim.Native.Nat.{ℕ}
-use Prim.Native.String as string
 use Prim.Native.String.{String}
-use Prim.Native.Char.{code as codeOf}
 use mathlib.Core.List.{List, [], _∷_, _++_}
 use Rattle.text.specs.Ink.{spaces}
+use Rattle.text.specs.Literals.{ascii}
 use Rattle.chunks.specs.Stored.{Chunk}
 use Rattle.chunks.specs.declared.stored.ChunkType.the-variants.{Code, Label, Comment}
-
--- the bytes of a text of ASCII characters
-unfoldable pub ascii : String → List ℕ
-ascii string.[] = []
-ascii (string._∷_ c text) = codeOf c ∷ ascii text
 
 abbrev pub code : String → Chunk
 code text = record { ty = Code; indent = 0; text = ascii text }

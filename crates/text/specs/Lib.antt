@@ -3,3 +3,4 @@ pub mod Lines
 pub mod Accepted
 pub mod Numbers
 pub mod Stores
+pub mod Literals
