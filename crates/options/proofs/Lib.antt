@@ -1,3 +1,4 @@
 pub mod Cased
 pub mod Values
 pub mod Examples
+pub mod RoundTrip

@@ -38,7 +38,7 @@ passed-both true refusal rest e = let z : _≡_ {A = ℕ} 0 1 = cc in absurd (om
 passed-both false refusal rest e = (refl, e)
 
 -- where the fields from k on are passed, field k is not too large, and those behind it are passed
-passed-step : (stored : List ℕ) (k n : ℕ) → valuesChecked stored k (suc n) ≡ Passed → (tooLarge stored k ≡ false) × (valuesChecked stored (k + 1) n ≡ Passed)
+pub passed-step : (stored : List ℕ) (k n : ℕ) → valuesChecked stored k (suc n) ≡ Passed → (tooLarge stored k ≡ false) × (valuesChecked stored (k + 1) n ≡ Passed)
 unfolding valuesChecked
 passed-step stored k n e = passed-both (tooLarge stored k) _ (valuesChecked stored (k + 1) n) e
 

@@ -1,3 +1,4 @@
 pub mod Types
 pub mod Stored
 pub mod Casings
+pub mod Forms
