@@ -1,0 +1,5 @@
+pub mod Samples
+pub mod Texts
+pub mod Pushes
+pub mod Storable
+pub mod Accepted
