@@ -11,10 +11,10 @@ sys.path.append(str(Path(__file__).parent / "model"))
 # The longest payload and buffer that `replay` takes.
 MOST = 1114112
 
-# A list with its options, and the length of the text buffer that is lent for it.
-Case = namedtuple("Case", "options chunks room")
+# `room` is the length of the text buffer that is lent.
+Case = namedtuple("Case", "command options payload room")
 
-# `text` is empty where the number is not 0.
+# `text` is empty where the number is not 0, and for the command K.
 Answer = namedtuple("Answer", "number value flag text")
 
 
@@ -22,9 +22,19 @@ def four(number):
     return number.to_bytes(4, "little")
 
 
+def join_case(options, chunks, room):
+    """A case of the column setter."""
+    return Case(b"J", options, chunks, room)
+
+
+def check_case(tree):
+    """A case of the tree's check, which takes no options and gives no text."""
+    return Case(b"K", b"", tree, 0)
+
+
 def stored_case(case):
-    """A case of the column setter as `replay` reads it; the work room's length is 0."""
-    parts = [b"J", four(len(case.options)), case.options, four(len(case.chunks)), case.chunks]
+    """A case as `replay` reads it; the work room's length is 0."""
+    parts = [case.command, four(len(case.options)), case.options, four(len(case.payload)), case.payload]
     return b"".join(parts + [four(0), four(case.room)])
 
 
@@ -50,11 +60,11 @@ def run(command, stream):
     return subprocess.run(command, input=stream, stdout=subprocess.PIPE, check=True).stdout
 
 
-def ask_rust(oracle, lists):
-    """For each (options, chunks) what the Rust gives: a text, or the number and place at which
-    the oracle's reader refuses. Texts of bytes 0 to 127 alone are accepted."""
-    queries = (b"j" + four(len(o)) + o + four(len(c)) + c for o, c in lists)
-    stream = run([oracle, "batch"], b"".join(queries))
+def ask_oracle(oracle, command, queries):
+    """For each (options, payload) what the oracle gives: bytes, or the number and place at which
+    its reader refuses."""
+    stream = b"".join(command + four(len(o)) + o + four(len(p)) + p for o, p in queries)
+    stream = run([oracle, "batch"], stream)
     given, at = [], 0
     while at < len(stream):
         status = stream[at]
@@ -68,15 +78,34 @@ def ask_rust(oracle, lists):
             given.append((int(number), int(place)))
         else:
             raise SystemExit(f"the Rust panicked: {bytes_given.decode()}")
-    if len(given) != len(lists):
-        raise SystemExit(f"{len(lists)} lists, but {len(given)} answers of the oracle")
+    if len(given) != len(queries):
+        raise SystemExit(f"{len(queries)} queries, but {len(given)} answers of the oracle")
     return given
 
 
-def answer_due(given, room):
+def ask_rust(oracle, lists):
+    """For each (options, chunks) the text of the Rust, or the number and place of a refusal. The small
+    letter accepts texts of bytes 0 to 127 alone."""
+    return ask_oracle(oracle, b"j", lists)
+
+
+def ask_reader(oracle, trees):
+    """For each tree None where the oracle's reader accepts it, else the number and place of the refusal.
+    Of the commands that read a tree, `p` does the least behind the reader; what it gives is not used."""
+    given = ask_oracle(oracle, b"p", [(b"\0", tree) for tree in trees])
+    return [answer if isinstance(answer, tuple) else None for answer in given]
+
+
+def join_due(given, room):
     """The answer that is due for what `ask_rust` gave and a text buffer of `room` bytes."""
     if isinstance(given, tuple):
         return Answer(given[0], given[1], 0, b"")
     if room < len(given):
         return Answer(9, len(given), 0, b"")
     return Answer(0, len(given), 0, given)
+
+
+def check_due(refusal):
+    """The answer that is due for a tree with this refusal, or with none."""
+    number, place = refusal or (0, 0)
+    return Answer(number, place, 0, b"")
