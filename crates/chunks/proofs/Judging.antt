@@ -23,10 +23,6 @@ use Rattle.chunks.specs.declared.stored.StoredChunk.{StoredChunk}
 use Rattle.chunks.specs.declared.stored.ChunkAt.the-variants.{Found, NoChunk}
 use Rattle.chunks.proofs.Reading.{chunks-found, chunks-none, chunk-end}
 
--- the place of the first fault is within the list, or its end
-pub fault-within : (xs : List ℕ) → faultAt xs ≤ length xs
-fault-within xs = by-test (acceptedText xs) (λ e. omega (arith, fault-none xs e)) (λ e. omega (arith, fault-some xs e))
-
 -- ---- from one chunk to the next
 
 -- the chunks end where those behind the first do

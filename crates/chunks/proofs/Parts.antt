@@ -3,16 +3,8 @@ use mathlib.Core.Path.{_≡_, refl, sym}
 use mathlib.Core.List.{List, [], _∷_, _++_}
 use Prim.Native.Nat.{ℕ, zero, suc, _+_, _-_, _≤_}
 use native.Mathlib.Omega.{arith}
-use native.Mathlib.Nat.{sub-zero, zero-sub, suc-sub-suc}
-use lib.ListN.{length, take, drop, take-append-drop}
-use lib.Seq.{slice, take-nil, take-append-add, take-append-seam, drop-append-seam}
-
--- a part that the code lends is the part between its places
-pub part-slice : (from to : ℕ) (list : List ℕ) → take (to - from) (drop from list) ≡ slice from to list
-part-slice zero to list = rw (sub-zero to)
-part-slice (suc from) to [] = simp take-nil
-part-slice (suc from) zero (x ∷ list) = rw (zero-sub (suc from))
-part-slice (suc from) (suc to) (x ∷ list) = rw (suc-sub-suc to from) (part-slice from to list)
+use lib.ListN.{length, drop, take-append-drop}
+use lib.Seq.{slice, take-append-add, take-append-seam, drop-append-seam}
 
 -- what stands behind a place is a part from there on and what stands behind the part
 pub part-drop : (from to : ℕ) (list : List ℕ) → from ≤ to → drop from list ≡ slice from to list ++ drop to list

@@ -12,7 +12,7 @@ use borrow.Author.Tests.{le-leb, ltb-true, ltb-false, leb-true, leb-false}
 use Rattle.text.specs.Ink.{spaces}
 use Rattle.text.specs.Stores.{storedBuffer}
 use Rattle.text.proofs.Choices.{by-test}
-use Rattle.chunks.proofs.Parts.{part-slice}
+use Rattle.text.proofs.Parts.{part-slice}
 use Rattle.join.specs.Walk.{put, puts, Room}
 use Rattle.join.specs.declared.piece.Step.{Step}
 use Rattle.join.specs.declared.line.Window.{Window}

@@ -2,7 +2,7 @@
 use mathlib.Core.Path.{_≡_, refl, sym}
 use mathlib.Core.List.{List, [], _∷_, _++_}
 use mathlib.Core.Bool.{true, false, _&&_}
-use Prim.Native.Nat.{ℕ, zero, suc, _<_}
+use Prim.Native.Nat.{ℕ, zero, suc, _≤_, _<_}
 use native.Mathlib.Omega.{arith}
 use lib.ListN.{length}
 use Rattle.text.specs.Ink.{spaces}
@@ -36,3 +36,7 @@ fault-some (x ∷ xs) e = by-test (acceptedByte x) (λ q. rw q (omega (arith, fa
 -- a text with no fault before its end is accepted
 pub fault-accepted : (xs : List ℕ) → faultAt xs ≡ length xs → acceptedText xs ≡ true
 fault-accepted xs e = by-test (acceptedText xs) (λ q. q) (λ q. absurd (omega (arith, fault-some xs q)))
+
+-- the first byte that is not accepted stands within the text, or at its end where all are
+pub fault-within : (text : List ℕ) → faultAt text ≤ length text
+fault-within text = by-test (acceptedText text) (λ t. omega (arith, fault-none text t)) (λ t. omega (arith, fault-some text t))

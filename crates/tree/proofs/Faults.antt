@@ -2,12 +2,11 @@
 use mathlib.Core.Path.{_≡_, refl, sym, _∙_}
 use mathlib.Core.List.{List, [], _∷_, _++_}
 use Prim.Native.Nat.{ℕ, zero, suc, _+_, _-_, _*_, _≤_, _<_}
-use native.Mathlib.Nat.{sub-zero, zero-sub, suc-sub-suc}
 use native.Mathlib.Numerals.{sub-one}
 use native.Mathlib.Omega.{arith}
 use lib.Dec.{ltb, leb}
-use lib.ListN.{length, getD, take, drop}
-use lib.Seq.{slice, take-nil, length-slice}
+use lib.ListN.{length, getD}
+use lib.Seq.{slice, length-slice}
 use borrow.Author.Tests.{le-leb, lt-leb, eq-eqb, ne-eqb}
 use Rattle.text.specs.Accepted.{acceptedText, faultAt}
 use Rattle.text.specs.Numbers.{numberAt}
@@ -21,17 +20,6 @@ use Rattle.tree.specs.declared.own.Span.the-variants.{Behind}
 use Rattle.tree.proofs.OwnBytes.{ItemHeld, items-held}
 
 -- ---- one text
-
--- a part that the code lends is the part between its places
-pub part-slice : (from to : ℕ) (bytes : List ℕ) → take (to - from) (drop from bytes) ≡ slice from to bytes
-part-slice zero to bytes = rw (sub-zero to)
-part-slice (suc from) to [] = simp take-nil
-part-slice (suc from) zero (x ∷ bytes) = rw (zero-sub (suc from))
-part-slice (suc from) (suc to) (x ∷ bytes) = rw (suc-sub-suc to from) (part-slice from to bytes)
-
--- a text's first byte that is not accepted stands within it, unless all are
-pub fault-within : (text : List ℕ) → faultAt text ≤ length text
-fault-within text = by-test (acceptedText text) (λ t. omega (arith, fault-none text t)) (λ t. omega (arith, fault-some text t))
 
 -- a part of the bytes is accepted where no such byte is found before its end
 pub part-accepted : (start end : ℕ) (bytes : List ℕ) → start ≤ end → end ≤ length bytes

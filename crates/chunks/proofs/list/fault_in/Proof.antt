@@ -5,8 +5,8 @@ use lib.Seq.{slice, length-slice}
 use borrow.Author.Tests.{lt-ltb, le-ltb}
 use borrow.Author.Needs.{needs}
 use Rattle.text.specs.Accepted.{faultAt}
-use Rattle.chunks.proofs.Parts.{part-slice}
-use Rattle.chunks.proofs.Judging.{fault-within}
+use Rattle.text.proofs.Parts.{part-slice}
+use Rattle.text.proofs.Accepted.{fault-within}
 use Rattle.chunks.proofs.list.fault_in.Statement.{statement}
 use Rattle.chunks.proofs.list.fault_in.Tie as tie
 

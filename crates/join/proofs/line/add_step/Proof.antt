@@ -2,7 +2,7 @@
 use mathlib.Core.List.{append-assoc}
 use native.Mathlib.Omega.{arith}
 use borrow.Author.Needs.{needs}
-use Rattle.chunks.proofs.Parts.{part-slice}
+use Rattle.text.proofs.Parts.{part-slice}
 use Rattle.join.proofs.line.add_step.Statement.{statement}
 use Rattle.join.proofs.line.add_step.Tie as tie
 

@@ -5,7 +5,9 @@ use lib.Seq.{slice, length-slice}
 use borrow.Author.Tests.{lt-ltb, le-ltb, lt-leb, le-leb}
 use borrow.Author.Needs.{needs}
 use Rattle.text.specs.Accepted.{faultAt}
-use Rattle.tree.proofs.Faults.{part-slice, fault-within, part-accepted}
+use Rattle.text.proofs.Parts.{part-slice}
+use Rattle.text.proofs.Accepted.{fault-within}
+use Rattle.tree.proofs.Faults.{part-accepted}
 use Rattle.tree.proofs.check.fault_in.Statement.{statement}
 use Rattle.tree.proofs.check.fault_in.Tie as tie
 
