@@ -1,0 +1,3 @@
+pub mod Items
+pub mod Texts
+pub mod Leaves

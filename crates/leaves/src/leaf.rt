@@ -1,0 +1,121 @@
+// Leaves: their trivia where they are shown, and their text by its style.
+use crate::texts;
+use crate::texts::Style;
+use crate::trivia;
+use printing::CodeFormatter;
+use printing::Context;
+use printing::Printed;
+use tree::grammar::Class;
+use tree::own;
+use tree::own::Own;
+use tree::own::OwnRead;
+ghost use mathlib.Core.Path.{_≡_};
+ghost use mathlib.Core.Bool.{cond};
+ghost use Prim.Native.Nat.{_≤_};
+ghost use lib.ListN.{length};
+ghost use lib.Seq.{slice};
+ghost use Rattle.tree.specs.Tree.{absent};
+ghost use Rattle.tree.specs.Own.{readOwn};
+ghost use Rattle.tree.specs.Reading.{read};
+ghost use Rattle.printing.specs.Events.{nothing, _▹_};
+ghost use Rattle.printing.specs.Running.{going, run, Shown};
+ghost use Rattle.events.specs.Printed.{printed};
+ghost use Rattle.events.specs.Trees as Trees;
+ghost use Rattle.events.specs.Trees.{word, triviaEvents, eventsIn};
+ghost use Rattle.leaves.specs.Items.{itemsAt};
+ghost use Rattle.leaves.specs.Texts.{styleOf};
+ghost use Rattle.leaves.specs.Leaves.{LeafClass, ownEvents, ownEnd};
+
+// The chunks of trivia that may be shown or not.
+fn shown_trivia(
+    tree: &[u8],
+    at: usize,
+    count: usize,
+    shown: bool,
+    context: Context,
+    room: &mut [u8],
+    state: CodeFormatter,
+) -> CodeFormatter
+    ensures { λ r. ⌜ run (cond shown (triviaEvents context (itemsAt (now (tree .entry)) at count)) nothing) (going (now (room .entry)) state) ≡ going (now (room .exit)) r ⌝ }
+{
+    if shown {
+        return trivia::format_trivia(tree, at, count, context, room, state);
+    }
+    state
+}
+
+// The chunks of a record's own bytes.
+fn format_own(
+    tree: &[u8],
+    own: Own,
+    style: Style,
+    shown: bool,
+    context: Context,
+    room: &mut [u8],
+    state: CodeFormatter,
+) -> Printed
+    requires { ⌜ (own .text ≤ own .end) × (own .end ≤ length (now tree)) ⌝ }
+    ensures { λ r. ⌜ Shown r (now (room .exit)) (cond shown (triviaEvents context (itemsAt (now (tree .entry)) (own .trivia) (own .«trivia_count»))) nothing ▹ word context (printed context (styleOf style) (slice (own .text) (own .end) (now (tree .entry))))) (going (now (room .entry)) state) (own .end) ⌝ }
+{
+    let start = own.text;
+    let end = own.end;
+    let behind = shown_trivia(
+        tree,
+        own.trivia,
+        own.trivia_count,
+        shown,
+        context,
+        room,
+        state,
+    );
+    let last = texts::push_text(tree, start, end, style, context, room, behind);
+    last.finish(end)
+}
+
+// A leaf of a class at a place, where so many levels are left. Of a record of any other class its trivia and its text, if it has one, are printed too, and the
+// place is the one behind its own bytes.
+pub fn format_leaf(
+    tree: &[u8],
+    at: usize,
+    class: Class,
+    levels: usize,
+    style: Style,
+    shown: bool,
+    context: Context,
+    room: &mut [u8],
+    state: CodeFormatter,
+) -> Printed
+    ensures { λ r. ⌜ Shown r (now (room .exit)) (ownEvents context (styleOf style) shown (now (tree .entry)) (readOwn (now (tree .entry)) at class levels)) (going (now (room .entry)) state) (ownEnd at (readOwn (now (tree .entry)) at class levels)) ⌝ }
+    ensures { λ r. ⌜ (LeafClass class → Shown r (now (room .exit)) (eventsIn context (Trees.leaf (styleOf style)) shown (read levels (now (tree .entry)) class at .tree)) (going (now (room .entry)) state) (read levels (now (tree .entry)) class at .end)) ⌝ }
+{
+    if state.full != 0 {
+        return state.finish(at);
+    }
+    let found = own::read_own(tree, at, class, levels);
+    match found {
+        OwnRead::Record(own) => format_own(tree, own, style, shown, context, room, state),
+        OwnRead::Refused(refusal) => Printed::Refused(refusal),
+    }
+}
+
+// A leaf that may stand or not: where it does not, nothing is printed.
+pub fn format_optional_leaf(
+    tree: &[u8],
+    at: usize,
+    class: Class,
+    levels: usize,
+    stands: bool,
+    style: Style,
+    shown: bool,
+    context: Context,
+    room: &mut [u8],
+    state: CodeFormatter,
+) -> Printed
+    ensures { λ r. ⌜ Shown r (now (room .exit)) (cond stands (ownEvents context (styleOf style) shown (now (tree .entry)) (readOwn (now (tree .entry)) at class levels)) nothing) (going (now (room .entry)) state) (cond stands (ownEnd at (readOwn (now (tree .entry)) at class levels)) at) ⌝ }
+    ensures { λ r. ⌜ (LeafClass class → Shown r (now (room .exit)) (eventsIn context (Trees.leaf (styleOf style)) shown (cond stands (read levels (now (tree .entry)) class at .tree) absent)) (going (now (room .entry)) state) (cond stands (read levels (now (tree .entry)) class at .end) at)) ⌝ }
+{
+    if stands {
+        return format_leaf(tree, at, class, levels, style, shown, context, room, state);
+    }
+    state.finish(at)
+}
