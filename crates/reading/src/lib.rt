@@ -1,0 +1,1 @@
+// Reading order and the eight places: definitions and laws only.
