@@ -12,7 +12,7 @@ use Rattle.answers.specs.declared.Refusal.{Refusal}
 use Rattle.text.proofs.Choices.{by-test, true-false, and-true-left, and-true-right}
 use Rattle.tree.specs.Tree.{built}
 use Rattle.tree.specs.Grammar.{kindOf, rule}
-use Rattle.tree.specs.Own.{mayStand, readOwn, Fits, OwnFits}
+use Rattle.tree.specs.Own.{mayStand, readOwn, refusalOf, Fits, OwnFits}
 use Rattle.tree.specs.Reading.{Reader, triviaOf, fieldsDue, partsDue, readParts, readOn, unread, read}
 use Rattle.tree.specs.declared.grammar.Class.{Class}
 use Rattle.tree.specs.declared.grammar.Kind.{Kind}
@@ -135,7 +135,8 @@ module _ (bytes : List ℕ) (class : Class) (at levels : ℕ) (context : Context
         (rw (own-items bytes at own fits is) at done)
 
     -- own bytes that were refused
-    pub refusal-shown : (why : Refusal) {room : List ℕ} {state : CodeFormatter} → found ≡ Refused why → state .full ≡ 0
-        → Shown (answer-is.Refused why) room (ownEvents context style shown bytes (readOwn bytes at class levels)) (going room state) (ownEnd at (readOwn bytes at class levels))
-    refusal-shown why is left =
-        told (ap (ownEvents context style shown bytes) (sym is ∙ same)) (ap (ownEnd at) (sym is ∙ same)) (stopped-there left)
+    pub refusal-shown : (why said : Refusal) {room : List ℕ} {state : CodeFormatter} → said ≡ refusalOf found → found ≡ Refused why → state .full ≡ 0
+        → Shown (answer-is.Refused said) room (ownEvents context style shown bytes (readOwn bytes at class levels)) (going room state) (ownEnd at (readOwn bytes at class levels))
+    refusal-shown why said says is left =
+        rw (says ∙ ap refusalOf is)
+        (told (ap (ownEvents context style shown bytes) (sym is ∙ same)) (ap (ownEnd at) (sym is ∙ same)) (stopped-there left))

@@ -92,10 +92,10 @@ pub fn format_leaf(
         return state.finish(at);
     }
     let found = own::read_own(tree, at, class, levels);
-    match found {
-        OwnRead::Record(own) => format_own(tree, own, style, shown, context, room, state),
-        OwnRead::Refused(refusal) => Printed::Refused(refusal),
-    }
+    let OwnRead::Record(own) = found else {
+        return Printed::Refused(own::refusal_of(found));
+    };
+    format_own(tree, own, style, shown, context, room, state)
 }
 
 // A leaf that may stand or not: where it does not, nothing is printed.

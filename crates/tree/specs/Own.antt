@@ -182,6 +182,11 @@ readOwn bytes at class levels =
     cond (leb (length bytes) at) (Refused (layout (length bytes)))
     (cond (eqb levels 0) (Refused (record { reason = TreeDepth; place = at })) (ownAt bytes at class))
 
+-- the refusal that reading met; a record that was read has none, and the place behind it stands for one
+abbrev pub refusalOf : OwnRead → Refusal
+refusalOf (Refused refusal) = refusal
+refusalOf (Record own) = layout (own .end)
+
 -- what holds of own bytes that were read: they stand behind the record's place and within the bytes, and their trivia items keep the layout
 pub record OwnFits (bytes : List ℕ) (at : ℕ) (own : Own) : Type 0 where
   pub behind : at + 2 ≤ own .text

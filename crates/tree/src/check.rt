@@ -169,11 +169,8 @@ pub(crate) fn read_record(
     ensures { λ r. ⌜ r ≡ recordRead (now (tree .entry)) fault (read levels (now (tree .entry)) class at) ⌝ }
 {
     let read = own::read_own(tree, at, class, levels);
-    let own = match read {
-        OwnRead::Record(own) => own,
-        OwnRead::Refused(refusal) => {
-            return RecordRead::Refused(refusal);
-        }
+    let OwnRead::Record(own) = read else {
+        return RecordRead::Refused(own::refusal_of(read));
     };
     let mut place = own.end;
     let mut seen = own_fault(tree, own, fault);

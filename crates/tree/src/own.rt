@@ -17,7 +17,7 @@ ghost use mathlib.Core.Bool.{_&&_, _||_};
 ghost use lib.Dec.{eqb, leb};
 ghost use lib.ListN.{length};
 ghost use Rattle.tree.specs.Grammar.{Slot};
-ghost use Rattle.tree.specs.Own.{sizedEnd, triviumEnd, triviaEnd, fieldsFit, textFits, elseFits, triviaFits, mapFits, mayStand, triviaRead, textEnd, layout, restOf, ownAt, readOwn, Fits};
+ghost use Rattle.tree.specs.Own.{sizedEnd, triviumEnd, triviaEnd, fieldsFit, textFits, elseFits, triviaFits, mapFits, mayStand, triviaRead, textEnd, layout, restOf, ownAt, readOwn, Fits, refusalOf};
 ghost use Rattle.tree.specs.Walk.{rowOf};
 
 // A record's own bytes, by their places: `trivia` is the place of its first trivia item, of which there are `trivia_count`; its text is
@@ -395,4 +395,17 @@ pub fn read_own(tree: &[u8], at: usize, class: Class, levels: usize) -> OwnRead
         });
     }
     own_at(tree, at, class)
+}
+
+// The refusal that reading met, for the else case of `let OwnRead::Record(own) = read else { .. }`; a record that was read has none, and the place behind it stands for one.
+pub fn refusal_of(read: OwnRead) -> Refusal
+    ensures { λ r. ⌜ r ≡ refusalOf read ⌝ }
+{
+    match read {
+        OwnRead::Record(own) => Refusal {
+            reason: Reason::TreeLayout,
+            place: own.end,
+        },
+        OwnRead::Refused(refusal) => refusal,
+    }
 }

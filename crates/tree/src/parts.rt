@@ -133,10 +133,10 @@ fn inner_head(tree: &[u8], at: usize, class: Class, levels: usize) -> HeadRead
     ensures { λ r. ⌜ r ≡ innerHead levels (now (tree .entry)) class at ⌝ }
 {
     let read = own::read_own(tree, at, class, levels);
-    match read {
-        OwnRead::Record(own) => field_head(tree, numbers::wide(tree[at]), class, own, levels),
-        OwnRead::Refused(refusal) => HeadRead::NoHead(refusal),
-    }
+    let OwnRead::Record(own) = read else {
+        return HeadRead::NoHead(own::refusal_of(read));
+    };
+    field_head(tree, numbers::wide(tree[at]), class, own, levels)
 }
 
 // The head of a token's record.
@@ -144,11 +144,8 @@ pub fn head_place(tree: &[u8], at: usize, class: Class, levels: usize) -> HeadRe
     ensures { λ r. ⌜ r ≡ headAt levels (now (tree .entry)) class at ⌝ }
 {
     let read = own::read_own(tree, at, class, levels);
-    let own = match read {
-        OwnRead::Record(own) => own,
-        OwnRead::Refused(refusal) => {
-            return HeadRead::NoHead(refusal);
-        }
+    let OwnRead::Record(own) = read else {
+        return HeadRead::NoHead(own::refusal_of(read));
     };
     let number = numbers::wide(tree[at]);
     if number == 2 || number == 3 {

@@ -16,25 +16,29 @@ read-own-requires c κs = search needs
 enum-known-found : tie.Need-enum-known-found
 enum-known-found c = search needs
 
+enum-told : tie.Need-enum-told
+enum-told c = search needs
+
+refusal-of-requires : tie.Need-refusal-of-requires
+refusal-of-requires c κs = search needs
+
+returns-2 : tie.Need-returns-2
+returns-2 c =
+    let read = c .before .before .before in
+    own-and-leaf _ _ _ _ _ _ _
+    (refusal-shown _ _ _ _ _ _ _ (read .read-own .ensures .0) _ _ (c .refusal-of .ensures) (c .before .enum-told .given .1) (read .before .if1 .left))
+
 format-own-requires : tie.Need-format-own-requires
 format-own-requires c κs = own-text _ _ _ (c .before .before .before .before .read-own .ensures .1) (c .before .before .found .given .1)
-
-enum-known-found-2 : tie.Need-enum-known-found-2
-enum-known-found-2 c = search needs
 
 same-length : tie.Need-same-length
 same-length c = search needs
 
-returns-2 : tie.Need-returns-2
-returns-2 c =
+returns-3 : tie.Need-returns-3
+returns-3 c =
     let found = c .before .before .before .before .before in
     let read = found .before .before .read-own .ensures in
     own-and-leaf _ _ _ _ _ _ _ (own-shown _ _ _ _ _ _ _ (read .0) _ (read .1) (found .found .given .1) (c .before .before .format-own .ensures))
-
-returns-3 : tie.Need-returns-3
-returns-3 c =
-    let read = c .before .before .before in
-    own-and-leaf _ _ _ _ _ _ _ (refusal-shown _ _ _ _ _ _ _ (read .read-own .ensures .0) _ (c .before .found2 .given .1) (read .before .if1 .left))
 
 pub format-leaf-spec : {M : Type 1} → statement M
 format-leaf-spec =
@@ -44,8 +48,9 @@ format-leaf-spec =
     returns
     read-own-requires
     enum-known-found
-    format-own-requires
-    enum-known-found-2
-    same-length
+    enum-told
+    refusal-of-requires
     returns-2
+    format-own-requires
+    same-length
     returns-3)

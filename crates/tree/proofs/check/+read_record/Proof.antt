@@ -1,12 +1,15 @@
 -- At the head of the loop the plan that is left goes on with the walk over the record's parts; each part stands one level further down.
-use mathlib.Core.Path.{sym, _∙_}
-use Prim.Native.Nat.{ℕ, _<_, _-_}
+use mathlib.Core.Path.{sym, ap, _∙_}
 use native.Mathlib.Omega.{arith}
 use borrow.Author.Needs.{needs}
+use Rattle.answers.specs.declared.Refusal.{Refusal}
+use Rattle.tree.specs.Own.{refusalOf}
 use Rattle.tree.specs.Reading.{read}
 use Rattle.tree.specs.Walk.{planSize}
+use Rattle.tree.specs.declared.check.RecordRead.the-variants.{Refused}
 use Rattle.tree.proofs.Planning.{rest-less}
 use Rattle.tree.proofs.Records.{PartsLeft, walkerOf, parts-start, read-refused, read-walked, level-left, walk-done, walk-refused, walk-on}
+use Prim.Native.Nat.{ℕ, _<_, _-_}
 use borrow.Fn.Kinds.{In}
 use borrow.Fn.PlainCycle.{Measures, is, falls, and}
 use Rattle.tree.proofs.check.read_record.Reads as read-record
@@ -16,6 +19,7 @@ use Rattle.tree.proofs.check.next_part.Reads as next-part-reads
 use Rattle.tree.proofs.check.own_fault.Reads as own-fault-reads
 use Rattle.tree.proofs.check.plan_of.Reads as plan-of-reads
 use Rattle.tree.proofs.own.read_own.Reads as read-own-reads
+use Rattle.tree.proofs.own.refusal_of.Reads as refusal-of-reads
 use Rattle.tree.proofs.check.+read_record.{statement}
 use Rattle.tree.proofs.check.+read_record.Tie.{close}
 
@@ -39,6 +43,8 @@ read-record-μ-loop tree at levels fault place₀ seen₀ plan₀ place seen pla
 read-record-read-own-requires : (t : ℕ) → read-record-lts.Need-read-own-requires (
   read-own-reads.Asked,
   read-own-reads.Learnt,
+  refusal-of-reads.Asked,
+  refusal-of-reads.Learnt,
   own-fault-reads.Asked,
   own-fault-reads.Learnt,
   plan-of-reads.Asked,
@@ -53,6 +59,8 @@ read-record-read-own-requires t c κs = tt
 read-record-enum-known-read : (t : ℕ) → read-record-lts.Need-enum-known-read (
   read-own-reads.Asked,
   read-own-reads.Learnt,
+  refusal-of-reads.Asked,
+  refusal-of-reads.Learnt,
   own-fault-reads.Asked,
   own-fault-reads.Learnt,
   plan-of-reads.Asked,
@@ -64,9 +72,11 @@ read-record-enum-known-read : (t : ℕ) → read-record-lts.Need-enum-known-read
 ) (read-record-at t) read-record.Post read-record-Inv-loop read-record-μ-loop
 read-record-enum-known-read t c = search needs
 
-read-record-enum-known-read-2 : (t : ℕ) → read-record-lts.Need-enum-known-read-2 (
+read-record-enum-told : (t : ℕ) → read-record-lts.Need-enum-told (
   read-own-reads.Asked,
   read-own-reads.Learnt,
+  refusal-of-reads.Asked,
+  refusal-of-reads.Learnt,
   own-fault-reads.Asked,
   own-fault-reads.Learnt,
   plan-of-reads.Asked,
@@ -76,11 +86,29 @@ read-record-enum-known-read-2 : (t : ℕ) → read-record-lts.Need-enum-known-re
   read-record-below t,
   read-record.Post,
 ) (read-record-at t) read-record.Post read-record-Inv-loop read-record-μ-loop
-read-record-enum-known-read-2 t c = search needs
+read-record-enum-told t c = search needs
+
+read-record-refusal-of-requires : (t : ℕ) → read-record-lts.Need-refusal-of-requires (
+  read-own-reads.Asked,
+  read-own-reads.Learnt,
+  refusal-of-reads.Asked,
+  refusal-of-reads.Learnt,
+  own-fault-reads.Asked,
+  own-fault-reads.Learnt,
+  plan-of-reads.Asked,
+  plan-of-reads.Learnt,
+  next-part-reads.Asked,
+  next-part-reads.Learnt,
+  read-record-below t,
+  read-record.Post,
+) (read-record-at t) read-record.Post read-record-Inv-loop read-record-μ-loop
+read-record-refusal-of-requires t c κs = tt
 
 read-record-returns : (t : ℕ) → read-record-lts.Need-returns (
   read-own-reads.Asked,
   read-own-reads.Learnt,
+  refusal-of-reads.Asked,
+  refusal-of-reads.Learnt,
   own-fault-reads.Asked,
   own-fault-reads.Learnt,
   plan-of-reads.Asked,
@@ -90,11 +118,16 @@ read-record-returns : (t : ℕ) → read-record-lts.Need-returns (
   read-record-below t,
   read-record.Post,
 ) (read-record-at t) read-record.Post read-record-Inv-loop read-record-μ-loop
-read-record-returns t c = read-refused _ _ _ _ _ (c .before .before .before .read-own .ensures .0) _ _ (c .before .read2 .given .1)
+read-record-returns t c =
+    let told = c .before .enum-told .given .1 in
+    ap (λ (why : Refusal). Refused why) (c .refusal-of .ensures ∙ ap refusalOf told)
+    ∙ read-refused _ _ _ _ _ (c .before .before .before .read-own .ensures .0) _ _ told
 
 read-record-own-fault-requires : (t : ℕ) → read-record-lts.Need-own-fault-requires (
   read-own-reads.Asked,
   read-own-reads.Learnt,
+  refusal-of-reads.Asked,
+  refusal-of-reads.Learnt,
   own-fault-reads.Asked,
   own-fault-reads.Learnt,
   plan-of-reads.Asked,
@@ -109,6 +142,8 @@ read-record-own-fault-requires t c κs = (c .before .before .before .before .bef
 read-record-plan-of-requires : (t : ℕ) → read-record-lts.Need-plan-of-requires (
   read-own-reads.Asked,
   read-own-reads.Learnt,
+  refusal-of-reads.Asked,
+  refusal-of-reads.Learnt,
   own-fault-reads.Asked,
   own-fault-reads.Learnt,
   plan-of-reads.Asked,
@@ -123,6 +158,8 @@ read-record-plan-of-requires t c κs = tt
 read-record-loop-holds : (t : ℕ) → read-record-lts.Need-loop-holds (
   read-own-reads.Asked,
   read-own-reads.Learnt,
+  refusal-of-reads.Asked,
+  refusal-of-reads.Learnt,
   own-fault-reads.Asked,
   own-fault-reads.Learnt,
   plan-of-reads.Asked,
@@ -137,6 +174,8 @@ read-record-loop-holds t c = parts-start _ _ _ _
 read-record-next-part-requires : (t : ℕ) → read-record-lts.Need-next-part-requires (
   read-own-reads.Asked,
   read-own-reads.Learnt,
+  refusal-of-reads.Asked,
+  refusal-of-reads.Learnt,
   own-fault-reads.Asked,
   own-fault-reads.Learnt,
   plan-of-reads.Asked,
@@ -151,6 +190,8 @@ read-record-next-part-requires t c κs = tt
 read-record-enum-known-part : (t : ℕ) → read-record-lts.Need-enum-known-part (
   read-own-reads.Asked,
   read-own-reads.Learnt,
+  refusal-of-reads.Asked,
+  refusal-of-reads.Learnt,
   own-fault-reads.Asked,
   own-fault-reads.Learnt,
   plan-of-reads.Asked,
@@ -162,9 +203,11 @@ read-record-enum-known-part : (t : ℕ) → read-record-lts.Need-enum-known-part
 ) (read-record-at t) read-record.Post read-record-Inv-loop read-record-μ-loop
 read-record-enum-known-part t c = search needs
 
-read-record-enum-told : (t : ℕ) → read-record-lts.Need-enum-told (
+read-record-enum-told-2 : (t : ℕ) → read-record-lts.Need-enum-told-2 (
   read-own-reads.Asked,
   read-own-reads.Learnt,
+  refusal-of-reads.Asked,
+  refusal-of-reads.Learnt,
   own-fault-reads.Asked,
   own-fault-reads.Learnt,
   plan-of-reads.Asked,
@@ -174,11 +217,13 @@ read-record-enum-told : (t : ℕ) → read-record-lts.Need-enum-told (
   read-record-below t,
   read-record.Post,
 ) (read-record-at t) read-record.Post read-record-Inv-loop read-record-μ-loop
-read-record-enum-told t c = search needs
+read-record-enum-told-2 t c = search needs
 
 read-record-returns-2 : (t : ℕ) → read-record-lts.Need-returns-2 (
   read-own-reads.Asked,
   read-own-reads.Learnt,
+  refusal-of-reads.Asked,
+  refusal-of-reads.Learnt,
   own-fault-reads.Asked,
   own-fault-reads.Learnt,
   plan-of-reads.Asked,
@@ -192,12 +237,14 @@ read-record-returns-2 t c =
     let begun = c .before .before .before .before in
     let own = begun .before .before .before in
     let turn = c .before .before in
-    walk-done _ _ _ _ _ _ _ (turn .before .loop .inv) _ (turn .next-part .ensures .0) (c .enum-told .given .1) _ (begun .plan-of .ensures)
+    walk-done _ _ _ _ _ _ _ (turn .before .loop .inv) _ (turn .next-part .ensures .0) (c .enum-told2 .given .1) _ (begun .plan-of .ensures)
     ∙ sym (read-walked _ _ _ _ _ (own .before .before .read-own .ensures .0) _ _ _ (own .read .given .1) (begun .before .own-fault .ensures))
 
 read-record-sub-read-record : (t : ℕ) → read-record-lts.Need-sub-read-record (
   read-own-reads.Asked,
   read-own-reads.Learnt,
+  refusal-of-reads.Asked,
+  refusal-of-reads.Learnt,
   own-fault-reads.Asked,
   own-fault-reads.Learnt,
   plan-of-reads.Asked,
@@ -214,6 +261,8 @@ read-record-sub-read-record t c =
 read-record-read-record-requires : (t : ℕ) → read-record-lts.Need-read-record-requires (
   read-own-reads.Asked,
   read-own-reads.Learnt,
+  refusal-of-reads.Asked,
+  refusal-of-reads.Learnt,
   own-fault-reads.Asked,
   own-fault-reads.Learnt,
   plan-of-reads.Asked,
@@ -230,6 +279,8 @@ read-record-read-record-requires t c κs =
 read-record-enum-known-whole : (t : ℕ) → read-record-lts.Need-enum-known-whole (
   read-own-reads.Asked,
   read-own-reads.Learnt,
+  refusal-of-reads.Asked,
+  refusal-of-reads.Learnt,
   own-fault-reads.Asked,
   own-fault-reads.Learnt,
   plan-of-reads.Asked,
@@ -241,9 +292,11 @@ read-record-enum-known-whole : (t : ℕ) → read-record-lts.Need-enum-known-who
 ) (read-record-at t) read-record.Post read-record-Inv-loop read-record-μ-loop
 read-record-enum-known-whole t c = search needs
 
-read-record-enum-told-2 : (t : ℕ) → read-record-lts.Need-enum-told-2 (
+read-record-enum-told-3 : (t : ℕ) → read-record-lts.Need-enum-told-3 (
   read-own-reads.Asked,
   read-own-reads.Learnt,
+  refusal-of-reads.Asked,
+  refusal-of-reads.Learnt,
   own-fault-reads.Asked,
   own-fault-reads.Learnt,
   plan-of-reads.Asked,
@@ -253,11 +306,13 @@ read-record-enum-told-2 : (t : ℕ) → read-record-lts.Need-enum-told-2 (
   read-record-below t,
   read-record.Post,
 ) (read-record-at t) read-record.Post read-record-Inv-loop read-record-μ-loop
-read-record-enum-told-2 t c = search needs
+read-record-enum-told-3 t c = search needs
 
 read-record-returns-3 : (t : ℕ) → read-record-lts.Need-returns-3 (
   read-own-reads.Asked,
   read-own-reads.Learnt,
+  refusal-of-reads.Asked,
+  refusal-of-reads.Learnt,
   own-fault-reads.Asked,
   own-fault-reads.Learnt,
   plan-of-reads.Asked,
@@ -272,12 +327,14 @@ read-record-returns-3 t c =
     let own = begun .before .before .before in
     let turn = c .before .before .before .before .before .before in
     walk-refused _ _ _ _ _ _ _ (turn .before .loop .inv) _ (turn .next-part .ensures .0) _ _ (c .before .before .before .before .part .given .1) _ _
-    (c .before .before .read-record .ensures) (c .enum-told2 .given .1) _ (begun .plan-of .ensures)
+    (c .before .before .read-record .ensures) (c .enum-told3 .given .1) _ (begun .plan-of .ensures)
     ∙ sym (read-walked _ _ _ _ _ (own .before .before .read-own .ensures .0) _ _ _ (own .read .given .1) (begun .before .own-fault .ensures))
 
 read-record-loop-less : (t : ℕ) → read-record-lts.Need-loop-less (
   read-own-reads.Asked,
   read-own-reads.Learnt,
+  refusal-of-reads.Asked,
+  refusal-of-reads.Learnt,
   own-fault-reads.Asked,
   own-fault-reads.Learnt,
   plan-of-reads.Asked,
@@ -294,6 +351,8 @@ read-record-loop-less t c =
 read-record-loop-again : (t : ℕ) → read-record-lts.Need-loop-again (
   read-own-reads.Asked,
   read-own-reads.Learnt,
+  refusal-of-reads.Asked,
+  refusal-of-reads.Learnt,
   own-fault-reads.Asked,
   own-fault-reads.Learnt,
   plan-of-reads.Asked,
@@ -312,6 +371,8 @@ pub +read-record-spec : {M : Type 1} → statement M
 +read-record-spec = close μ-read-record λ t. read-record-lts.spec (
   read-own-reads.Asked,
   read-own-reads.Learnt,
+  refusal-of-reads.Asked,
+  refusal-of-reads.Learnt,
   own-fault-reads.Asked,
   own-fault-reads.Learnt,
   plan-of-reads.Asked,
@@ -327,19 +388,20 @@ pub +read-record-spec : {M : Type 1} → statement M
     read-record-μ-loop
     (read-record-read-own-requires t)
     (read-record-enum-known-read t)
-    (read-record-enum-known-read-2 t)
+    (read-record-enum-told t)
+    (read-record-refusal-of-requires t)
     (read-record-returns t)
     (read-record-own-fault-requires t)
     (read-record-plan-of-requires t)
     (read-record-loop-holds t)
     (read-record-next-part-requires t)
     (read-record-enum-known-part t)
-    (read-record-enum-told t)
+    (read-record-enum-told-2 t)
     (read-record-returns-2 t)
     (read-record-sub-read-record t)
     (read-record-read-record-requires t)
     (read-record-enum-known-whole t)
-    (read-record-enum-told-2 t)
+    (read-record-enum-told-3 t)
     (read-record-returns-3 t)
     (read-record-loop-less t)
     (read-record-loop-again t)

@@ -1,7 +1,11 @@
 -- The same tests as the definition's, on the number of the record's kind.
 use mathlib.Core.Logic.{⊎-elim}
+use mathlib.Core.Path.{ap, _∙_}
 use native.Mathlib.Omega.{arith}
 use borrow.Author.Tests.{eq-eqb, ne-eqb}
+use Rattle.answers.specs.declared.Refusal.{Refusal}
+use Rattle.tree.specs.Own.{refusalOf}
+use Rattle.tree.specs.declared.parts.HeadRead.the-variants.{NoHead}
 use Rattle.tree.proofs.Records.{level-left}
 use Rattle.tree.proofs.Heads.{own-inside, head-refused, head-block, head-expression, head-field}
 use borrow.Author.Needs.{needs}
@@ -14,11 +18,17 @@ read-own-requires c κs = search needs
 enum-known-read : tie.Need-enum-known-read
 enum-known-read c = search needs
 
-enum-known-read-2 : tie.Need-enum-known-read-2
-enum-known-read-2 c = search needs
+enum-told : tie.Need-enum-told
+enum-told c = search needs
+
+refusal-of-requires : tie.Need-refusal-of-requires
+refusal-of-requires c κs = search needs
 
 returns : tie.Need-returns
-returns c = head-refused _ _ _ _ _ (c .before .before .before .read-own .ensures .0) _ (c .before .read2 .given .1)
+returns c =
+    let told = c .before .enum-told .given .1 in
+    ap (λ (why : Refusal). NoHead why) (c .refusal-of .ensures ∙ ap refusalOf told)
+    ∙ head-refused _ _ _ _ _ (c .before .before .before .read-own .ensures .0) _ told
 
 shared-slice-read-wide : tie.Need-shared-slice-read-wide
 shared-slice-read-wide c = omega (arith, own-inside _ _ _ _ (c .before .before .before .before .read-own .ensures .1) (c .before .before .read .given .1))
@@ -76,7 +86,8 @@ head-place-spec =
     (tie.spec
     read-own-requires
     enum-known-read
-    enum-known-read-2
+    enum-told
+    refusal-of-requires
     returns
     shared-slice-read-wide
     wide-requires
