@@ -1,10 +1,12 @@
 -- The chunks of sample trees, as one table: the definition's events hold the chunks that the Rust's formatter gives for the same tree and options.
 --   rows-held : map found rows ≡ map wanted rows
+-- And where the Rust's formatter puts a newline between two tokens, for every pair of kinds.
+--   breaks-held : map (λ previous. map (breakDigit previous) kinds) kinds ≡ map ascii breakRows
 use Prim.Native.Nat.{ℕ}
 use Prim.Native.String.{String}
 use mathlib.Core.Path.{_≡_, refl}
 use mathlib.Core.List.{List, [], _∷_, map, reverse}
-use mathlib.Core.Bool.{false}
+use mathlib.Core.Bool.{true, false, cond}
 use Rattle.answers.specs.declared.Checked.{Checked}
 use Rattle.answers.specs.declared.Checked.the-variants.{Passed, Failed}
 use Rattle.options.specs.Types.{optionsOf}
@@ -20,7 +22,7 @@ use Rattle.tree.specs.Checking.{readFile}
 use Rattle.printing.specs.Holding.{Held, held, refused, heldLength, withoutNewlines, hold}
 use Rattle.events.specs.Printed.{ascii, mnemonics, registers, operators, dataSizes, encodings, variableTypes, numberTypes, modifiers, printed}
 use Rattle.events.specs.Views.{ownTrivia, headTrivia, tokenNumber, stands, hasBlock, indexOf}
-use Rattle.events.specs.Trees.{triviaEvents, leadEvents, oneOf, eventsIn, eventsOf}
+use Rattle.events.specs.Trees.{triviaEvents, leadEvents, oneOf, breaks, eventsIn, eventsOf}
 
 -- a stored tree, and the chunks that the Rust's formatter gives for it, oldest first
 record Row : Type 0 where
@@ -265,3 +267,46 @@ wanted sample = (Passed, sample .chunks)
 pub rows-held : map found rows ≡ map wanted rows
 unfolding cased isNewline storedIndent storedHead storedChunk built chain fieldsFit mapFits sizedEnd triviumEnd triviaEnd triviaRead textEnd restOf ownAt readOwn triviaFrom fieldsDue partsDue readParts read heldLength withoutNewlines hold ascii mnemonics registers operators dataSizes encodings variableTypes numberTypes modifiers printed ownTrivia headTrivia tokenNumber stands hasBlock indexOf triviaEvents leadEvents oneOf eventsIn
 rows-held = refl
+
+-- ---- newlines between tokens
+
+abbrev kinds : List ℕ
+kinds = 0 ∷ 1 ∷ 2 ∷ 3 ∷ 4 ∷ 5 ∷ 6 ∷ 7 ∷ 8 ∷ 9 ∷ 10 ∷ 11 ∷ 12 ∷ 13 ∷ 14 ∷ 15 ∷ 16 ∷ 17 ∷ 18 ∷ 19 ∷ 20 ∷ 21 ∷ 22 ∷ 23 ∷ []
+
+-- '0' no newline, '1' one where the second token has a block, '2' one always
+abbrev breakDigit : ℕ → ℕ → ℕ
+breakDigit previous number = cond (breaks previous number false) 50 (cond (breaks previous number true) 49 48)
+
+-- a row for each kind of the first token, a digit for each kind of the second
+abbrev breakRows : List String
+breakRows =
+    "022222220222221222222222"
+    ∷ "202222220222221222222202"
+    ∷ "222222220222222222222222"
+    ∷ "222022220222221222222222"
+    ∷ "222202220222221222222222"
+    ∷ "222220220222221222222022"
+    ∷ "222222220222221222222222"
+    ∷ "222222200222221222222222"
+    ∷ "222222220222221222222222"
+    ∷ "222222220022221222222222"
+    ∷ "222222220222222222222222"
+    ∷ "222222220221221222222222"
+    ∷ "222222220222021222222222"
+    ∷ "222222220222201220222222"
+    ∷ "222222220222221222222222"
+    ∷ "222222220222221222222222"
+    ∷ "222222220222221202222222"
+    ∷ "222222220222201220222222"
+    ∷ "222222220222221222022222"
+    ∷ "222222220222221222222222"
+    ∷ "222222220222221222220222"
+    ∷ "222220220222221222222022"
+    ∷ "202222220222221222222202"
+    ∷ "222222220222221222222220"
+    ∷ []
+
+-- every pair holds
+pub breaks-held : map (λ previous. map (breakDigit previous) kinds) kinds ≡ map ascii breakRows
+unfolding oneOf ascii
+breaks-held = refl

@@ -70,16 +70,19 @@ grouped previous number =
 abbrev pub afterOther : ℕ → ℕ → Bool → Bool
 afterOther previous number block = cond (eqb number 14) (block || oneOf previous (2 ∷ 10 ∷ [])) (not (grouped previous number))
 
+-- none before an `Error`
+abbrev pub breaks : ℕ → ℕ → Bool → Bool
+breaks previous number block = not (eqb number 8) && cond (eqb previous number) (afterSame number block) (afterOther previous number block)
+
 -- what stood before a token in its list
 pub data Before : Type 0 where
   first : Before
   behind : ℕ → Before
 
--- none before the first token, nor before an `Error`
+-- none before the first token
 abbrev pub breakBefore : Context → Before → ℕ → Bool → Events
 breakBefore context first number block = nothing
-breakBefore context (behind previous) number block =
-    cond (not (eqb number 8) && cond (eqb previous number) (afterSame number block) (afterOther previous number block)) (newline context) nothing
+breakBefore context (behind previous) number block = cond (breaks previous number block) (newline context) nothing
 
 -- ---- where a tree stands
 
