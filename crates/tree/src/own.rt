@@ -17,7 +17,7 @@ ghost use mathlib.Core.Bool.{_&&_, _||_};
 ghost use lib.Dec.{eqb, leb};
 ghost use lib.ListN.{length};
 ghost use Rattle.tree.specs.Grammar.{Slot};
-ghost use Rattle.tree.specs.Own.{sizedEnd, triviumEnd, triviaEnd, fieldsFit, textFits, elseFits, triviaFits, mapFits, mayStand, triviaRead, textEnd, layout, restOf, ownAt, readOwn, Fits, refusalOf};
+ghost use Rattle.tree.specs.Own.{sizedEnd, triviumEnd, triviaEnd, fieldsFit, textFits, elseFits, triviaFits, mapFits, mayStand, triviaRead, textEnd, layout, ownOf, restOf, ownAt, readOwn, Fits, refusalOf};
 ghost use Rattle.tree.specs.Walk.{rowOf};
 
 // A record's own bytes, by their places: `trivia` is the place of its first trivia item, of which there are `trivia_count`; its text is
@@ -297,6 +297,21 @@ fn has_text(number: usize, map: usize) -> bool
     false
 }
 
+// A record's own bytes, by what was read of them.
+fn own_of(kind: Kind, map: usize, trivia: TriviaSpan, text: usize, end: usize, count: usize) -> Own
+    ensures { λ r. ⌜ r ≡ ownOf kind map trivia text end count ⌝ }
+{
+    Own {
+        kind: kind,
+        map: map,
+        trivia: trivia.first,
+        trivia_count: trivia.count,
+        text: text,
+        end: end,
+        count: count,
+    }
+}
+
 // What stands behind the trivia: a list's count, a leaf's text, or nothing more.
 fn read_rest(
     tree: &[u8],
@@ -315,40 +330,16 @@ fn read_rest(
         let Number::Read(count) = read else {
             return layout(at);
         };
-        return OwnRead::Record(Own {
-            kind: kind,
-            map: map,
-            trivia: trivia.first,
-            trivia_count: trivia.count,
-            text: behind + 2,
-            end: behind + 2,
-            count: count,
-        });
+        return OwnRead::Record(own_of(kind, map, trivia, behind + 2, behind + 2, count));
     }
     if has_text(number, map) {
         let span = text_end(tree, behind, text);
         let Span::Behind(end) = span else {
             return layout(at);
         };
-        return OwnRead::Record(Own {
-            kind: kind,
-            map: map,
-            trivia: trivia.first,
-            trivia_count: trivia.count,
-            text: behind + 2,
-            end: end,
-            count: 0,
-        });
+        return OwnRead::Record(own_of(kind, map, trivia, behind + 2, end, 0));
     }
-    OwnRead::Record(Own {
-        kind: kind,
-        map: map,
-        trivia: trivia.first,
-        trivia_count: trivia.count,
-        text: behind,
-        end: behind,
-        count: 0,
-    })
+    OwnRead::Record(own_of(kind, map, trivia, behind, behind, 0))
 }
 
 // A record that has a first byte.
