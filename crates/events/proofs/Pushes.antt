@@ -19,16 +19,24 @@ use Rattle.options.specs.declared.FormattingOptions.{FormattingOptions}
 use Rattle.text.specs.Accepted.{acceptedByte, acceptedText}
 use Rattle.text.proofs.Choices.{cond-both, and-true-left, and-true-right}
 use Rattle.chunks.specs.declared.stored.ChunkType.{ChunkType}
-use Rattle.tree.specs.Tree.{Tree, Trivium, absent, refused, node, nil, cons, Align, Assert, Braces, Config, ConfigPair, Data, Definition, Eof, Error, Expression, If, Import, File, Instruction, Label, Loop, MacroDefinition, MacroInvocation, ProgramCounterDefinition, Segment, Test, Text, Trace, VariableDefinition, Vec, Leaf, PathItem, Block, BinaryExpression, Factor, CurrentProgramCounter, ExprParens, FunctionCall, IdentifierValue, Number, StringFactor, InterpolatedString, Operand, RegisterSuffix, ImportAs, ImportAll, SpecificImportArg, ArgItem}
+use Rattle.tree.specs.Tree.{Tree, Trivium, absent, refused, node, nil, cons, Align, Assert, Braces, Config, ConfigPair, Data, Definition, Eof, Error}
+use Rattle.tree.specs.Tree.{Expression, If, Import, File, Instruction, Label, Loop, MacroDefinition, MacroInvocation, ProgramCounterDefinition}
+use Rattle.tree.specs.Tree.{Segment, Test, Text, Trace, VariableDefinition, Vec, Leaf, PathItem, Block, BinaryExpression, Factor}
+use Rattle.tree.specs.Tree.{CurrentProgramCounter, ExprParens, FunctionCall, IdentifierValue, Number, StringFactor, InterpolatedString, Operand}
+use Rattle.tree.specs.Tree.{RegisterSuffix, ImportAs, ImportAll, SpecificImportArg, ArgItem}
 use Rattle.tree.specs.Measures.{nesting}
 use Rattle.tree.specs.Checking.{readFile}
 use Rattle.tree.specs.declared.grammar.Class.the-variants.{Tokens}
 use Rattle.tree.proofs.Bounds.{read-nesting}
 use Rattle.printing.specs.Events.{Events, nothing, push, space, clear, trim, stop, _▹_}
 use Rattle.printing.specs.declared.Context.{Context}
-use Rattle.events.specs.Printed.{Style, plain, mnemonic, register, operator, dataSize, encoding, variableType, numberType, modifier, ascii, mnemonics, registers, operators, dataSizes, encodings, variableTypes, numberTypes, modifiers, printed}
+use Rattle.events.specs.Printed.{Style, plain, mnemonic, register, operator, dataSize, encoding, variableType, numberType, modifier, ascii}
+use Rattle.events.specs.Printed.{mnemonics, registers, operators, dataSizes, encodings, variableTypes, numberTypes, modifiers, printed}
 use Rattle.events.specs.Views.{ownTrivia, headTrivia, tokenNumber, stands, hasBlock, indexOf}
-use Rattle.events.specs.Trees.{word, triviumEvents, triviaEvents, onlyNewline, leadEvents, listTrivia, afterSame, afterOther, Before, first, behind, breakBefore, Closing, fileEnd, blockEnd, Place, leaf, labelled, arguments, imports, inString, tokens, closingEvents, endEvents, itemEvents, leafEvents, valueShown, opening, elseEvents, operandEvents, eventsIn, eventsOf}
+use Rattle.events.specs.Trees.{word, triviumEvents, triviaEvents, onlyNewline, leadEvents, listTrivia, afterSame, afterOther, Before, first}
+use Rattle.events.specs.Trees.{behind, breakBefore, Closing, fileEnd, blockEnd, Place, leaf, labelled, arguments, imports, inString, tokens}
+use Rattle.events.specs.Trees.{closingEvents, endEvents, itemEvents, leafEvents, valueShown, opening, elseEvents, operandEvents, eventsIn}
+use Rattle.events.specs.Trees.{eventsOf}
 use Rattle.events.proofs.Texts.{EveryTrivia, EveryText, own-trivia, head-trivia, Holds, read-texts}
 
 -- each push has an indent that a chunk may have, and a text of which P holds

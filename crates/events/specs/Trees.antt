@@ -8,7 +8,11 @@ use Rattle.options.specs.declared.BracePosition.{BracePosition}
 use Rattle.options.specs.declared.BracePosition.the-variants.{SameLine, NewLine}
 use Rattle.chunks.specs.declared.stored.ChunkType.the-variants as chunk
 use Rattle.text.specs.Lines.{isEmpty, isNewline}
-use Rattle.tree.specs.Tree.{Tree, Trivium, absent, refused, node, nil, cons, Align, Assert, Braces, Config, ConfigPair, Data, Definition, Eof, Error, Expression, If, Import, File, Instruction, Label, Loop, MacroDefinition, MacroInvocation, ProgramCounterDefinition, Segment, Test, Text, Trace, VariableDefinition, Vec, Leaf, PathItem, Block, BinaryExpression, Factor, CurrentProgramCounter, ExprParens, FunctionCall, IdentifierValue, Number, StringFactor, InterpolatedString, Operand, RegisterSuffix, ImportAs, ImportAll, SpecificImportArg, ArgItem}
+use Rattle.tree.specs.Tree.{Tree, Trivium, absent, refused, node, nil, cons, Align, Assert, Braces, Config, ConfigPair, Data, Definition, Eof, Error}
+use Rattle.tree.specs.Tree.{Expression, If, Import, File, Instruction, Label, Loop, MacroDefinition, MacroInvocation, ProgramCounterDefinition}
+use Rattle.tree.specs.Tree.{Segment, Test, Text, Trace, VariableDefinition, Vec, Leaf, PathItem, Block, BinaryExpression, Factor}
+use Rattle.tree.specs.Tree.{CurrentProgramCounter, ExprParens, FunctionCall, IdentifierValue, Number, StringFactor, InterpolatedString, Operand}
+use Rattle.tree.specs.Tree.{RegisterSuffix, ImportAs, ImportAll, SpecificImportArg, ArgItem}
 use Rattle.printing.specs.Events.{Events, nothing, push, space, clear, trim, stop, _▹_}
 use Rattle.printing.specs.declared.Context.{Context}
 use Rattle.events.specs.Printed.{Style, plain, mnemonic, register, operator, dataSize, encoding, variableType, numberType, modifier, printed}
@@ -180,34 +184,50 @@ eventsIn c place shown (Definition tag id value) = eventsIn c (leaf plain) false
 eventsIn c place shown (Eof unit) = nothing
 eventsIn c place shown (Error text) = eventsIn c (leaf plain) false text
 eventsIn c place shown (Expression expression) = eventsIn c (leaf plain) true expression
-eventsIn c place shown (If tagIf value then tagElse otherwise) = eventsIn c (leaf plain) false tagIf ▹ blank c ▹ eventsIn c (leaf plain) true value ▹ blank c ▹ eventsIn c (leaf plain) true then ▹ cond (stands tagElse) (elseEvents c (c .options .braces .position) (eventsIn c (leaf plain) true tagElse) (eventsIn c (leaf plain) true otherwise)) nothing
-eventsIn c place shown (Import tag args source filename block) = eventsIn c (leaf plain) false tag ▹ blank c ▹ eventsIn c imports true args ▹ blank c ▹ eventsIn c (leaf plain) true source ▹ blank c ▹ eventsIn c (leaf plain) true filename ▹ space ▹ eventsIn c (leaf plain) true block
+eventsIn c place shown (If tagIf value then tagElse otherwise) =
+    eventsIn c (leaf plain) false tagIf ▹ blank c ▹ eventsIn c (leaf plain) true value ▹ blank c ▹ eventsIn c (leaf plain) true then
+    ▹ cond (stands tagElse) (elseEvents c (c .options .braces .position) (eventsIn c (leaf plain) true tagElse) (eventsIn c (leaf plain) true otherwise)) nothing
+eventsIn c place shown (Import tag args source filename block) =
+    eventsIn c (leaf plain) false tag ▹ blank c ▹ eventsIn c imports true args ▹ blank c ▹ eventsIn c (leaf plain) true source ▹ blank c
+    ▹ eventsIn c (leaf plain) true filename ▹ space ▹ eventsIn c (leaf plain) true block
 eventsIn c place shown (File tag filename) = eventsIn c (leaf plain) false tag ▹ blank c ▹ eventsIn c (leaf plain) true filename
 eventsIn c place shown (Instruction mnemonic′ operand) = eventsIn c (leaf mnemonic) false mnemonic′ ▹ space ▹ eventsIn c (leaf plain) true operand ▹ clear
 eventsIn c place shown (Label id colon block) = eventsIn c labelled false id ▹ eventsIn c (leaf plain) true block
 eventsIn c place shown (Loop tag expr block) = eventsIn c (leaf plain) false tag ▹ blank c ▹ eventsIn c (leaf plain) true expr ▹ blank c ▹ eventsIn c (leaf plain) true block
-eventsIn c place shown (MacroDefinition tag id lparen args rparen block) = eventsIn c (leaf plain) false tag ▹ blank c ▹ eventsIn c (leaf plain) true id ▹ eventsIn c (leaf plain) true lparen ▹ eventsIn c arguments true args ▹ eventsIn c (leaf plain) true rparen ▹ space ▹ eventsIn c (leaf plain) true block
-eventsIn c place shown (MacroInvocation id lparen args rparen) = eventsIn c (leaf plain) false id ▹ eventsIn c (leaf plain) true lparen ▹ eventsIn c arguments true args ▹ eventsIn c (leaf plain) true rparen
+eventsIn c place shown (MacroDefinition tag id lparen args rparen block) =
+    eventsIn c (leaf plain) false tag ▹ blank c ▹ eventsIn c (leaf plain) true id ▹ eventsIn c (leaf plain) true lparen
+    ▹ eventsIn c arguments true args ▹ eventsIn c (leaf plain) true rparen ▹ space ▹ eventsIn c (leaf plain) true block
+eventsIn c place shown (MacroInvocation id lparen args rparen) =
+    eventsIn c (leaf plain) false id ▹ eventsIn c (leaf plain) true lparen ▹ eventsIn c arguments true args ▹ eventsIn c (leaf plain) true rparen
 eventsIn c place shown (ProgramCounterDefinition star eq value) = eventsIn c (leaf plain) false star ▹ blank c ▹ eventsIn c (leaf plain) true eq ▹ blank c ▹ eventsIn c (leaf plain) true value
 eventsIn c place shown (Segment tag id block) = eventsIn c (leaf plain) false tag ▹ blank c ▹ eventsIn c (leaf plain) true id ▹ blank c ▹ eventsIn c (leaf plain) true block
 eventsIn c place shown (Test tag id block) = eventsIn c (leaf plain) false tag ▹ space ▹ eventsIn c (leaf plain) true id ▹ space ▹ eventsIn c (leaf plain) true block
 eventsIn c place shown (Text tag encoding′ text) = eventsIn c (leaf plain) false tag ▹ space ▹ eventsIn c (leaf encoding) true encoding′ ▹ space ▹ eventsIn c (leaf plain) true text
-eventsIn c place shown (Trace tag lparen args rparen) = eventsIn c (leaf plain) false tag ▹ space ▹ eventsIn c (leaf plain) true lparen ▹ eventsIn c arguments true args ▹ eventsIn c (leaf plain) true rparen
-eventsIn c place shown (VariableDefinition ty id eq value) = eventsIn c (leaf variableType) false ty ▹ blank c ▹ eventsIn c (leaf plain) true id ▹ blank c ▹ eventsIn c (leaf plain) true eq ▹ blank c ▹ eventsIn c (leaf plain) true value
+eventsIn c place shown (Trace tag lparen args rparen) =
+    eventsIn c (leaf plain) false tag ▹ space ▹ eventsIn c (leaf plain) true lparen ▹ eventsIn c arguments true args
+    ▹ eventsIn c (leaf plain) true rparen
+eventsIn c place shown (VariableDefinition ty id eq value) =
+    eventsIn c (leaf variableType) false ty ▹ blank c ▹ eventsIn c (leaf plain) true id ▹ blank c ▹ eventsIn c (leaf plain) true eq ▹ blank c
+    ▹ eventsIn c (leaf plain) true value
 eventsIn c place shown (Vec items) = eventsIn c place true items
 eventsIn c place shown (Leaf text) = leafEvents c place text
 eventsIn c place shown (PathItem text) = word c (123 ∷ []) ▹ word c text ▹ word c (125 ∷ [])
-eventsIn c place shown (Block lparen inner rparen) = opening c (c .options .braces .position) (eventsIn c (leaf plain) false lparen) ▹ eventsIn (deeper c) (tokens true first (blockEnd (ownTrivia rparen))) true inner ▹ trim ▹ newline c ▹ eventsIn c (leaf plain) false rparen
+eventsIn c place shown (Block lparen inner rparen) =
+    opening c (c .options .braces .position) (eventsIn c (leaf plain) false lparen)
+    ▹ eventsIn (deeper c) (tokens true first (blockEnd (ownTrivia rparen))) true inner ▹ trim ▹ newline c ▹ eventsIn c (leaf plain) false rparen
 eventsIn c place shown (BinaryExpression op lhs rhs) = eventsIn c (leaf plain) true lhs ▹ blank c ▹ eventsIn c (leaf operator) true op ▹ blank c ▹ eventsIn c (leaf plain) true rhs
 eventsIn c place shown (Factor factor tagNot tagNeg) = eventsIn c (leaf plain) true tagNot ▹ eventsIn c (leaf plain) true tagNeg ▹ eventsIn c (leaf plain) true factor
 eventsIn c place shown (CurrentProgramCounter star) = eventsIn c (leaf plain) true star
 eventsIn c place shown (ExprParens lparen inner rparen) = eventsIn c (leaf plain) true lparen ▹ eventsIn c (leaf plain) true inner ▹ eventsIn c (leaf plain) true rparen
-eventsIn c place shown (FunctionCall name lparen args rparen) = eventsIn c (leaf plain) true name ▹ eventsIn c (leaf plain) true lparen ▹ eventsIn c arguments true args ▹ eventsIn c (leaf plain) true rparen
+eventsIn c place shown (FunctionCall name lparen args rparen) =
+    eventsIn c (leaf plain) true name ▹ eventsIn c (leaf plain) true lparen ▹ eventsIn c arguments true args ▹ eventsIn c (leaf plain) true rparen
 eventsIn c place shown (IdentifierValue path modifier′) = eventsIn c (leaf modifier) true modifier′ ▹ eventsIn c (leaf plain) true path
 eventsIn c place shown (Number ty value) = eventsIn c (leaf numberType) true ty ▹ eventsIn c (leaf plain) true value
 eventsIn c place shown (StringFactor string) = eventsIn c (leaf plain) true string
 eventsIn c place shown (InterpolatedString lquote items) = eventsIn c (leaf plain) true lquote ▹ eventsIn c inString true items ▹ word c (34 ∷ [])
-eventsIn c place shown (Operand expr lchar rchar mode suffix) = eventsIn c (leaf plain) true lchar ▹ eventsIn c (leaf plain) true expr ▹ operandEvents (indexOf mode) (eventsIn c (leaf plain) true rchar) (eventsIn c (leaf plain) true suffix)
+eventsIn c place shown (Operand expr lchar rchar mode suffix) =
+    eventsIn c (leaf plain) true lchar ▹ eventsIn c (leaf plain) true expr
+    ▹ operandEvents (indexOf mode) (eventsIn c (leaf plain) true rchar) (eventsIn c (leaf plain) true suffix)
 eventsIn c place shown (RegisterSuffix comma register′) = eventsIn c (leaf plain) true comma ▹ space ▹ eventsIn c (leaf register) true register′ ▹ clear
 eventsIn c place shown (ImportAs tag path) = eventsIn c (leaf plain) true tag ▹ blank c ▹ eventsIn c (leaf plain) true path
 eventsIn c place shown (ImportAll star alias) = eventsIn c (leaf plain) true star ▹ space ▹ eventsIn c (leaf plain) true alias ▹ clear

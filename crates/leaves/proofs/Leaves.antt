@@ -126,7 +126,8 @@ module _ (bytes : List ℕ) (class : Class) (at levels : ℕ) (context : Context
   module _ {found : OwnRead} (same : found ≡ readOwn bytes at class levels) where
     -- own bytes that were read
     pub own-shown : (own : Own) {answer : Printed} {room : List ℕ} {before : Run} → Fits bytes at found → found ≡ Record own
-        → Shown answer room (cond shown (triviaEvents context (itemsAt bytes (own .trivia) (own .«trivia_count»))) nothing ▹ word context (printed context style (slice (own .text) (own .end) bytes))) before (own .end)
+        → Shown answer room (cond shown (triviaEvents context (itemsAt bytes (own .trivia) (own .«trivia_count»))) nothing
+        ▹ word context (printed context style (slice (own .text) (own .end) bytes))) before (own .end)
         → Shown answer room (ownEvents context style shown bytes (readOwn bytes at class levels)) before (ownEnd at (readOwn bytes at class levels))
     own-shown own fits is done =
         told

@@ -21,7 +21,8 @@ use Rattle.printing.proofs.Running.{ran-push}
 use Rattle.printing.specs.declared.Context.{Context}
 use Rattle.printing.specs.declared.CodeFormatter.{CodeFormatter}
 use Rattle.text.specs.Literals.{ascii}
-use Rattle.events.specs.Printed.{mnemonics, registers, operators, dataSizes, encodings, variableTypes, numberTypes, modifiers, Style, plain, mnemonic, register, operator, dataSize, encoding, variableType, numberType, modifier, printed}
+use Rattle.events.specs.Printed.{mnemonics, registers, operators, dataSizes, encodings, variableTypes, numberTypes, modifiers, Style, plain, mnemonic}
+use Rattle.events.specs.Printed.{register, operator, dataSize, encoding, variableType, numberType, modifier, printed}
 use Rattle.events.specs.Trees.{word}
 use Rattle.leaves.specs.Texts.{cuts, inOrder}
 
@@ -141,7 +142,8 @@ ones-at (name ∷ names) (suc index) inside = ones-at names index (omega arith)
 -- ---- the tables
 
 -- the names of the mnemonics are three letters each
-pub mnemonic-names : threes (ascii "ADCANDASLBCCBCSBEQBITBMIBNEBPLBRKBVCBVSCLCCLDCLICLVCMPCPXCPYDECDEXDEYEORINCINXINYJMPJSRLDALDXLDYLSRNOPORAPHAPHPPLAPLPROLRORRTIRTSSBCSECSEDSEISTASTXSTYTAXTAYTSXTXATXSTYA") ≡ map ascii mnemonics
+pub mnemonic-names : threes
+    (ascii "ADCANDASLBCCBCSBEQBITBMIBNEBPLBRKBVCBVSCLCCLDCLICLVCMPCPXCPYDECDEXDEYEORINCINXINYJMPJSRLDALDXLDYLSRNOPORAPHAPHPPLAPLPROLRORRTIRTSSBCSECSEDSEISTASTXSTYTAXTAYTSXTXATXSTYA") ≡ map ascii mnemonics
 unfolding threes ascii mnemonics
 mnemonic-names = refl
 

@@ -137,7 +137,8 @@ module _ {answer : Printed} {room : List ℕ} {events : Events} {before : Run} {
 
 -- the first events have been run, and the rest is shown
 infixr 50 _then_
-pub _then_ : {answer : Printed} {room : List ℕ} {first next : Events} {before after : Run} {end : ℕ} → Ran first before after → Shown answer room next after end → Shown answer room (first ▹ next) before end
+pub _then_ : {answer : Printed} {room : List ℕ} {first next : Events} {before after : Run} {end : ℕ} → Ran first before after → Shown answer room next after end → Shown answer room (first
+    ▹ next) before end
 unfolding run
 _then_ {next = next} first shown = record { state = shown .state ∙ ap (λ (x : Run). settled (run next x)) (sym (first .ran)); next = shown .next }
 

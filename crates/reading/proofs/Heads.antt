@@ -13,7 +13,11 @@ use Rattle.text.proofs.Choices.{cond-both, by-test, true-false, and-true-left, 
 use Rattle.tree.proofs.Cases.{by-choice}
 use Rattle.tree.specs.Grammar.{rule}
 use Rattle.tree.specs.Own.{isList}
-use Rattle.tree.specs.Tree.{Tree, Trivium, absent, refused, node, nil, cons, Align, Assert, Braces, Config, ConfigPair, Data, Definition, Eof, Error, Expression, If, Import, File, Instruction, Label, Loop, MacroDefinition, MacroInvocation, ProgramCounterDefinition, Segment, Test, Text, Trace, VariableDefinition, Vec, Leaf, PathItem, Block, BinaryExpression, Factor, CurrentProgramCounter, ExprParens, FunctionCall, IdentifierValue, Number, StringFactor, InterpolatedString, Operand, RegisterSuffix, ImportAs, ImportAll, SpecificImportArg, ArgItem}
+use Rattle.tree.specs.Tree.{Tree, Trivium, absent, refused, node, nil, cons, Align, Assert, Braces, Config, ConfigPair, Data, Definition, Eof, Error}
+use Rattle.tree.specs.Tree.{Expression, If, Import, File, Instruction, Label, Loop, MacroDefinition, MacroInvocation, ProgramCounterDefinition}
+use Rattle.tree.specs.Tree.{Segment, Test, Text, Trace, VariableDefinition, Vec, Leaf, PathItem, Block, BinaryExpression, Factor}
+use Rattle.tree.specs.Tree.{CurrentProgramCounter, ExprParens, FunctionCall, IdentifierValue, Number, StringFactor, InterpolatedString, Operand}
+use Rattle.tree.specs.Tree.{RegisterSuffix, ImportAs, ImportAll, SpecificImportArg, ArgItem}
 use Rattle.tree.specs.declared.grammar.Class.{Class}
 use Rattle.tree.specs.declared.grammar.Class.the-variants.{BlockRecord, BareToken, ImportPath}
 use Rattle.printing.specs.Holding.{inkOf}
@@ -290,7 +294,9 @@ brace-clear : (tree : Tree) → tokenNumber tree ≡ 27 → harmless (placesIn f
 unfolding placesIn tokenNumber headTrivia
 brace-clear absent is free = absurd (omega (arith, is))
 brace-clear (refused refusal) is free = absurd (omega (arith, is))
-brace-clear (node place trivia tree) is free = brace-clear tree is (harmless-parts (mark pathItem (atPathItem trivia tree)) _ (harmless-parts (mark importPath (atImportPath trivia tree)) _ free .1) .1)
+brace-clear (node place trivia tree) is free =
+    brace-clear tree is (harmless-parts (mark pathItem (atPathItem trivia tree)) _ (harmless-parts (mark importPath
+    (atImportPath trivia tree)) _ free .1) .1)
 brace-clear nil is free = absurd (omega (arith, is))
 brace-clear (cons item items) is free = absurd (omega (arith, is))
 brace-clear (Align tag value) is free = absurd (omega (arith, is))
@@ -357,7 +363,9 @@ expression-clear : (tree : Tree) → tokenNumber tree ≡ 9 → harmless (places
 unfolding placesIn tokenNumber headTrivia
 expression-clear absent is free = absurd (omega (arith, is))
 expression-clear (refused refusal) is free = absurd (omega (arith, is))
-expression-clear (node place trivia tree) is free = expression-clear tree is (harmless-parts (mark pathItem (atPathItem trivia tree)) _ (harmless-parts (mark importPath (atImportPath trivia tree)) _ free .1) .1)
+expression-clear (node place trivia tree) is free =
+    expression-clear tree is (harmless-parts (mark pathItem (atPathItem trivia tree)) _ (harmless-parts (mark importPath
+    (atImportPath trivia tree)) _ free .1) .1)
 expression-clear nil is free = absurd (omega (arith, is))
 expression-clear (cons item items) is free = absurd (omega (arith, is))
 expression-clear (Align tag value) is free = absurd (omega (arith, is))
@@ -369,7 +377,9 @@ expression-clear (Data values size) is free = absurd (omega (arith, is))
 expression-clear (Definition tag id value) is free = absurd (omega (arith, is))
 expression-clear (Eof unit) is free = absurd (omega (arith, is))
 expression-clear (Error text) is free = absurd (omega (arith, is))
-expression-clear (Expression expression) is free = no-comments (headTrivia expression) (unmarked expressionHead _ refl (harmless-parts (mark expressionHead (hasComment (headTrivia expression))) _ free .0))
+expression-clear (Expression expression) is free =
+    no-comments (headTrivia expression) (unmarked expressionHead _ refl (harmless-parts (mark expressionHead (hasComment
+    (headTrivia expression))) _ free .0))
 expression-clear (If tagIf value then tagElse otherwise) is free = absurd (omega (arith, is))
 expression-clear (Import tag args source filename block) is free = absurd (omega (arith, is))
 expression-clear (File tag filename) is free = absurd (omega (arith, is))
@@ -444,7 +454,9 @@ pub own-clear : (class : Class) (listed : Bool) (tree : Tree) → rule class .lo
 unfolding placesIn ownTrivia Shaped comments
 own-clear class listed absent bare shaped free = refl
 own-clear class listed (refused refusal) bare shaped free = refl
-own-clear class listed (node place trivia tree) bare shaped free = own-of class trivia tree bare (shaped .0) (harmless-parts (mark pathItem (atPathItem trivia tree)) _ (harmless-parts (mark importPath (atImportPath trivia tree)) _ free .1) .0)
+own-clear class listed (node place trivia tree) bare shaped free =
+    own-of class trivia tree bare (shaped .0) (harmless-parts (mark pathItem (atPathItem trivia tree)) _ (harmless-parts (mark importPath
+    (atImportPath trivia tree)) _ free .1) .0)
 own-clear class listed nil bare shaped free = refl
 own-clear class listed (cons item items) bare shaped free = refl
 own-clear class listed (Align tag value) bare shaped free = refl

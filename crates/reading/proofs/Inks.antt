@@ -5,21 +5,39 @@ use mathlib.Core.List.{List, [], _∷_, append-nil}
 use mathlib.Core.Bool.{Bool, true, false, _||_}
 use Rattle.text.specs.Ink.{inks}
 use Rattle.text.proofs.Choices.{by-test, true-false}
-use Rattle.tree.specs.Tree.{Tree, absent, refused, node, nil, cons, Align, Assert, Braces, Config, ConfigPair, Data, Definition, Eof, Error, Expression, If, Import, File, Instruction, Label, Loop, MacroDefinition, MacroInvocation, ProgramCounterDefinition, Segment, Test, Text, Trace, VariableDefinition, Vec, Leaf, PathItem, Block, BinaryExpression, Factor, CurrentProgramCounter, ExprParens, FunctionCall, IdentifierValue, Number, StringFactor, InterpolatedString, Operand, RegisterSuffix, ImportAs, ImportAll, SpecificImportArg, ArgItem}
+use Rattle.tree.specs.Tree.{Tree, absent, refused, node, nil, cons, Align, Assert, Braces, Config, ConfigPair, Data, Definition, Eof, Error}
+use Rattle.tree.specs.Tree.{Expression, If, Import, File, Instruction, Label, Loop, MacroDefinition, MacroInvocation, ProgramCounterDefinition}
+use Rattle.tree.specs.Tree.{Segment, Test, Text, Trace, VariableDefinition, Vec, Leaf, PathItem, Block, BinaryExpression, Factor}
+use Rattle.tree.specs.Tree.{CurrentProgramCounter, ExprParens, FunctionCall, IdentifierValue, Number, StringFactor, InterpolatedString, Operand}
+use Rattle.tree.specs.Tree.{RegisterSuffix, ImportAs, ImportAll, SpecificImportArg, ArgItem}
 use Rattle.tree.specs.declared.grammar.Class.{Class}
-use Rattle.tree.specs.declared.grammar.Class.the-variants.{Word, Char, OpenBrace, CloseBrace, Mnemonic, IndexRegister, AddressModifier, VariableType, NumberType, DataSize, BinaryOp, TextEncoding, LocatedExpression, BareExpression, LocatedFactor, BareToken, LocatedToken, BlockRecord, StringRecord, OperandRecord, SuffixRecord, AsRecord, ImportArguments, Tokens, ExpressionArguments, IdentifierArguments, StringItems}
+use Rattle.tree.specs.declared.grammar.Class.the-variants.{Word, Char, OpenBrace, CloseBrace, Mnemonic, IndexRegister, AddressModifier, VariableType}
+use Rattle.tree.specs.declared.grammar.Class.the-variants.{NumberType, DataSize, BinaryOp, TextEncoding, LocatedExpression, BareExpression}
+use Rattle.tree.specs.declared.grammar.Class.the-variants.{LocatedFactor, BareToken, LocatedToken, BlockRecord, StringRecord, OperandRecord}
+use Rattle.tree.specs.declared.grammar.Class.the-variants.{SuffixRecord, AsRecord, ImportArguments, Tokens, ExpressionArguments, IdentifierArguments}
+use Rattle.tree.specs.declared.grammar.Class.the-variants.{StringItems}
 use Rattle.printing.specs.Holding.{inkOf}
 use Rattle.printing.specs.declared.Context.{Context}
 use Rattle.events.specs.Printed.{plain, mnemonic, register, operator, dataSize, encoding, variableType, numberType, modifier}
 use Rattle.events.specs.Views.{ownTrivia, headTrivia, tokenNumber, indexOf}
 use Rattle.events.specs.Trees.{oneOf, first, fileEnd, blockEnd, Place, leaf, arguments, imports, inString, tokens, deeper, eventsIn, eventsOf}
 use Rattle.reading.specs.Order.{comments, orderIn, order}
-use Rattle.reading.specs.Places.{Spot, atOpeningBrace, atLabelColon, atValueHead, atImportPath, atPathItem, atRegisterLetter, atExpressionHead, atClosingCharacter, openingBrace, labelColon, valueHead, importPath, pathItem, registerLetter, expressionHead, closingCharacter, mark, placesIn, among, uses, losesInk, usesPlace}
+use Rattle.reading.specs.Places.{Spot, atOpeningBrace, atLabelColon, atValueHead, atImportPath, atPathItem, atRegisterLetter, atExpressionHead}
+use Rattle.reading.specs.Places.{atClosingCharacter, openingBrace, labelColon, valueHead, importPath, pathItem, registerLetter, expressionHead}
+use Rattle.reading.specs.Places.{closingCharacter, mark, placesIn, among, uses, losesInk, usesPlace}
 use Rattle.reading.proofs.Shape.{Shaped}
 use Rattle.reading.proofs.Trivia.{no-comments}
 use Rattle.reading.proofs.Heads.{harmless, harmless-parts, harmless-three, harmless-four, harmless-five, harmless-six, unmarked, stem}
-use Rattle.reading.proofs.Parts.{Suits, Inked, Led, field, given, block-field, value-field, no-end, ink-end, node-either, ink-node, ink-leaf, ink-items, ink-argument, list-headless, ink-list, ink-inner, alone, expressionList, identifierList, pathList, stringList, tokenList}
-use Rattle.reading.proofs.Records.{ink-Align, ink-Assert, ink-Braces, ink-Config, ink-ConfigPair, ink-Data, ink-Definition, ink-Eof, ink-Error, ink-Expression, ink-If, ink-Import, ink-File, ink-Instruction, ink-Label, ink-Loop, ink-MacroDefinition, ink-MacroInvocation, ink-ProgramCounterDefinition, ink-Segment, ink-Test, ink-Text, ink-Trace, ink-VariableDefinition, ink-PathItem, ink-Block, ink-BinaryExpression, ink-Factor, ink-CurrentProgramCounter, ink-ExprParens, ink-FunctionCall, ink-IdentifierValue, ink-Number, ink-StringFactor, ink-InterpolatedString, ink-Operand, ink-RegisterSuffix, ink-ImportAs, ink-ImportAll, ink-SpecificImportArg}
+use Rattle.reading.proofs.Parts.{Suits, Inked, Led, field, given, block-field, value-field, no-end, ink-end, node-either, ink-node, ink-leaf}
+use Rattle.reading.proofs.Parts.{ink-items, ink-argument, list-headless, ink-list, ink-inner, alone, expressionList, identifierList, pathList}
+use Rattle.reading.proofs.Parts.{stringList, tokenList}
+use Rattle.reading.proofs.Records.{ink-Align, ink-Assert, ink-Braces, ink-Config, ink-ConfigPair, ink-Data, ink-Definition, ink-Eof, ink-Error}
+use Rattle.reading.proofs.Records.{ink-Expression, ink-If, ink-Import, ink-File, ink-Instruction, ink-Label, ink-Loop, ink-MacroDefinition}
+use Rattle.reading.proofs.Records.{ink-MacroInvocation, ink-ProgramCounterDefinition, ink-Segment, ink-Test, ink-Text, ink-Trace}
+use Rattle.reading.proofs.Records.{ink-VariableDefinition, ink-PathItem, ink-Block, ink-BinaryExpression, ink-Factor}
+use Rattle.reading.proofs.Records.{ink-CurrentProgramCounter, ink-ExprParens, ink-FunctionCall, ink-IdentifierValue, ink-Number}
+use Rattle.reading.proofs.Records.{ink-StringFactor, ink-InterpolatedString, ink-Operand, ink-RegisterSuffix, ink-ImportAs, ink-ImportAll}
+use Rattle.reading.proofs.Records.{ink-SpecificImportArg}
 
 -- ---- all trees
 
@@ -185,7 +203,8 @@ ink-in c place class listed (Leaf text) suits shaped free led = ink-leaf c place
 ink-in c place class listed (PathItem text) suits shaped free led = ink-PathItem c place (no-end place class 26 suits shaped refl) text
 ink-in c place class listed (Block lparen inner rparen) suits shaped free led =
     let parts = harmless-four (mark openingBrace (atOpeningBrace listed lparen)) (placesIn false lparen) (placesIn false inner) (placesIn false rparen) free in
-    ink-Block c place (no-end place class 27 suits (shaped .0) refl) lparen inner rparen (field c (leaf plain) refl OpenBrace lparen refl (shaped .1) (ink-in c (leaf plain) OpenBrace false lparen (alone plain OpenBrace refl) (shaped .1) (parts .1)))
+    ink-Block c place (no-end place class 27 suits (shaped .0) refl) lparen inner rparen (field c (leaf plain) refl OpenBrace lparen refl (shaped .1)
+    (ink-in c (leaf plain) OpenBrace false lparen (alone plain OpenBrace refl) (shaped .1) (parts .1)))
     (ink-inner c inner (ownTrivia rparen) (shaped .2)
     (ink-in (deeper c) (tokens true first (blockEnd (ownTrivia rparen))) Tokens false inner (tokenList true first (blockEnd (ownTrivia rparen))) (shaped .2) (parts .2)))
     (field c (leaf plain) refl CloseBrace rparen refl (shaped .3) (ink-in c (leaf plain) CloseBrace false rparen (alone plain CloseBrace refl) (shaped .3) (parts .3)))
@@ -239,7 +258,8 @@ ink-in c place class listed (InterpolatedString lquote items) suits shaped free 
     (field c (leaf plain) refl Char lquote refl (shaped .1) (ink-in c (leaf plain) Char false lquote (alone plain Char refl) (shaped .1) (parts .0)))
     (field c inString refl StringItems items refl (shaped .2) (ink-in c inString StringItems false items stringList (shaped .2) (parts .1)))
 ink-in c place class listed (Operand expr lchar rchar mode suffix) suits shaped free led =
-    let parts = harmless-six (mark closingCharacter (atClosingCharacter (indexOf mode) rchar)) (placesIn false expr) (placesIn false lchar) (placesIn false rchar) (placesIn false mode) (placesIn false suffix) free in
+    let parts = harmless-six (mark closingCharacter (atClosingCharacter (indexOf mode) rchar)) (placesIn false expr) (placesIn false lchar)
+    (placesIn false rchar) (placesIn false mode) (placesIn false suffix) free in
     ink-Operand c place (no-end place class 37 suits (shaped .0) refl) expr lchar rchar mode suffix (unmarked closingCharacter (atClosingCharacter (indexOf mode) rchar) refl (parts .0))
     (field c (leaf plain) refl LocatedExpression expr refl (shaped .1) (ink-in c (leaf plain) LocatedExpression false expr (alone plain LocatedExpression refl) (shaped .1) (parts .1)))
     (given c (leaf plain) refl Char lchar (shaped .2) (λ stand.
@@ -279,7 +299,9 @@ ink-in c place class listed (ArgItem value comma) suits shaped free led =
 -- ---- files
 
 -- where none of the seven places is among them, places are harmless
-none-harmless : (spots : List Spot) → among openingBrace spots ≡ false → among labelColon spots ≡ false → among valueHead spots ≡ false → among importPath spots ≡ false → among pathItem spots ≡ false → among expressionHead spots ≡ false → among closingCharacter spots ≡ false → harmless spots ≡ true
+none-harmless : (spots : List Spot) → among openingBrace spots ≡ false → among labelColon spots ≡ false → among valueHead spots ≡ false
+    → among importPath spots ≡ false → among pathItem spots ≡ false → among expressionHead spots ≡ false → among closingCharacter spots ≡ false
+    → harmless spots ≡ true
 unfolding among harmless
 none-harmless [] brace colon value import item head closing = refl
 none-harmless (openingBrace ∷ spots) brace colon value import item head closing = true-false brace
@@ -299,7 +321,8 @@ neither false second none = (refl, none)
 -- a tree that loses no ink uses none of the seven
 keeps-harmless : (tree : Tree) → losesInk tree ≡ false → harmless (placesIn false tree) ≡ true
 keeps-harmless tree none =
-    let brace = neither (uses openingBrace tree) (uses labelColon tree || (uses valueHead tree || (uses importPath tree || (uses pathItem tree || (uses expressionHead tree || (uses closingCharacter tree)))))) none in
+    let brace = neither (uses openingBrace tree) (uses labelColon tree || (uses valueHead tree || (uses importPath tree || (uses pathItem tree ||
+    (uses expressionHead tree || (uses closingCharacter tree)))))) none in
     let colon = neither (uses labelColon tree) (uses valueHead tree || (uses importPath tree || (uses pathItem tree || (uses expressionHead tree || (uses closingCharacter tree))))) (brace .1) in
     let value = neither (uses valueHead tree) (uses importPath tree || (uses pathItem tree || (uses expressionHead tree || (uses closingCharacter tree)))) (colon .1) in
     let import = neither (uses importPath tree) (uses pathItem tree || (uses expressionHead tree || (uses closingCharacter tree))) (value .1) in

@@ -15,15 +15,22 @@ use Rattle.options.specs.declared.BracePosition.{BracePosition}
 use Rattle.options.specs.declared.BracePosition.the-variants.{SameLine, NewLine}
 use Rattle.tree.specs.Grammar.{rule}
 use Rattle.tree.specs.Own.{isList}
-use Rattle.tree.specs.Tree.{Tree, Trivium, absent, refused, node, nil, cons, Align, Assert, Braces, Config, ConfigPair, Data, Definition, Eof, Error, Expression, If, Import, File, Instruction, Label, Loop, MacroDefinition, MacroInvocation, ProgramCounterDefinition, Segment, Test, Text, Trace, VariableDefinition, Vec, Leaf, PathItem, Block, BinaryExpression, Factor, CurrentProgramCounter, ExprParens, FunctionCall, IdentifierValue, Number, StringFactor, InterpolatedString, Operand, RegisterSuffix, ImportAs, ImportAll, SpecificImportArg, ArgItem}
+use Rattle.tree.specs.Tree.{Tree, Trivium, absent, refused, node, nil, cons, Align, Assert, Braces, Config, ConfigPair, Data, Definition, Eof, Error}
+use Rattle.tree.specs.Tree.{Expression, If, Import, File, Instruction, Label, Loop, MacroDefinition, MacroInvocation, ProgramCounterDefinition}
+use Rattle.tree.specs.Tree.{Segment, Test, Text, Trace, VariableDefinition, Vec, Leaf, PathItem, Block, BinaryExpression, Factor}
+use Rattle.tree.specs.Tree.{CurrentProgramCounter, ExprParens, FunctionCall, IdentifierValue, Number, StringFactor, InterpolatedString, Operand}
+use Rattle.tree.specs.Tree.{RegisterSuffix, ImportAs, ImportAll, SpecificImportArg, ArgItem}
 use Rattle.tree.specs.declared.grammar.Class.{Class}
-use Rattle.tree.specs.declared.grammar.Class.the-variants.{Word, StringItem, LocatedExpression, BareToken, BlockRecord, ImportArguments, ImportPath, ExpressionArgument, IdentifierArgument, ImportArgument, Tokens, ExpressionArguments, IdentifierArguments, StringItems}
+use Rattle.tree.specs.declared.grammar.Class.the-variants.{Word, StringItem, LocatedExpression, BareToken, BlockRecord, ImportArguments, ImportPath}
+use Rattle.tree.specs.declared.grammar.Class.the-variants.{ExpressionArgument, IdentifierArgument, ImportArgument, Tokens, ExpressionArguments}
+use Rattle.tree.specs.declared.grammar.Class.the-variants.{IdentifierArguments, StringItems}
 use Rattle.printing.specs.Events.{Events, nothing}
 use Rattle.printing.specs.Holding.{inkOf}
 use Rattle.printing.specs.declared.Context.{Context}
 use Rattle.events.specs.Printed.{Style, plain, mnemonic, register, operator, dataSize, encoding, variableType, numberType, modifier, printed}
 use Rattle.events.specs.Views.{ownTrivia, headTrivia, tokenNumber, stands}
-use Rattle.events.specs.Trees.{triviaEvents, Before, first, behind, Closing, fileEnd, blockEnd, Place, leaf, labelled, arguments, imports, inString, tokens, endEvents, itemEvents, leafEvents, deeper, opening, elseEvents, operandEvents, eventsIn}
+use Rattle.events.specs.Trees.{triviaEvents, Before, first, behind, Closing, fileEnd, blockEnd, Place, leaf, labelled, arguments, imports, inString}
+use Rattle.events.specs.Trees.{tokens, endEvents, itemEvents, leafEvents, deeper, opening, elseEvents, operandEvents, eventsIn}
 use Rattle.reading.specs.Order.{comments, shownAs, closingOrder, orderIn}
 use Rattle.reading.specs.Places.{atValueHead, atClosingCharacter, placesIn}
 use Rattle.reading.proofs.Shape.{Allowed, TriviaAllowed, Given, Shaped}

@@ -141,13 +141,23 @@ built-shaped variant.Definition class text bits trees allowed fits other parts =
 built-shaped variant.Eof class text bits trees allowed fits other parts = (allowed, parts .0 .0)
 built-shaped variant.Error class text bits trees allowed fits other parts = (allowed, parts .0 .0)
 built-shaped variant.Expression class text bits trees allowed fits other parts = (allowed, parts .0 .0)
-built-shaped variant.If class text bits trees allowed fits other parts = (allowed, parts .0 .0, parts .1 .0 .0, parts .1 .1 .0 .0, parts .1 .1 .1 .0 .0, parts .1 .1 .1 .1 .0 .0, else-together bits (getD trees 3 absent) (getD trees 4 absent) fits (parts .1 .1 .1 .0 .1) (parts .1 .1 .1 .1 .0 .1))
+built-shaped variant.If class text bits trees allowed fits other parts = (
+  allowed,
+  parts .0 .0,
+  parts .1 .0 .0,
+  parts .1 .1 .0 .0,
+  parts .1 .1 .1 .0 .0,
+  parts .1 .1 .1 .1 .0 .0,
+  else-together bits (getD trees 3 absent)
+      (getD trees 4 absent) fits (parts .1 .1 .1 .0 .1) (parts .1 .1 .1 .1 .0 .1),
+)
 built-shaped variant.Import class text bits trees allowed fits other parts = (allowed, parts .0 .0, parts .1 .0 .0, parts .1 .1 .0 .0, parts .1 .1 .1 .0 .0, parts .1 .1 .1 .1 .0 .0)
 built-shaped variant.File class text bits trees allowed fits other parts = (allowed, parts .0 .0, parts .1 .0 .0)
 built-shaped variant.Instruction class text bits trees allowed fits other parts = (allowed, parts .0 .0, parts .1 .0 .0)
 built-shaped variant.Label class text bits trees allowed fits other parts = (allowed, parts .0 .0, parts .1 .0 .0, parts .1 .1 .0 .0)
 built-shaped variant.Loop class text bits trees allowed fits other parts = (allowed, parts .0 .0, parts .1 .0 .0, parts .1 .1 .0 .0)
-built-shaped variant.MacroDefinition class text bits trees allowed fits other parts = (allowed, parts .0 .0, parts .1 .0 .0, parts .1 .1 .0 .0, parts .1 .1 .1 .0 .0, parts .1 .1 .1 .1 .0 .0, parts .1 .1 .1 .1 .1 .0 .0)
+built-shaped variant.MacroDefinition class text bits trees allowed fits other parts =
+    (allowed, parts .0 .0, parts .1 .0 .0, parts .1 .1 .0 .0, parts .1 .1 .1 .0 .0, parts .1 .1 .1 .1 .0 .0, parts .1 .1 .1 .1 .1 .0 .0)
 built-shaped variant.MacroInvocation class text bits trees allowed fits other parts = (allowed, parts .0 .0, parts .1 .0 .0, parts .1 .1 .0 .0, parts .1 .1 .1 .0 .0)
 built-shaped variant.ProgramCounterDefinition class text bits trees allowed fits other parts = (allowed, parts .0 .0, parts .1 .0 .0, parts .1 .1 .0 .0)
 built-shaped variant.Segment class text bits trees allowed fits other parts = (allowed, parts .0 .0, parts .1 .0 .0, parts .1 .1 .0 .0)

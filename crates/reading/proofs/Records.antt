@@ -5,7 +5,10 @@ use mathlib.Core.Bool.{true, false}
 use Prim.Native.Nat.{ℕ}
 use Rattle.text.specs.Ink.{blank, ink, inks}
 use Rattle.text.proofs.Ink.{inks-append}
-use Rattle.tree.specs.Tree.{Tree, Align, Assert, Braces, Config, ConfigPair, Data, Definition, Eof, Error, Expression, If, Import, File, Instruction, Label, Loop, MacroDefinition, MacroInvocation, ProgramCounterDefinition, Segment, Test, Text, Trace, VariableDefinition, PathItem, Block, BinaryExpression, Factor, CurrentProgramCounter, ExprParens, FunctionCall, IdentifierValue, Number, StringFactor, InterpolatedString, Operand, RegisterSuffix, ImportAs, ImportAll, SpecificImportArg}
+use Rattle.tree.specs.Tree.{Tree, Align, Assert, Braces, Config, ConfigPair, Data, Definition, Eof, Error, Expression, If, Import, File, Instruction}
+use Rattle.tree.specs.Tree.{Label, Loop, MacroDefinition, MacroInvocation, ProgramCounterDefinition, Segment, Test, Text, Trace, VariableDefinition}
+use Rattle.tree.specs.Tree.{PathItem, Block, BinaryExpression, Factor, CurrentProgramCounter, ExprParens, FunctionCall, IdentifierValue, Number}
+use Rattle.tree.specs.Tree.{StringFactor, InterpolatedString, Operand, RegisterSuffix, ImportAs, ImportAll, SpecificImportArg}
 use Rattle.tree.specs.declared.grammar.Class.the-variants.{Word, BlockRecord}
 use Rattle.printing.specs.Holding.{inkOf}
 use Rattle.printing.specs.declared.Context.{Context}

@@ -7,9 +7,17 @@ use mathlib.Core.Bool.{Bool, true, false, _||_}
 use lib.Dec.{eqb}
 use Rattle.tree.specs.Grammar.{rule}
 use Rattle.tree.specs.Own.{isList, mayStand}
-use Rattle.tree.specs.Tree.{Tree, Trivium, absent, refused, node, nil, cons, Align, Assert, Braces, Config, ConfigPair, Data, Definition, Eof, Error, Expression, If, Import, File, Instruction, Label, Loop, MacroDefinition, MacroInvocation, ProgramCounterDefinition, Segment, Test, Text, Trace, VariableDefinition, Vec, Leaf, PathItem, Block, BinaryExpression, Factor, CurrentProgramCounter, ExprParens, FunctionCall, IdentifierValue, Number, StringFactor, InterpolatedString, Operand, RegisterSuffix, ImportAs, ImportAll, SpecificImportArg, ArgItem}
+use Rattle.tree.specs.Tree.{Tree, Trivium, absent, refused, node, nil, cons, Align, Assert, Braces, Config, ConfigPair, Data, Definition, Eof, Error}
+use Rattle.tree.specs.Tree.{Expression, If, Import, File, Instruction, Label, Loop, MacroDefinition, MacroInvocation, ProgramCounterDefinition}
+use Rattle.tree.specs.Tree.{Segment, Test, Text, Trace, VariableDefinition, Vec, Leaf, PathItem, Block, BinaryExpression, Factor}
+use Rattle.tree.specs.Tree.{CurrentProgramCounter, ExprParens, FunctionCall, IdentifierValue, Number, StringFactor, InterpolatedString, Operand}
+use Rattle.tree.specs.Tree.{RegisterSuffix, ImportAs, ImportAll, SpecificImportArg, ArgItem}
 use Rattle.tree.specs.declared.grammar.Class.{Class}
-use Rattle.tree.specs.declared.grammar.Class.the-variants.{Word, Char, OpenBrace, CloseBrace, Colon, Unit, Mnemonic, IndexRegister, AddressModifier, VariableType, NumberType, DataSize, BinaryOp, TextEncoding, AddressingMode, LocatedExpression, BareExpression, LocatedFactor, BareToken, LocatedToken, BlockRecord, StringRecord, OperandRecord, SuffixRecord, AsRecord, ImportArguments, Tokens, ExpressionArguments, IdentifierArguments, StringItems}
+use Rattle.tree.specs.declared.grammar.Class.the-variants.{Word, Char, OpenBrace, CloseBrace, Colon, Unit, Mnemonic, IndexRegister, AddressModifier}
+use Rattle.tree.specs.declared.grammar.Class.the-variants.{VariableType, NumberType, DataSize, BinaryOp, TextEncoding, AddressingMode}
+use Rattle.tree.specs.declared.grammar.Class.the-variants.{LocatedExpression, BareExpression, LocatedFactor, BareToken, LocatedToken, BlockRecord}
+use Rattle.tree.specs.declared.grammar.Class.the-variants.{StringRecord, OperandRecord, SuffixRecord, AsRecord, ImportArguments, Tokens}
+use Rattle.tree.specs.declared.grammar.Class.the-variants.{ExpressionArguments, IdentifierArguments, StringItems}
 use Rattle.tree.specs.declared.grammar.Items.{Items}
 use Rattle.tree.specs.declared.grammar.Items.the-variants.{NoList, ListOf}
 use Rattle.events.specs.Views.{tokenNumber, stands}
@@ -55,13 +63,18 @@ Shaped class (Definition tag id value) = Allowed class 6 × Shaped Word tag × S
 Shaped class (Eof unit) = Allowed class 7 × Shaped Unit unit
 Shaped class (Error text) = Allowed class 8 × Shaped Word text
 Shaped class (Expression expression) = Allowed class 9 × Shaped BareExpression expression
-Shaped class (If tagIf value then tagElse otherwise) = Allowed class 10 × Shaped Word tagIf × Shaped LocatedExpression value × Shaped BlockRecord then × Given tagElse (Shaped Word tagElse) × Given otherwise (Shaped BlockRecord otherwise) × (stands tagElse ≡ stands otherwise)
-Shaped class (Import tag args source filename block) = Allowed class 11 × Shaped Word tag × Shaped ImportArguments args × Shaped Word source × Shaped StringRecord filename × Given block (Shaped BlockRecord block)
+Shaped class (If tagIf value then tagElse otherwise) =
+    Allowed class 10 × Shaped Word tagIf × Shaped LocatedExpression value × Shaped BlockRecord then × Given tagElse
+    (Shaped Word tagElse) × Given otherwise (Shaped BlockRecord otherwise) × (stands tagElse ≡ stands otherwise)
+Shaped class (Import tag args source filename block) =
+    Allowed class 11 × Shaped Word tag × Shaped ImportArguments args × Shaped Word source × Shaped StringRecord filename × Given block
+    (Shaped BlockRecord block)
 Shaped class (File tag filename) = Allowed class 12 × Shaped Word tag × Shaped StringRecord filename
 Shaped class (Instruction mnemonic operand) = Allowed class 13 × Shaped Mnemonic mnemonic × Given operand (Shaped OperandRecord operand)
 Shaped class (Label id colon block) = Allowed class 14 × Shaped Word id × Shaped Colon colon × Given block (Shaped BlockRecord block)
 Shaped class (Loop tag expr block) = Allowed class 15 × Shaped Word tag × Shaped LocatedExpression expr × Shaped BlockRecord block
-Shaped class (MacroDefinition tag id lparen args rparen block) = Allowed class 16 × Shaped Word tag × Shaped Word id × Shaped Char lparen × Shaped IdentifierArguments args × Shaped Char rparen × Shaped BlockRecord block
+Shaped class (MacroDefinition tag id lparen args rparen block) =
+    Allowed class 16 × Shaped Word tag × Shaped Word id × Shaped Char lparen × Shaped IdentifierArguments args × Shaped Char rparen × Shaped BlockRecord block
 Shaped class (MacroInvocation id lparen args rparen) = Allowed class 17 × Shaped Word id × Shaped Char lparen × Shaped ExpressionArguments args × Shaped Char rparen
 Shaped class (ProgramCounterDefinition star eq value) = Allowed class 18 × Shaped Char star × Shaped Char eq × Shaped LocatedExpression value
 Shaped class (Segment tag id block) = Allowed class 19 × Shaped Word tag × Shaped LocatedExpression id × Given block (Shaped BlockRecord block)
@@ -82,7 +95,9 @@ Shaped class (IdentifierValue path modifier) = Allowed class 33 × Shaped Word p
 Shaped class (Number ty value) = Allowed class 34 × Shaped NumberType ty × Shaped Word value
 Shaped class (StringFactor string) = Allowed class 35 × Shaped StringRecord string
 Shaped class (InterpolatedString lquote items) = Allowed class 36 × Shaped Char lquote × Shaped StringItems items
-Shaped class (Operand expr lchar rchar mode suffix) = Allowed class 37 × Shaped LocatedExpression expr × Given lchar (Shaped Char lchar) × Given rchar (Shaped Char rchar) × Shaped AddressingMode mode × Given suffix (Shaped SuffixRecord suffix)
+Shaped class (Operand expr lchar rchar mode suffix) =
+    Allowed class 37 × Shaped LocatedExpression expr × Given lchar (Shaped Char lchar) × Given rchar
+    (Shaped Char rchar) × Shaped AddressingMode mode × Given suffix (Shaped SuffixRecord suffix)
 Shaped class (RegisterSuffix comma register) = Allowed class 38 × Shaped Char comma × Shaped IndexRegister register
 Shaped class (ImportAs tag path) = Allowed class 39 × Shaped Word tag × Shaped Word path
 Shaped class (ImportAll star alias) = Allowed class 40 × Shaped Char star × Given alias (Shaped AsRecord alias)

@@ -6,7 +6,11 @@ use lib.ListN.{getD}
 use lib.Dec.{eqb, leb}
 use Rattle.options.specs.Types.{optionsOf}
 use Rattle.options.specs.declared.MnemonicOptions.{MnemonicOptions}
-use Rattle.tree.specs.Tree.{Tree, Trivium, absent, refused, node, nil, cons, Align, Assert, Braces, Config, ConfigPair, Data, Definition, Eof, Error, Expression, If, Import, File, Instruction, Label, Loop, MacroDefinition, MacroInvocation, ProgramCounterDefinition, Segment, Test, Text, Trace, VariableDefinition, Vec, Leaf, PathItem, Block, BinaryExpression, Factor, CurrentProgramCounter, ExprParens, FunctionCall, IdentifierValue, Number, StringFactor, InterpolatedString, Operand, RegisterSuffix, ImportAs, ImportAll, SpecificImportArg, ArgItem}
+use Rattle.tree.specs.Tree.{Tree, Trivium, absent, refused, node, nil, cons, Align, Assert, Braces, Config, ConfigPair, Data, Definition, Eof, Error}
+use Rattle.tree.specs.Tree.{Expression, If, Import, File, Instruction, Label, Loop, MacroDefinition, MacroInvocation, ProgramCounterDefinition}
+use Rattle.tree.specs.Tree.{Segment, Test, Text, Trace, VariableDefinition, Vec, Leaf, PathItem, Block, BinaryExpression, Factor}
+use Rattle.tree.specs.Tree.{CurrentProgramCounter, ExprParens, FunctionCall, IdentifierValue, Number, StringFactor, InterpolatedString, Operand}
+use Rattle.tree.specs.Tree.{RegisterSuffix, ImportAs, ImportAll, SpecificImportArg, ArgItem}
 use Rattle.printing.specs.declared.Context.{Context}
 use Rattle.events.specs.Printed.{Style, plain, mnemonic, register, operator, dataSize, encoding, variableType, numberType, modifier, printed}
 use Rattle.events.specs.Views.{ownTrivia, indexOf}
@@ -53,13 +57,19 @@ orderIn casings style (Definition tag id value) = orderIn casings plain tag ++ (
 orderIn casings style (Eof unit) = comments (ownTrivia unit)
 orderIn casings style (Error text) = orderIn casings plain text
 orderIn casings style (Expression expression) = orderIn casings plain expression
-orderIn casings style (If tagIf value then tagElse otherwise) = orderIn casings plain tagIf ++ (orderIn casings plain value ++ (orderIn casings plain then ++ (orderIn casings plain tagElse ++ orderIn casings plain otherwise)))
-orderIn casings style (Import tag args source filename block) = orderIn casings plain tag ++ (orderIn casings plain args ++ (orderIn casings plain source ++ (orderIn casings plain filename ++ orderIn casings plain block)))
+orderIn casings style (If tagIf value then tagElse otherwise) =
+    orderIn casings plain tagIf ++ (orderIn casings plain value ++ (orderIn casings plain then ++ (orderIn casings plain tagElse
+    ++ orderIn casings plain otherwise)))
+orderIn casings style (Import tag args source filename block) =
+    orderIn casings plain tag ++ (orderIn casings plain args ++ (orderIn casings plain source ++ (orderIn casings plain filename
+    ++ orderIn casings plain block)))
 orderIn casings style (File tag filename) = orderIn casings plain tag ++ orderIn casings plain filename
 orderIn casings style (Instruction mnemonic′ operand) = orderIn casings mnemonic mnemonic′ ++ orderIn casings plain operand
 orderIn casings style (Label id colon block) = orderIn casings plain id ++ (comments (ownTrivia colon) ++ ((58 ∷ []) ∷ orderIn casings plain block))
 orderIn casings style (Loop tag expr block) = orderIn casings plain tag ++ (orderIn casings plain expr ++ orderIn casings plain block)
-orderIn casings style (MacroDefinition tag id lparen args rparen block) = orderIn casings plain tag ++ (orderIn casings plain id ++ (orderIn casings plain lparen ++ (orderIn casings plain args ++ (orderIn casings plain rparen ++ orderIn casings plain block))))
+orderIn casings style (MacroDefinition tag id lparen args rparen block) =
+    orderIn casings plain tag ++ (orderIn casings plain id ++ (orderIn casings plain lparen ++ (orderIn casings plain args
+    ++ (orderIn casings plain rparen ++ orderIn casings plain block))))
 orderIn casings style (MacroInvocation id lparen args rparen) = orderIn casings plain id ++ (orderIn casings plain lparen ++ (orderIn casings plain args ++ orderIn casings plain rparen))
 orderIn casings style (ProgramCounterDefinition star eq value) = orderIn casings plain star ++ (orderIn casings plain eq ++ orderIn casings plain value)
 orderIn casings style (Segment tag id block) = orderIn casings plain tag ++ (orderIn casings plain id ++ orderIn casings plain block)
@@ -80,7 +90,9 @@ orderIn casings style (IdentifierValue path modifier′) = orderIn casings modif
 orderIn casings style (Number ty value) = orderIn casings numberType ty ++ orderIn casings plain value
 orderIn casings style (StringFactor string) = orderIn casings plain string
 orderIn casings style (InterpolatedString lquote items) = orderIn casings plain lquote ++ (orderIn casings plain items ++ ((34 ∷ []) ∷ []))
-orderIn casings style (Operand expr lchar rchar mode suffix) = orderIn casings plain lchar ++ (orderIn casings plain expr ++ closingOrder (indexOf mode) (orderIn casings plain rchar) (orderIn casings plain suffix))
+orderIn casings style (Operand expr lchar rchar mode suffix) =
+    orderIn casings plain lchar ++ (orderIn casings plain expr
+    ++ closingOrder (indexOf mode) (orderIn casings plain rchar) (orderIn casings plain suffix))
 orderIn casings style (RegisterSuffix comma register′) = orderIn casings plain comma ++ orderIn casings register register′
 orderIn casings style (ImportAs tag path) = orderIn casings plain tag ++ orderIn casings plain path
 orderIn casings style (ImportAll star alias) = orderIn casings plain star ++ orderIn casings plain alias

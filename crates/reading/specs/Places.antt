@@ -4,7 +4,11 @@ use mathlib.Core.List.{List, [], _∷_, _++_}
 use mathlib.Core.Bool.{Bool, true, false, cond, not, _&&_, _||_}
 use lib.ListN.{getD}
 use lib.Dec.{eqb}
-use Rattle.tree.specs.Tree.{Tree, Trivium, absent, refused, node, nil, cons, Align, Assert, Braces, Config, ConfigPair, Data, Definition, Eof, Error, Expression, If, Import, File, Instruction, Label, Loop, MacroDefinition, MacroInvocation, ProgramCounterDefinition, Segment, Test, Text, Trace, VariableDefinition, Vec, Leaf, PathItem, Block, BinaryExpression, Factor, CurrentProgramCounter, ExprParens, FunctionCall, IdentifierValue, Number, StringFactor, InterpolatedString, Operand, RegisterSuffix, ImportAs, ImportAll, SpecificImportArg, ArgItem}
+use Rattle.tree.specs.Tree.{Tree, Trivium, absent, refused, node, nil, cons, Align, Assert, Braces, Config, ConfigPair, Data, Definition, Eof, Error}
+use Rattle.tree.specs.Tree.{Expression, If, Import, File, Instruction, Label, Loop, MacroDefinition, MacroInvocation, ProgramCounterDefinition}
+use Rattle.tree.specs.Tree.{Segment, Test, Text, Trace, VariableDefinition, Vec, Leaf, PathItem, Block, BinaryExpression, Factor}
+use Rattle.tree.specs.Tree.{CurrentProgramCounter, ExprParens, FunctionCall, IdentifierValue, Number, StringFactor, InterpolatedString, Operand}
+use Rattle.tree.specs.Tree.{RegisterSuffix, ImportAs, ImportAll, SpecificImportArg, ArgItem}
 use Rattle.events.specs.Views.{ownTrivia, headTrivia, tokenNumber, stands, indexOf}
 use Rattle.reading.specs.Order.{isComment}
 
@@ -80,7 +84,8 @@ placesIn listed (File tag filename) = placesIn false tag ++ placesIn false filen
 placesIn listed (Instruction mnemonic operand) = placesIn false mnemonic ++ placesIn false operand
 placesIn listed (Label id colon block) = mark labelColon (atLabelColon colon) ++ (placesIn false id ++ (placesIn false colon ++ placesIn false block))
 placesIn listed (Loop tag expr block) = placesIn false tag ++ (placesIn false expr ++ placesIn false block)
-placesIn listed (MacroDefinition tag id lparen args rparen block) = placesIn false tag ++ (placesIn false id ++ (placesIn false lparen ++ (placesIn false args ++ (placesIn false rparen ++ placesIn false block))))
+placesIn listed (MacroDefinition tag id lparen args rparen block) =
+    placesIn false tag ++ (placesIn false id ++ (placesIn false lparen ++ (placesIn false args ++ (placesIn false rparen ++ placesIn false block))))
 placesIn listed (MacroInvocation id lparen args rparen) = placesIn false id ++ (placesIn false lparen ++ (placesIn false args ++ placesIn false rparen))
 placesIn listed (ProgramCounterDefinition star eq value) = placesIn false star ++ (placesIn false eq ++ placesIn false value)
 placesIn listed (Segment tag id block) = placesIn false tag ++ (placesIn false id ++ placesIn false block)
@@ -101,7 +106,9 @@ placesIn listed (IdentifierValue path modifier) = placesIn false path ++ placesI
 placesIn listed (Number ty value) = placesIn false ty ++ placesIn false value
 placesIn listed (StringFactor string) = placesIn false string
 placesIn listed (InterpolatedString lquote items) = placesIn false lquote ++ placesIn false items
-placesIn listed (Operand expr lchar rchar mode suffix) = mark closingCharacter (atClosingCharacter (indexOf mode) rchar) ++ (placesIn false expr ++ (placesIn false lchar ++ (placesIn false rchar ++ (placesIn false mode ++ placesIn false suffix))))
+placesIn listed (Operand expr lchar rchar mode suffix) =
+    mark closingCharacter (atClosingCharacter (indexOf mode) rchar) ++ (placesIn false expr ++ (placesIn false lchar ++ (placesIn false rchar
+    ++ (placesIn false mode ++ placesIn false suffix))))
 placesIn listed (RegisterSuffix comma register) = mark registerLetter (atRegisterLetter register) ++ (placesIn false comma ++ placesIn false register)
 placesIn listed (ImportAs tag path) = placesIn false tag ++ placesIn false path
 placesIn listed (ImportAll star alias) = placesIn false star ++ placesIn false alias

@@ -10,7 +10,8 @@ use borrow.Author.Tests.{ltb-true, ltb-false, leb-true, leb-false, eqb-true, eqb
 use Rattle.text.specs.Numbers.{numberAt}
 use Rattle.text.proofs.Choices.{by-test, and-true-left, and-true-right}
 use Rattle.tree.specs.Grammar.{kindOf, rule}
-use Rattle.tree.specs.Own.{mayStand, mapFits, sizedEnd, triviumEnd, triviaEnd, behind, triviaSpan, triviaRead, textOn, textEnd, ownOf, leafOn, restOf, triviaOfRecord, mapOfRecord, ownAt, readOwn, OwnFits}
+use Rattle.tree.specs.Own.{mayStand, mapFits, sizedEnd, triviumEnd, triviaEnd, behind, triviaSpan, triviaRead, textOn, textEnd, ownOf, leafOn}
+use Rattle.tree.specs.Own.{restOf, triviaOfRecord, mapOfRecord, ownAt, readOwn, OwnFits}
 use Rattle.tree.specs.Reading.{triviumBehind}
 use Rattle.tree.specs.declared.grammar.Kind.{Kind}
 use Rattle.tree.specs.declared.grammar.KindRead.{KindRead}

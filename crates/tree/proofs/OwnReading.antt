@@ -47,7 +47,8 @@ module _ (bytes : List ℕ) (at : ℕ) (text : TextRule) (number : ℕ) (kind : 
 
 -- ---- a record that has a first byte
 
-module _ (bytes : List ℕ) (at : ℕ) (class : Class) {number : ℕ} (byte : number ≡ getD bytes at 0) {ruled : Rule} (rules : ruled ≡ rule class) {stands : Bool} (may : stands ≡ mayStand ruled number) where
+module _ (bytes : List ℕ) (at : ℕ) (class : Class) {number : ℕ} (byte : number ≡ getD bytes at 0) {ruled : Rule}
+    (rules : ruled ≡ rule class) {stands : Bool} (may : stands ≡ mayStand ruled number) where
   -- by whether the kind may stand
   own-of : ownAt bytes at class ≡ cond stands (mapOfRecord bytes at ruled number (kindOf number)) (Refused (layout at))
   unfolding ownAt

@@ -9,7 +9,12 @@ use lib.ListN.{List·getD-eq-default}
 use Rattle.text.proofs.Choices.{by-test}
 use Rattle.tree.specs.Grammar.{Slot, must, may}
 use Rattle.tree.specs.declared.grammar.Class.{Class}
-use Rattle.tree.specs.declared.grammar.Class.the-variants.{Word, Char, OpenBrace, CloseBrace, Colon, Unit, Mnemonic, IndexRegister, AddressModifier, VariableType, NumberType, DataSize, BinaryOp, TextEncoding, AddressingMode, StringItem, LocatedExpression, BareExpression, LocatedFactor, BareToken, LocatedToken, BlockRecord, StringRecord, OperandRecord, SuffixRecord, AsRecord, ImportArguments, ImportPath, ExpressionArgument, IdentifierArgument, ImportArgument, Tokens, ExpressionArguments, IdentifierArguments, StringItems}
+use Rattle.tree.specs.declared.grammar.Class.the-variants.{Word, Char, OpenBrace, CloseBrace, Colon, Unit, Mnemonic, IndexRegister}
+use Rattle.tree.specs.declared.grammar.Class.the-variants.{AddressModifier, VariableType, NumberType, DataSize, BinaryOp, TextEncoding}
+use Rattle.tree.specs.declared.grammar.Class.the-variants.{AddressingMode, StringItem, LocatedExpression, BareExpression, LocatedFactor}
+use Rattle.tree.specs.declared.grammar.Class.the-variants.{BareToken, LocatedToken, BlockRecord, StringRecord, OperandRecord, SuffixRecord}
+use Rattle.tree.specs.declared.grammar.Class.the-variants.{AsRecord, ImportArguments, ImportPath, ExpressionArgument, IdentifierArgument}
+use Rattle.tree.specs.declared.grammar.Class.the-variants.{ImportArgument, Tokens, ExpressionArguments, IdentifierArguments, StringItems}
 use Rattle.tree.specs.Walk.{classNumber, classes, classOf, slotCode, rowOf}
 
 -- the class of a class's number is the class

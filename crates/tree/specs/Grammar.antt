@@ -9,7 +9,12 @@ use Rattle.tree.specs.declared.grammar.Kind.the-variants as kind
 use Rattle.tree.specs.declared.grammar.KindRead.{KindRead}
 use Rattle.tree.specs.declared.grammar.KindRead.the-variants.{Known, Unknown}
 use Rattle.tree.specs.declared.grammar.Class.{Class}
-use Rattle.tree.specs.declared.grammar.Class.the-variants.{Word, Char, OpenBrace, CloseBrace, Colon, Unit, Mnemonic, IndexRegister, AddressModifier, VariableType, NumberType, DataSize, BinaryOp, TextEncoding, AddressingMode, StringItem, LocatedExpression, BareExpression, LocatedFactor, BareToken, LocatedToken, BlockRecord, StringRecord, OperandRecord, SuffixRecord, AsRecord, ImportArguments, ImportPath, ExpressionArgument, IdentifierArgument, ImportArgument, Tokens, ExpressionArguments, IdentifierArguments, StringItems}
+use Rattle.tree.specs.declared.grammar.Class.the-variants.{Word, Char, OpenBrace, CloseBrace, Colon, Unit, Mnemonic, IndexRegister}
+use Rattle.tree.specs.declared.grammar.Class.the-variants.{AddressModifier, VariableType, NumberType, DataSize, BinaryOp, TextEncoding}
+use Rattle.tree.specs.declared.grammar.Class.the-variants.{AddressingMode, StringItem, LocatedExpression, BareExpression, LocatedFactor}
+use Rattle.tree.specs.declared.grammar.Class.the-variants.{BareToken, LocatedToken, BlockRecord, StringRecord, OperandRecord, SuffixRecord}
+use Rattle.tree.specs.declared.grammar.Class.the-variants.{AsRecord, ImportArguments, ImportPath, ExpressionArgument, IdentifierArgument}
+use Rattle.tree.specs.declared.grammar.Class.the-variants.{ImportArgument, Tokens, ExpressionArguments, IdentifierArguments, StringItems}
 use Rattle.tree.specs.declared.grammar.TextRule.{TextRule}
 use Rattle.tree.specs.declared.grammar.TextRule.the-variants.{NoText, Free, Byte}
 use Rattle.tree.specs.declared.grammar.Items.the-variants.{NoList, ListOf}

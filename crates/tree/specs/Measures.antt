@@ -1,7 +1,11 @@
 -- Two measures of a tree: whether it holds a refusal, and how deep its blocks nest.
 use Prim.Native.Nat.{ℕ, _+_, max}
 use mathlib.Core.Bool.{Bool, true, false, _&&_}
-use Rattle.tree.specs.Tree.{Tree, absent, refused, node, nil, cons, Align, Assert, Braces, Config, ConfigPair, Data, Definition, Eof, Error, Expression, If, Import, File, Instruction, Label, Loop, MacroDefinition, MacroInvocation, ProgramCounterDefinition, Segment, Test, Text, Trace, VariableDefinition, Vec, Leaf, PathItem, Block, BinaryExpression, Factor, CurrentProgramCounter, ExprParens, FunctionCall, IdentifierValue, Number, StringFactor, InterpolatedString, Operand, RegisterSuffix, ImportAs, ImportAll, SpecificImportArg, ArgItem}
+use Rattle.tree.specs.Tree.{Tree, absent, refused, node, nil, cons, Align, Assert, Braces, Config, ConfigPair, Data, Definition, Eof, Error}
+use Rattle.tree.specs.Tree.{Expression, If, Import, File, Instruction, Label, Loop, MacroDefinition, MacroInvocation, ProgramCounterDefinition}
+use Rattle.tree.specs.Tree.{Segment, Test, Text, Trace, VariableDefinition, Vec, Leaf, PathItem, Block, BinaryExpression, Factor}
+use Rattle.tree.specs.Tree.{CurrentProgramCounter, ExprParens, FunctionCall, IdentifierValue, Number, StringFactor, InterpolatedString, Operand}
+use Rattle.tree.specs.Tree.{RegisterSuffix, ImportAs, ImportAll, SpecificImportArg, ArgItem}
 
 -- a tree that holds no refusal
 unfoldable pub whole : Tree → Bool

@@ -6,7 +6,11 @@ use lib.ListN.{length}
 use lib.Dec.{eqb}
 use Rattle.text.specs.Numbers.{twoBytes}
 use Rattle.text.specs.Ink.{flat}
-use Rattle.tree.specs.Tree.{Tree, Trivium, absent, refused, node, nil, cons, Align, Assert, Braces, Config, ConfigPair, Data, Definition, Eof, Error, Expression, If, Import, File, Instruction, Label, Loop, MacroDefinition, MacroInvocation, ProgramCounterDefinition, Segment, Test, Text, Trace, VariableDefinition, Vec, Leaf, PathItem, Block, BinaryExpression, Factor, CurrentProgramCounter, ExprParens, FunctionCall, IdentifierValue, Number, StringFactor, InterpolatedString, Operand, RegisterSuffix, ImportAs, ImportAll, SpecificImportArg, ArgItem}
+use Rattle.tree.specs.Tree.{Tree, Trivium, absent, refused, node, nil, cons, Align, Assert, Braces, Config, ConfigPair, Data, Definition, Eof}
+use Rattle.tree.specs.Tree.{Error, Expression, If, Import, File, Instruction, Label, Loop, MacroDefinition, MacroInvocation}
+use Rattle.tree.specs.Tree.{ProgramCounterDefinition, Segment, Test, Text, Trace, VariableDefinition, Vec, Leaf, PathItem, Block}
+use Rattle.tree.specs.Tree.{BinaryExpression, Factor, CurrentProgramCounter, ExprParens, FunctionCall, IdentifierValue, Number, StringFactor}
+use Rattle.tree.specs.Tree.{InterpolatedString, Operand, RegisterSuffix, ImportAs, ImportAll, SpecificImportArg, ArgItem}
 
 -- "each a code (0 whitespace, 1 newline, 2 C style, 3 C++ style) and, but for newline, a two-byte length and bytes"
 abbrev pub storedTrivium : Trivium → List ℕ
@@ -122,7 +126,9 @@ storedWith trivia (File tag filename) = storedNode 12 trivia (storedWith [] tag 
 storedWith trivia (Instruction mnemonic operand) = storedNode 13 trivia (storedWith [] mnemonic ∷ storedWith [] operand ∷ [])
 storedWith trivia (Label id colon block) = storedNode 14 trivia (storedWith [] id ∷ storedWith [] colon ∷ storedWith [] block ∷ [])
 storedWith trivia (Loop tag expr block) = storedNode 15 trivia (storedWith [] tag ∷ storedWith [] expr ∷ storedWith [] block ∷ [])
-storedWith trivia (MacroDefinition tag id lparen args rparen block) = storedNode 16 trivia (storedWith [] tag ∷ storedWith [] id ∷ storedWith [] lparen ∷ storedWith [] args ∷ storedWith [] rparen ∷ storedWith [] block ∷ [])
+storedWith trivia (MacroDefinition tag id lparen args rparen block) =
+    storedNode 16 trivia (storedWith [] tag ∷ storedWith [] id ∷ storedWith [] lparen ∷ storedWith [] args ∷ storedWith [] rparen
+    ∷ storedWith [] block ∷ [])
 storedWith trivia (MacroInvocation id lparen args rparen) = storedNode 17 trivia (storedWith [] id ∷ storedWith [] lparen ∷ storedWith [] args ∷ storedWith [] rparen ∷ [])
 storedWith trivia (ProgramCounterDefinition star eq value) = storedNode 18 trivia (storedWith [] star ∷ storedWith [] eq ∷ storedWith [] value ∷ [])
 storedWith trivia (Segment tag id block) = storedNode 19 trivia (storedWith [] tag ∷ storedWith [] id ∷ storedWith [] block ∷ [])
@@ -143,7 +149,8 @@ storedWith trivia (IdentifierValue path modifier) = storedNode 33 trivia (stored
 storedWith trivia (Number ty value) = storedNode 34 trivia (storedWith [] ty ∷ storedWith [] value ∷ [])
 storedWith trivia (StringFactor string) = storedNode 35 trivia (storedWith [] string ∷ [])
 storedWith trivia (InterpolatedString lquote items) = storedNode 36 trivia (storedWith [] lquote ∷ storedWith [] items ∷ [])
-storedWith trivia (Operand expr lchar rchar addressingmode suffix) = storedNode 37 trivia (storedWith [] expr ∷ storedWith [] lchar ∷ storedWith [] rchar ∷ storedWith [] addressingmode ∷ storedWith [] suffix ∷ [])
+storedWith trivia (Operand expr lchar rchar addressingmode suffix) =
+    storedNode 37 trivia (storedWith [] expr ∷ storedWith [] lchar ∷ storedWith [] rchar ∷ storedWith [] addressingmode ∷ storedWith [] suffix ∷ [])
 storedWith trivia (RegisterSuffix comma register) = storedNode 38 trivia (storedWith [] comma ∷ storedWith [] register ∷ [])
 storedWith trivia (ImportAs tag path) = storedNode 39 trivia (storedWith [] tag ∷ storedWith [] path ∷ [])
 storedWith trivia (ImportAll star alias) = storedNode 40 trivia (storedWith [] star ∷ storedWith [] alias ∷ [])

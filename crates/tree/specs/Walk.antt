@@ -11,7 +11,12 @@ use Rattle.text.specs.Accepted.{acceptedText, faultAt}
 use Rattle.tree.specs.Grammar.{Slot, must, may}
 use Rattle.tree.specs.Reading.{Placed, Reading, Due, nothing, due, fieldsDue}
 use Rattle.tree.specs.declared.grammar.Class.{Class}
-use Rattle.tree.specs.declared.grammar.Class.the-variants.{Word, Char, OpenBrace, CloseBrace, Colon, Unit, Mnemonic, IndexRegister, AddressModifier, VariableType, NumberType, DataSize, BinaryOp, TextEncoding, AddressingMode, StringItem, LocatedExpression, BareExpression, LocatedFactor, BareToken, LocatedToken, BlockRecord, StringRecord, OperandRecord, SuffixRecord, AsRecord, ImportArguments, ImportPath, ExpressionArgument, IdentifierArgument, ImportArgument, Tokens, ExpressionArguments, IdentifierArguments, StringItems}
+use Rattle.tree.specs.declared.grammar.Class.the-variants.{Word, Char, OpenBrace, CloseBrace, Colon, Unit, Mnemonic, IndexRegister}
+use Rattle.tree.specs.declared.grammar.Class.the-variants.{AddressModifier, VariableType, NumberType, DataSize, BinaryOp, TextEncoding}
+use Rattle.tree.specs.declared.grammar.Class.the-variants.{AddressingMode, StringItem, LocatedExpression, BareExpression, LocatedFactor}
+use Rattle.tree.specs.declared.grammar.Class.the-variants.{BareToken, LocatedToken, BlockRecord, StringRecord, OperandRecord, SuffixRecord}
+use Rattle.tree.specs.declared.grammar.Class.the-variants.{AsRecord, ImportArguments, ImportPath, ExpressionArgument, IdentifierArgument}
+use Rattle.tree.specs.declared.grammar.Class.the-variants.{ImportArgument, Tokens, ExpressionArguments, IdentifierArguments, StringItems}
 use Rattle.tree.specs.declared.check.Plan.{Plan}
 use Rattle.tree.specs.declared.check.Part.{Part}
 use Rattle.tree.specs.declared.check.Part.the-variants.{Next, NoPart}

@@ -61,7 +61,17 @@ item-read {bytes} {at} {end} item fits stands =
     let last′ : at + 1 + 2 + length (item .text) ≡ end = omega arith in
     let first : at + 1 + 2 ≡ at + 3 = omega arith in
     record {
-      span = rw (lt-leb (length bytes) at (byte .1), byte .0, q, le-ltb 3 (item .code) (fits .code), le-leb (at + 1 + 2) (length bytes) (text .room), text .count, last′, le-ltb (length bytes) end (text .letters .inside));
+      span = rw (
+        lt-leb (length bytes) at (byte .1),
+        byte .0,
+        q,
+        le-ltb 3 (item .code) (fits .code),
+        le-leb (at + 1 + 2) (length bytes)
+            (text .room),
+        text .count,
+        last′,
+        le-ltb (length bytes) end (text .letters .inside),
+      );
       behind = rw (byte .0, q, text .count, last);
       code = byte .0;
       text = rw (byte .0, q, text .count, last, ← first) (sym (text .letters .same));

@@ -24,8 +24,15 @@ returns-2 : tie.Need-returns-2
 returns-2 c =
     let standing = c .before .before .before .before .bit in
     let stands : standing .result ≡ 1 = omega arith in
-    simp
-    (← (c .before .before .before .before .before .before .pre .1), ← (standing .ensures .0), stands, ← (c .before .place-of .ensures .0), ← (c .before .before .largest-of .ensures), ← (c .byte-at .ensures .0))
+    simp (
+      ← (c .before .before .before .before .before .before .pre .1),
+      ← (standing .ensures .0),
+      stands,
+      ← (c .before .place-of .ensures .0),
+      ←
+          (c .before .before .largest-of .ensures),
+      ← (c .byte-at .ensures .0),
+    )
 
 pub too-large-spec : {M : Type 1} → statement M
 too-large-spec =

@@ -21,7 +21,10 @@ is-newline-requires-2 : tie.Need-is-newline-requires-2
 is-newline-requires-2 c κs = search needs
 
 returns-3 : tie.Need-returns-3
-returns-3 c = rw (c .before .before .before .if1 .left) (c .is-newline2 .ensures ∙ ap isNewline (none-behind _ (c .before .before .before .before .before .before .args .back .now) (c .before .if3 .taken)))
+returns-3 c =
+    let step = c .before .before .before in
+    rw (step .if1 .left) (c .is-newline2 .ensures ∙ ap isNewline (none-behind _ (step .before .before .before .args .back .now)
+    (c .before .if3 .taken)))
 
 returns-4 : tie.Need-returns-4
 returns-4 c =

@@ -47,7 +47,8 @@ returns-2 c =
     let looked = c .before .before in
     let turn = looked .before .before .loop in
     let none = sym (looked .chunk-at .ensures .0) ∙ c .enum-told .given .1 in
-    sym (bad-chunk (looked .before .before .before .before .before .args .list .now) (turn .at) (turn .fault) (looked .before .before .before .if1 .left) (turn .inv) (looked .before .loop-test .taken) none)
+    sym (bad-chunk (looked .before .before .before .before .before .args .list .now) (turn .at) (turn .fault)
+    (looked .before .before .before .if1 .left) (turn .inv) (looked .before .loop-test .taken) none)
 
 fault-in-requires : tie.Need-fault-in-requires Inv-loop μ-loop
 fault-in-requires c κs = omega (arith, fit c)

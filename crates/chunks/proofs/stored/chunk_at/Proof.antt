@@ -58,7 +58,8 @@ returns-4 : tie.Need-returns-4
 returns-4 c =
     let tested = c .before .before .before in
     let start = tested .before .before .before .before .before .before in
-    let plain = chunk-plain (start .args .list .now) (start .args .at) (tested .before .before .before .before .if1 .left) (tested .before .before .wide .ensures .0) (tested .before .if2 .left) (tested .if3 .left)
+    let plain = chunk-plain (start .args .list .now) (start .args .at) (tested .before .before .before .before .if1 .left)
+    (tested .before .before .wide .ensures .0) (tested .before .if2 .left) (tested .if3 .left)
     (c .before .if4 .taken) in
     let same : c .text-at .result ≡ chunkAt (start .args .list .now) (start .args .at) = c .text-at .ensures ∙ rw (c .before .before .type-of .ensures) (sym plain) in
     (same, rw same (found-fits (tested .before .before .before .before .before)))

@@ -36,7 +36,9 @@ add-t9 c =
     omega (arith, c .before .leading-blanks .ensures, leading-lt bytes (end-ink bytes (λ e. test .if1 .left (test .before .ink-end .ensures ∙ e))))
 
 add-t10 : tie.Need-add-t10
-add-t10 c = omega (arith, c .before .before .before .before .before .before .before .ink-end .ensures, ink-end-le (c .before .before .before .before .before .before .before .before .before .args .bytes .now))
+add-t10 c =
+    let step = c .before .before .before .before .before .before .before in
+    omega (arith, step .ink-end .ensures, ink-end-le (step .before .before .args .bytes .now))
 
 returns-2 : tie.Need-returns-2
 returns-2 c =

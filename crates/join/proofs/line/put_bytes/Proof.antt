@@ -40,7 +40,8 @@ add-copy : tie.Need-add-copy
 add-copy c =
     let start = c .before .before .before .before .before .before .before .before .before in
     let test = c .before .before .before .before in
-    let room = shown-room (start .args .window) (start .args .at) (start .args .at + length (start .args .bytes .now)) (length (start .args .text .now)) (test .before .before .larger .ensures) (test .before .smaller .ensures) (test .if1 .taken) (start .pre .0) in
+    let room = shown-room (start .args .window) (start .args .at) (start .args .at + length (start .args .bytes .now)) (length
+    (start .args .text .now)) (test .before .before .larger .ensures) (test .before .smaller .ensures) (test .if1 .taken) (start .pre .0) in
     fits-le (le-trans (le-add-right _ _) room) (search needs)
 
 copy-requires : tie.Need-copy-requires
@@ -53,7 +54,8 @@ returns : tie.Need-returns
 returns c =
     let start = c .before .before .before .before .before .before .before .before .before .before .before .before in
     let test = c .before .before .before .before .before .before .before in
-    c .before .before .copy .ensures .1 ∙ puts-shown (start .args .text .now) (start .args .window) (start .args .at) (start .args .bytes .now) (test .before .before .larger .ensures) (test .before .smaller .ensures) (test .if1 .taken) (start .pre .0)
+    c .before .before .copy .ensures .1 ∙ puts-shown (start .args .text .now) (start .args .window) (start .args .at) (start .args .bytes .now)
+    (test .before .before .larger .ensures) (test .before .smaller .ensures) (test .if1 .taken) (start .pre .0)
 
 returns-2 : tie.Need-returns-2
 returns-2 c =

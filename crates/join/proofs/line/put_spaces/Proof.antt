@@ -36,13 +36,15 @@ returns : tie.Need-returns
 returns c =
     let start = c .before .before .before .before .before .before .before .before .before .before in
     let test = c .before .before .before .before .before .before in
-    c .before .before .fill .ensures .1 ∙ spaces-shown (start .args .text .now) (start .args .window) (start .args .at) (start .args .count) (test .before .before .larger .ensures) (test .before .smaller .ensures) (test .if1 .taken) (start .pre .0)
+    c .before .before .fill .ensures .1 ∙ spaces-shown (start .args .text .now) (start .args .window) (start .args .at) (start .args .count)
+    (test .before .before .larger .ensures) (test .before .smaller .ensures) (test .if1 .taken) (start .pre .0)
 
 returns-2 : tie.Need-returns-2
 returns-2 c =
     let start = c .before .before .before .before in
     let count = start .args .count in
-    puts-hidden (start .args .text .now) (start .args .window) (start .args .at) (spaces count) (c .before .before .larger .ensures) (rw (length-replicate {A = ℕ} count 32) (c .before .smaller .ensures)) (c .if1 .left)
+    puts-hidden (start .args .text .now) (start .args .window) (start .args .at) (spaces count) (c .before .before .larger .ensures) (rw
+    (length-replicate {A = ℕ} count 32) (c .before .smaller .ensures)) (c .if1 .left)
 
 pub put-spaces-spec : {M : Type 1} → statement M
 put-spaces-spec =

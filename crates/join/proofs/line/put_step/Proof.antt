@@ -42,7 +42,9 @@ returns : tie.Need-returns
 returns c =
     let start = c .before .before .before .before .before .before .before .before .before .before .before .before .before .before .before .before .before in (
       omega arith,
-      puts-step (start .args .text .now) (start .args .window) (start .args .at) (start .args .list .now) (start .args .step) (start .pre .0 .2) (c .before .before .before .before .before .before .before .before .before .before .before .before .put-spaces .ensures) (c .before .before .before .before .before .before .before .put-bytes .ensures) (c .before .before .before .put-spaces2 .ensures),
+      puts-step (start .args .text .now) (start .args .window) (start .args .at) (start .args .list .now) (start .args .step) (start .pre .0 .2)
+          (c .before .before .before .before .before .before .before .before .before .before .before .before .put-spaces .ensures)
+          (c .before .before .before .before .before .before .before .put-bytes .ensures) (c .before .before .before .put-spaces2 .ensures),
     )
 
 pub put-step-spec : {M : Type 1} → statement M

@@ -36,7 +36,12 @@ put-step-requires c κs =
 loop-less : tie.Need-loop-less Inv-loop μ-loop
 loop-less c =
     let turn = c .before .before .before .before .before .before .before .loop in
-    omega (arith, turn .inv .0 .walking .more (not-true (turn .ended) (c .before .before .before .before .before .before .loop-test .taken)), c .before .before .before .before .before .step-over .ensures .onward)
+    omega (
+      arith,
+      turn .inv .0 .walking .more (not-true (turn .ended)
+          (c .before .before .before .before .before .before .loop-test .taken)),
+      c .before .before .before .before .before .step-over .ensures .onward,
+    )
 
 loop-again : tie.Need-loop-again Inv-loop μ-loop
 loop-again c =

@@ -43,15 +43,21 @@ place-requires c κs =
 grown-requires : tie.Need-grown-requires Inv-loop μ-loop
 grown-requires c κs =
     let given = c .before .before .before .before .before .before .before .before .before .before .before .before .before .pre .0 in
-    line-small (c .before .before .before .before .before .before .before .before .before .loop .inv .0) (given .0) (c .before .before .before .before .before .before .measure-line .ensures) (c .before .before .before .before .cut-of .ensures) (given .2)
+    line-small (c .before .before .before .before .before .before .before .before .before .loop .inv .0) (given .0)
+    (c .before .before .before .before .before .before .measure-line .ensures) (c .before .before .before .before .cut-of .ensures) (given .2)
 
 loop-less : tie.Need-loop-less Inv-loop μ-loop
-loop-less c = omega (arith, c .before .before .before .before .before .before .before .before .before .if1 .taken, c .before .before .before .before .before .before .before .before .measure-line .ensures .onward)
+loop-less c =
+    let step = c .before .before .before .before .before .before .before .before in
+    omega (arith, step .before .if1 .taken, step .measure-line .ensures .onward)
 
 loop-again : tie.Need-loop-again Inv-loop μ-loop
 loop-again c =
     let turn = c .before .before .before .before .before .before .before .before .before .before .before .loop .inv in (
-      rw (c .before .grown .ensures, c .before .before .before .before .place .ensures) (running-on (turn .0) (c .before .before .before .before .before .before .before .before .before .before .before .before .before .before .before .pre .0 .0) (c .before .before .before .before .before .before .before .before .measure-line .ensures) (c .before .before .before .before .before .before .cut-of .ensures)),
+      rw (c .before .grown .ensures, c .before .before .before .before .place .ensures) (running-on (turn .0)
+          (c .before .before .before .before .before .before .before .before .before .before .before .before .before .before .before .pre .0 .0)
+          (c .before .before .before .before .before .before .before .before .measure-line .ensures)
+          (c .before .before .before .before .before .before .cut-of .ensures)),
       c .before .before .before .before .place .kept .0 ∙ turn .1,
     )
 

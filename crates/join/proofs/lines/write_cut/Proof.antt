@@ -23,10 +23,15 @@ fill-requires-2 c κs = search needs
 
 write-line-requires : tie.Need-write-line-requires
 write-line-requires c κs =
-    let start = c .before .before .before .before .before .before .before .before .before .before .before .before .before in
+    let spaced = c .before .before .before in
+    let emptied = spaced .before .before .before .before in
+    let started = emptied .before .before .before in
+    let start = started .before .before .before in
     let args = start .args in
-    let end = cut-end (args .past) (args .cut) (lineAt (args .margins) (args .list .now) (args .spot) .line .bytes) (start .pre .1 .0) in
-    (start .pre .0, omega (arith, c .before .before .before .before .before .before .before .before .before .before .line-start .ensures, c .before .before .before .before .before .before .before .fill .kept .0, c .before .before .before .fill2 .kept .0))
+    let end = cut-end (args .past) (args .cut) (lineAt (args .margins) (args .list .now) (args .spot) .line .bytes) (start .pre .1 .0) in (
+      start .pre .0,
+      omega (arith, started .line-start .ensures, emptied .fill .kept .0, spaced .fill2 .kept .0),
+    )
 
 same-length : tie.Need-same-length
 same-length c = search needs
@@ -34,8 +39,11 @@ same-length c = search needs
 returns : tie.Need-returns
 returns c =
     let start = c .before .before .before .before .before .before .before .before .before .before .before .before .before .before .before .before in
-    cut-written (start .args .past) (start .args .cut) _ (start .pre .1 .0) _ _ _ _ (c .before .before .before .before .before .before .before .before .before .before .before .before .before .line-start .ensures) (start .pre .1 .1)
-    (c .before .before .before .before .before .before .before .before .before .before .fill .ensures .1) (c .before .before .before .before .before .before .fill2 .ensures .1) (c .before .before .write-line .ensures)
+    cut-written (start .args .past) (start .args .cut) _ (start .pre .1 .0) _ _ _ _
+    (c .before .before .before .before .before .before .before .before .before .before .before .before .before .line-start .ensures)
+    (start .pre .1 .1)
+    (c .before .before .before .before .before .before .before .before .before .before .fill .ensures .1)
+    (c .before .before .before .before .before .before .fill2 .ensures .1) (c .before .before .write-line .ensures)
 
 pub write-cut-spec : {M : Type 1} → statement M
 write-cut-spec =

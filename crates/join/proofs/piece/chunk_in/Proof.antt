@@ -64,7 +64,8 @@ returns-2 : tie.Need-returns-2
 returns-2 c =
     let start = c .before .before .before .before .before .before .before in
     let found = found-indented _ _ (start .pre .0) (start .pre .1)
-    (c .before .before .before .before .wide .ensures .0) (c .before .before .before .if1 .left) (c .before .before .type-of2 .ensures) (c .before .number-at2 .ensures .0) (c .number-at3 .ensures .0) in
+    (c .before .before .before .before .wide .ensures .0) (c .before .before .before .if1 .left) (c .before .before .type-of2 .ensures)
+    (c .before .number-at2 .ensures .0) (c .number-at3 .ensures .0) in
     (found, found-fits _ _ _ (λ i. omega (arith, c .before .before .before .before .before .before .shared-slice-known .given i)) found)
 
 pub chunk-in-spec : {M : Type 1} → statement M

@@ -37,15 +37,19 @@ returns-2 c =
     let start = c .before .before .before .before .before .before .before .before .before .before in
     let list = start .args .chunks .now in
     let passed = sym (c .before .before .before .before .before .before .before .check-chunks .ensures) ∙ c .before .before .before .before .before .enum-told .given .1 in
-    let faithful = text-faithful (start .args .margins) list (start .pre) (λ i. omega (arith, c .before .before .before .before .before .before .before .before .before .shared-slice-known .given i)) passed in
+    let faithful = text-faithful (start .args .margins) list (start .pre) (λ i. omega
+    (arith, c .before .before .before .before .before .before .before .before .before .shared-slice-known .given i)) passed in
     let measured = c .before .before .before .set-lines .ensures in
     let long = text-long (textOf (start .args .margins) (chunksOf list)) (start .args .text .now) _ (measured .0) (rw (measured .1) at (c .if1 .taken)) in
     rw passed (long .0, (measured .1 ∙ long .1, faithful))
 
 set-lines-requires-2 : tie.Need-set-lines-requires-2
 set-lines-requires-2 c κs =
-    let passed = sym (c .before .before .before .before .before .before .before .before .check-chunks .ensures) ∙ c .before .before .before .before .before .before .enum-told .given .1 in
-    ((c .before .before .before .before .before .before .before .before .before .before .before .pre, passed-end _ passed, passed-short _ passed), λ _. rw (c .before .before .before .before .set-lines .ensures .0) at (c .before .if1 .left))
+    let passed = sym (c .before .before .before .before .before .before .before .before .check-chunks .ensures) ∙ c .before .before .before .before .before .before .enum-told .given .1 in (
+      (c .before .before .before .before .before .before .before .before .before .before .before .pre, passed-end _ passed, passed-short _ passed),
+      λ _. rw
+          (c .before .before .before .before .set-lines .ensures .0) at (c .before .if1 .left),
+    )
 
 same-length-2 : tie.Need-same-length-2
 same-length-2 c = search needs
@@ -54,8 +58,10 @@ returns-3 : tie.Need-returns-3
 returns-3 c =
     let start = c .before .before .before .before .before .before .before .before .before .before .before .before .before .before in
     let list = start .args .chunks .now in
-    let passed = sym (c .before .before .before .before .before .before .before .before .before .before .before .check-chunks .ensures) ∙ c .before .before .before .before .before .before .before .before .before .enum-told .given .1 in
-    let faithful = text-faithful (start .args .margins) list (start .pre) (λ i. omega (arith, c .before .before .before .before .before .before .before .before .before .before .before .before .before .shared-slice-known .given i)) passed in
+    let passed = sym (c .before .before .before .before .before .before .before .before .before .before .before .check-chunks .ensures)
+    ∙ c .before .before .before .before .before .before .before .before .before .enum-told .given .1 in
+    let faithful = text-faithful (start .args .margins) list (start .pre) (λ i. omega
+    (arith, c .before .before .before .before .before .before .before .before .before .before .before .before .before .shared-slice-known .given i)) passed in
     let measured = c .before .before .before .before .before .before .before .set-lines .ensures in
     let room = rw (measured .1) at (c .before .before .before .before .if1 .left) in
     let written = rw (measured .1) at (c .before .before .set-lines2 .ensures .1) in

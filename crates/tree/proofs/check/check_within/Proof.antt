@@ -36,7 +36,8 @@ failed-requires-3 c κs = search needs
 returns-3 : tie.Need-returns-3
 returns-3 c =
     let read = c .before .before .before .before .before in
-    c .failed3 .ensures ∙ check-behind _ _ _ (read .before .before .if1 .left) (read .before .if2 .left) _ (read .read-record .ensures) _ _ (c .before .before .before .read2 .given .1) (c .before .if3 .taken)
+    c .failed3 .ensures ∙ check-behind _ _ _ (read .before .before .if1 .left) (read .before .if2 .left) _ (read .read-record .ensures) _ _
+    (c .before .before .before .read2 .given .1) (c .before .if3 .taken)
 
 failed-requires-4 : tie.Need-failed-requires-4
 failed-requires-4 c κs = search needs
@@ -44,7 +45,8 @@ failed-requires-4 c κs = search needs
 returns-4 : tie.Need-returns-4
 returns-4 c =
     let read = c .before .before .before .before .before .before in
-    c .failed4 .ensures ∙ check-fault _ _ _ (read .before .before .if1 .left) (read .before .if2 .left) _ (read .read-record .ensures) _ _ (c .before .before .before .before .read2 .given .1) (c .before .before .if3 .left) (c .before .if4 .taken)
+    c .failed4 .ensures ∙ check-fault _ _ _ (read .before .before .if1 .left) (read .before .if2 .left) _ (read .read-record .ensures) _ _
+    (c .before .before .before .before .read2 .given .1) (c .before .before .if3 .left) (c .before .if4 .taken)
 
 returns-5 : tie.Need-returns-5
 returns-5 c =

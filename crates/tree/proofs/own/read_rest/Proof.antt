@@ -62,7 +62,8 @@ layout-requires-2 c κs = search needs
 returns-3 : tie.Need-returns-3
 returns-3 c =
     c .layout2 .ensures
-    ∙ rest-leaf _ _ _ _ _ _ _ (c .before .before .before .before .before .before .if1 .left) (c .before .before .before .before .before .has-text .ensures) (c .before .before .before .before .if2 .taken)
+    ∙ rest-leaf _ _ _ _ _ _ _ (c .before .before .before .before .before .before .if1 .left)
+    (c .before .before .before .before .before .has-text .ensures) (c .before .before .before .before .if2 .taken)
     (c .before .before .before .text-end .ensures) _ (c .before .enum-told2 .given .1)
 
 add-own-of-3 : tie.Need-add-own-of-3

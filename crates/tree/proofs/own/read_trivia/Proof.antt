@@ -49,7 +49,8 @@ returns-4 c =
 returns-5 : tie.Need-returns-5
 returns-5 c =
     trivia-some _ _ (c .before .before .before .before .before .before .before .before .read-number .ensures) _ (c .before .before .before .before .before .before .before .before .before .if1 .left)
-    _ (c .before .before .before .before .before .before .number .given .1) (c .before .before .before .before .if2 .left) (c .before .before .before .trivia-end .ensures) _ (c .before .items .given .1)
+    _ (c .before .before .before .before .before .before .number .given .1) (c .before .before .before .before .if2 .left)
+    (c .before .before .before .trivia-end .ensures) _ (c .before .items .given .1)
 
 pub read-trivia-spec : {M : Type 1} → statement M
 read-trivia-spec =

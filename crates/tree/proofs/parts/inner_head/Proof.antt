@@ -38,7 +38,10 @@ field-head-requires : tie.Need-field-head-requires
 field-head-requires c κs = level-left _ _ _ _ _ (c .before .before .before .before .before .read-own .ensures .0) _ (c .before .before .before .read .given .1)
 
 returns-2 : tie.Need-returns-2
-returns-2 c = inner-field _ _ _ _ _ (c .before .before .before .before .before .before .read-own .ensures .0) _ (c .before .before .before .before .read .given .1) _ (c .before .wide .ensures .0) _ (c .field-head .ensures)
+returns-2 c =
+    let step = c .before .before .before .before in
+    inner-field _ _ _ _ _ (step .before .before .read-own .ensures .0) _ (step .read .given .1) _ (c .before .wide .ensures .0) _
+    (c .field-head .ensures)
 
 pub inner-head-spec : {M : Type 1} → statement M
 inner-head-spec =
