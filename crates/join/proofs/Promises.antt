@@ -1,15 +1,13 @@
 -- What the setter answers to a list that was accepted, and what it promises of its text.
-use mathlib.Core.Path.{_≡_, refl, _∙_}
-use mathlib.Core.List.{List}
+use mathlib.Core.Path.{_≡_, refl}
+use mathlib.Core.List.{List, _++_}
 use Prim.Native.Nat.{ℕ, _≤_, _<_}
-use lib.ListN.{length}
-use lib.Seq.{sets}
+use lib.ListN.{length, drop}
 use borrow.Author.Tests.{le-leb, lt-leb}
 use Rattle.answers.specs.Texts.{text, answerIn, bufferAfter}
 use Rattle.answers.specs.declared.Answer.the-variants.{Accepted, Refused}
 use Rattle.answers.specs.declared.Checked.the-variants.{Passed}
 use Rattle.answers.specs.declared.Reason.the-variants.{TextRoom}
-use Rattle.text.proofs.Buffers.{sets-front}
 use Rattle.chunks.specs.Stored.{Bytes}
 use Rattle.chunks.specs.Reading.{chunksOf}
 use Rattle.chunks.specs.Judging.{chunksChecked}
@@ -41,9 +39,9 @@ pub text-long : (bytes buffer : List ℕ) (n : ℕ) → n ≡ length bytes → l
     → (Refused (record { reason = TextRoom; place = n }) ≡ answerIn (text bytes) (length buffer)) × (buffer ≡ bufferAfter (text bytes) buffer)
 text-long bytes buffer n same long = rw (← same, lt-leb n (length buffer) long) (refl, refl)
 
--- a text that fits is stored at the buffer's start
-pub text-fits : (bytes buffer : List ℕ) (n : ℕ) {after : List ℕ} → n ≡ length bytes → n ≤ length buffer → after ≡ sets buffer 0 bytes
-    → (Accepted n ≡ answerIn (text bytes) (length buffer)) × (after ≡ bufferAfter (text bytes) buffer)
-text-fits bytes buffer n same room stored =
+-- a text that fits takes the place of as many bytes at the buffer's start
+pub text-fits : (bytes buffer : List ℕ) (n : ℕ) → n ≡ length bytes → n ≤ length buffer
+    → (Accepted n ≡ answerIn (text bytes) (length buffer)) × (bytes ++ drop n buffer ≡ bufferAfter (text bytes) buffer)
+text-fits bytes buffer n same room =
     let fits : length bytes ≤ length buffer = rw same at room in
-    rw (le-leb (length bytes) (length buffer) fits) (rw same, stored ∙ sets-front buffer bytes fits)
+    rw (le-leb (length bytes) (length buffer) fits) (rw same, rw same)

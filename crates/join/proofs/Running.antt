@@ -1,27 +1,32 @@
 -- The lines of a text, one after the other: what holds before each line, and that a line keeps it.
 use mathlib.Core.Path.{_≡_, refl, sym, ap, _∙_}
 use mathlib.Core.List.{List, [], _∷_, _++_, map, append-assoc, append-nil}
-use mathlib.Core.Bool.{Bool, true, false, cond}
-use Prim.Native.Nat.{ℕ, _+_, _-_, _*_, _≤_, _<_}
+use mathlib.Core.Bool.{Bool, true, false, cond, _&&_}
+use Prim.Native.Nat.{ℕ, suc, _+_, _-_, _*_, _≤_, _<_}
 use native.Mathlib.Omega.{arith}
-use lib.ListN.{length, replicate, length-append, length-replicate}
-use lib.Seq.{slice, sets, length-slice, slice-empty}
-use borrow.Author.Tests.{le-leb}
+use native.Mathlib.Nat.{min-le-left}
+use lib.ListN.{length, take, drop, set, length-append, length-replicate, length-take}
+use lib.Seq.{slice, sets, sets-eq, length-slice, slice-empty, length-take-le, take-all, take-length, take-append-add, take-append-le, take-set-le, take-take}
+use lib.Dec.{eqb, leb}
+use borrow.Author.Tests.{le-leb, eqb-true}
 use Rattle.text.specs.Ink.{spaces}
 use Rattle.text.specs.Lines.{behind, joined}
 use Rattle.text.specs.Stores.{fits, storedBuffer}
-use Rattle.text.proofs.Choices.{cond-both, by-test, true-false}
+use Rattle.text.proofs.Choices.{cond-both, by-test, true-false, and-true-left, and-true-right}
+use Rattle.text.proofs.Parts.{part-slice}
 use Rattle.text.proofs.Buffers.{sets-append, stored-append}
 use Rattle.chunks.specs.Reading.{chunksOf}
 use Rattle.join.specs.Pieces.{Piece, cut, piecesOf, pieces}
 use Rattle.join.specs.Layout.{Line, fresh, Before, add, ends, keeps, after, withLine, keptLines, setLine}
 use Rattle.join.specs.Setting.{linesKept, textOf}
-use Rattle.join.specs.Walk.{Narrow, Standing, Reached, piecesAt, First, firstLine, lineAt, LineWalked, puts, cutOf, lineStart, grownBy, front, cutBytes, CutFits}
+use Rattle.join.specs.Walk.{Narrow, Standing, Reached, piecesAt, First, firstLine, lineAt, LineWalked, puts, cutOf, lineStart, grownBy, front, cutBytes, CutFits, windowTo, Tried, astray}
 use Rattle.join.specs.declared.margins.Margins.{Margins}
 use Rattle.join.specs.declared.piece.Spot.{Spot}
 use Rattle.join.specs.declared.line.Walked.{Walked}
+use Rattle.join.specs.declared.line.Window.{Window}
 use Rattle.join.specs.declared.lines.Past.{Past}
 use Rattle.join.specs.declared.lines.Cut.{Cut}
+use Rattle.join.specs.declared.lines.Guess.{Guess}
 use Rattle.join.proofs.Places.{follows-nothing}
 use Rattle.join.proofs.Windows.{puts-slice}
 use Rattle.join.proofs.Cuts.{beforeOf, CutSays, cut-says}
@@ -38,14 +43,6 @@ pub start-near : (past : Past) → (past .length ≤ lineStart past) × (lineSta
 start-near past =
     cond-both (λ (n : ℕ). (past .length ≤ n) × (n ≤ past .length + 1)) (past .any) (past .length + 1) (past .length) (λ _. (omega arith, omega arith)) (λ _. (omega arith, omega arith))
 
--- the bytes between the text so far and the line
-front-fill : (past : Past) → replicate (lineStart past - past .length) 10 ≡ front (past .any)
-front-fill past =
-    let n = past .length in
-    let one : n + 1 - n ≡ 1 = omega arith in
-    let none : n - n ≡ 0 = omega arith in
-    by-test (past .any) (λ e. rw (e, one)) (λ e. rw (e, none))
-
 module _ (past : Past) (cut : Cut) (bytes : List ℕ) (fit : CutFits cut (length bytes)) where
   -- where the text ends with a line that is set
   pub cut-end : past .length + length (cutBytes past cut bytes) ≡ lineStart past + cut .lead + (cut .high - cut .low)
@@ -59,29 +56,106 @@ module _ (past : Past) (cut : Cut) (bytes : List ℕ) (fit : CutFits cut (length
       )
       (omega arith)
 
-  -- a newline, spaces, and the line through its window are the line's bytes
-  pub cut-written : (text text₁ text₂ : List ℕ) {text₃ : List ℕ} (start : ℕ) → start ≡ lineStart past → past .length + length (cutBytes past cut bytes) ≤ length text
-      → text₁ ≡ storedBuffer text (past .length) (replicate (start - past .length) 10)
-      → text₂ ≡ storedBuffer text₁ start (spaces (cut .lead))
-      → text₃ ≡ puts text₂ (record { base = start + cut .lead; low = cut .low; high = cut .high }) 0 bytes
-      → text₃ ≡ sets text (past .length) (cutBytes past cut bytes)
-  cut-written text text₁ text₂ start here room newline lead line =
+-- a newline, spaces, and the line through its window are the line's bytes
+pub cut-written : (past : Past) (cut : Cut) (bytes text text₁ text₂ : List ℕ) {text₃ : List ℕ} (start : ℕ) → start ≡ lineStart past
+    → past .length + length (cutBytes past cut bytes) ≤ length text
+    → text₁ ≡ storedBuffer text (past .length) (front (past .any))
+    → text₂ ≡ storedBuffer text₁ start (spaces (cut .lead))
+    → text₃ ≡ puts text₂ (record { base = start + cut .lead; low = cut .low; high = cut .high }) 0 bytes
+    → text₃ ≡ sets text (past .length) (cutBytes past cut bytes)
+cut-written past cut bytes text text₁ text₂ start here room newline lead line =
+    let n = past .length in
+    let before = front (past .any) ++ spaces (cut .lead) in
+    let part = slice (cut .low) (cut .high) bytes in
+    let whole : before ++ part ≡ cutBytes past cut bytes = append-assoc (front (past .any)) (spaces (cut .lead)) part in
+    let front-end : start ≡ n + length (front (past .any)) = here ∙ start-front past in
+    let before-length : length before ≡ length (front (past .any)) + cut .lead = length-append (front (past .any)) (spaces (cut .lead)) ∙ rw (length-replicate {A = ℕ} (cut .lead) 32) in
+    let end : n + length before ≡ start + cut .lead = omega arith in
+    let enough : n + length before ≤ length text = omega (arith, length-append before part, ap length whole) in
+    let fit-before : fits text n before ≡ true = le-leb _ _ enough in
+    let base : start + cut .lead + (0 - cut .low) ≡ start + cut .lead = omega arith in
+    let low : cut .low - 0 ≡ cut .low = omega arith in
+    let high : cut .high - 0 ≡ cut .high = omega arith in
+    let led : text₂ ≡ sets text n before = lead ∙ rw (newline, front-end) (stored-append text n (front (past .any)) (spaces (cut .lead)) fit-before ∙ rw fit-before) in
+    line ∙ puts-slice text₂ (record { base = start + cut .lead; low = cut .low; high = cut .high }) 0 bytes
+    ∙ rw (base, low, high, led, ← end) (sym (sets-append text n before part) ∙ rw whole)
+
+-- ---- a line that is written where it is guessed to stand
+
+-- stores behind a place leave what stands before it
+take-sets : (n : ℕ) (text : List ℕ) (at : ℕ) (bytes : List ℕ) → n ≤ at → take n (sets text at bytes) ≡ take n text
+take-sets n text at [] behind = refl
+take-sets n text at (b ∷ bytes) behind = take-sets n (set text at b) (suc at) bytes (omega arith) ∙ take-set-le n text at b behind
+
+-- so they do where they are stored only if they fit
+take-stored : (n : ℕ) (text : List ℕ) (at : ℕ) (bytes : List ℕ) → n ≤ at → take n (storedBuffer text at bytes) ≡ take n text
+take-stored n text at bytes behind = by-test (fits text at bytes) (λ e. rw e (take-sets n text at bytes behind)) (λ e. rw e)
+
+-- up to a byte of what is stored stand what stood before it, and its part
+take-stores : (text : List ℕ) (n m : ℕ) (bytes : List ℕ) → n + length bytes ≤ length text → m ≤ length bytes
+    → take (n + m) (sets text n bytes) ≡ take n text ++ take m bytes
+take-stores text n m bytes room within =
+    let before : length (take n text) ≡ n = length-take-le n text (omega arith) in
+    let behind = drop (n + length bytes) text in
+    let front : take (n + m) (take n text ++ bytes) ≡ take n text ++ take m bytes = rw before at (take-append-add (take n text) bytes m) in
+    rw (sets-eq bytes text n room) (take-append-le (n + m) (take n text ++ bytes) behind (omega (arith, length-append (take n text) bytes)) ∙ front)
+
+-- the start of a part is the part up to there
+take-slice : (low high far : ℕ) (bytes : List ℕ) → low ≤ high → high ≤ far → take (high - low) (slice low far bytes) ≡ slice low high bytes
+take-slice low high far bytes up on =
+    rw (← (part-slice low far bytes), ← (part-slice low high bytes)) (take-take (high - low) (far - low) (drop low bytes) (omega arith))
+
+-- a part is no longer than its places are apart
+slice-short : (low high : ℕ) (bytes : List ℕ) → length (slice low high bytes) ≤ high - low
+slice-short low high bytes = rw (← (part-slice low high bytes), length-take (high - low) (drop low bytes)) (min-le-left (high - low) (length (drop low bytes)))
+
+module _ (past : Past) (guess : Guess) (bytes text text₁ text₂ : List ℕ) {text₃ : List ℕ} (start : ℕ) (here : start ≡ lineStart past)
+    (newline : text₁ ≡ storedBuffer text (past .length) (front (past .any))) (lead : text₂ ≡ storedBuffer text₁ start (spaces (guess .lead)))
+    (line : text₃ ≡ puts text₂ (windowTo (length text) (start + guess .lead) (guess .low)) 0 bytes) where
+  -- the window shows nothing before the line
+  window-behind : past .length ≤ start → take (past .length) (puts text₂ (windowTo (length text) (start + guess .lead) (guess .low)) 0 bytes) ≡ take (past .length) text₂
+  window-behind behind =
+      let base = start + guess .lead in
+      let shows : Window = record { base = base; low = guess .low; high = guess .low + (length text - base) } in
+      let hides : Window = record { base = 0; low = 0; high = 0 } in
+      by-test (leb base (length text))
+      (λ e. rw e (ap (take (past .length)) (puts-slice text₂ shows 0 bytes) ∙ take-sets (past .length) text₂ (base + (0 - guess .low)) (slice (guess .low - 0) (shows .high - 0) bytes) (omega arith)))
+      (λ e. rw e (ap (take (past .length)) (puts-slice text₂ hides 0 bytes)))
+
+  -- the text so far is left
+  tried-kept : take (past .length) text₃ ≡ take (past .length) text
+  tried-kept =
+      let near = start-near past in
+      let behind : past .length ≤ start = omega arith in
+      ap (take (past .length)) line ∙ window-behind behind ∙ ap (take (past .length)) lead ∙ take-stored (past .length) text₁ start (spaces (guess .lead)) behind
+      ∙ ap (take (past .length)) newline ∙ take-stored (past .length) text (past .length) (front (past .any)) (omega arith)
+
+  -- and the line stands behind it
+  tried-shown : (high : ℕ) → guess .low ≤ high → high ≤ length bytes → lineStart past + guess .lead + (high - guess .low) ≤ length text
+      → take (lineStart past + guess .lead + (high - guess .low)) text₃
+      ≡ take (past .length) text ++ (front (past .any) ++ (spaces (guess .lead) ++ slice (guess .low) high bytes))
+  tried-shown high up within room =
       let n = past .length in
-      let before = front (past .any) ++ spaces (cut .lead) in
-      let part = slice (cut .low) (cut .high) bytes in
-      let whole : before ++ part ≡ cutBytes past cut bytes = append-assoc (front (past .any)) (spaces (cut .lead)) part in
-      let front-end : start ≡ n + length (front (past .any)) = here ∙ start-front past in
-      let before-length : length before ≡ length (front (past .any)) + cut .lead = length-append (front (past .any)) (spaces (cut .lead)) ∙ rw (length-replicate {A = ℕ} (cut .lead) 32) in
-      let end : n + length before ≡ start + cut .lead = omega arith in
-      let enough : n + length before ≤ length text = omega (arith, length-append before part, ap length whole) in
-      let fit-before : fits text n before ≡ true = le-leb _ _ enough in
-      let base : start + cut .lead + (0 - cut .low) ≡ start + cut .lead = omega arith in
-      let low : cut .low - 0 ≡ cut .low = omega arith in
-      let high : cut .high - 0 ≡ cut .high = omega arith in
-      let newlined : text₁ ≡ storedBuffer text n (front (past .any)) = newline ∙ rw (here, front-fill past) in
-      let led : text₂ ≡ sets text n before = lead ∙ rw (newlined, front-end) (stored-append text n (front (past .any)) (spaces (cut .lead)) fit-before ∙ rw fit-before) in
-      line ∙ puts-slice text₂ (record { base = start + cut .lead; low = cut .low; high = cut .high }) 0 bytes
-      ∙ rw (base, low, high, led, ← end) (sym (sets-append text n before part) ∙ rw whole)
+      let base = start + guess .lead in
+      let far = guess .low + (length text - base) in
+      let before = front (past .any) ++ spaces (guess .lead) in
+      let part = slice (guess .low) far bytes in
+      let cut : Cut = record { kept = true; standalone = false; lead = guess .lead; low = guess .low; high = far } in
+      let whole : before ++ part ≡ cutBytes past cut bytes = append-assoc (front (past .any)) (spaces (guess .lead)) part in
+      let before-length : length before ≡ length (front (past .any)) + guess .lead = length-append (front (past .any)) (spaces (guess .lead)) ∙ rw (length-replicate {A = ℕ} (guess .lead) 32) in
+      let short = slice-short (guess .low) far bytes in
+      let shown = take-slice (guess .low) high far bytes up (omega arith) in
+      let enough : n + length (cutBytes past cut bytes) ≤ length text = omega (arith, start-front past, length-append before part, ap length whole) in
+      let reach : base ≤ length text = omega arith in
+      let stored : text₃ ≡ sets text n (cutBytes past cut bytes) = cut-written past cut bytes text text₁ text₂ start here enough newline lead (line ∙ rw (le-leb _ _ reach)) in
+      let end : lineStart past + guess .lead + (high - guess .low) ≡ n + (length before + (high - guess .low)) = omega (arith, start-front past) in
+      let some : length before + (high - guess .low) ≤ length (before ++ part) = omega (arith, length-append before part, ap length shown, length-slice (guess .low) high bytes within, length-take (high - guess .low) part) in
+      rw (stored, end, ← whole) (take-stores text n (length before + (high - guess .low)) (before ++ part) (rw whole enough) some
+      ∙ rw (take-append-add before part (high - guess .low), shown, append-assoc (front (past .any)) (spaces (guess .lead)) (slice (guess .low) high bytes)))
+
+  -- so the line is tried
+  pub line-tried : Tried past guess bytes text text₃
+  line-tried = record { kept = tried-kept; shown = tried-shown }
 
 -- ---- the line that pieces start with
 
@@ -130,40 +204,62 @@ pieces-end list spot standing past =
 
 -- ---- the text so far
 
--- what holds before a line: the text so far with the lines still to come is all of the text, and the buffer holds the text so far where it is written
-pub record Running (margins : Margins) (list buffer : List ℕ) (writing : Bool) (all : List ℕ) (past : Past) (spot : Spot) (text : List ℕ) : Type 0 where
+-- what holds before a line: the text so far with the lines still to come is all of the text
+pub record Running (margins : Margins) (list all : List ℕ) (past : Past) (spot : Spot) : Type 0 where
   pub done : List ℕ
   pub long : past .length ≡ length done
   pub rest : all ≡ done ++ restOf (past .any) (linesFrom margins list (beforeOf past) spot)
-  pub stored : text ≡ cond writing (sets buffer 0 done) buffer
   pub standing : Standing list spot
   pub small : past .length ≤ 4864 * spot .at
 
 -- at the start nothing is set
-pub running-start : (margins : Margins) (list buffer : List ℕ) (writing : Bool) (spot : Spot) → Reached list 0 spot
-    → Running margins list buffer writing (textOf margins (chunksOf list)) (record { length = 0; any = false; blank = false; standalone = false }) spot buffer
+pub running-start : (margins : Margins) (list : List ℕ) (spot : Spot) → Reached list 0 spot
+    → Running margins list (textOf margins (chunksOf list)) (record { length = 0; any = false; blank = false; standalone = false }) spot
 unfolding textOf linesKept
-running-start margins list buffer writing spot reached = record {
+running-start margins list spot reached = record {
   done = [];
   long = refl;
   rest = rw (reached .pieces);
-  stored = by-test writing (λ e. rw e) (λ e. rw e);
   standing = reached .standing;
   small = omega arith;
 }
 
 -- at the list's end the text so far is all of it
-pub running-done : {margins : Margins} {list buffer : List ℕ} {writing : Bool} {all : List ℕ} {past : Past} {spot : Spot} {text : List ℕ}
-    → Running margins list buffer writing all past spot text → length list ≤ spot .at → (past .length ≡ length all) × (text ≡ cond writing (sets buffer 0 all) buffer)
+pub running-done : {margins : Margins} {list all : List ℕ} {past : Past} {spot : Spot} (running : Running margins list all past spot) → length list ≤ spot .at
+    → all ≡ running .done
 unfolding keptLines
-running-done {list = list} {all = all} {past = past} {spot = spot} running end =
-    let whole : all ≡ running .done = running .rest ∙ rw (pieces-end list spot (running .standing) end, rest-none (past .any)) (append-nil (running .done)) in
-    (rw whole (running .long), rw whole (running .stored))
+running-done {list = list} {past = past} {spot = spot} running end =
+    running .rest ∙ rw (pieces-end list spot (running .standing) end, rest-none (past .any)) (append-nil (running .done))
+
+-- so its length was found, and it is no large number
+pub running-length : {margins : Margins} {list all : List ℕ} {past : Past} {spot : Spot} → Running margins list all past spot → length list ≤ spot .at → length list ≤ 1048576
+    → (past .length ≡ length all) × (past .length < 4503599627370496)
+running-length running end short =
+    let here = running .standing in
+    (rw (running-done running end) (running .long), omega (arith, running .small))
+
+-- where lines are written, the buffer starts with the text so far
+pub record Holding (margins : Margins) (list all : List ℕ) (past : Past) (spot : Spot) (text : List ℕ) : Type 0 where
+  pub running : Running margins list all past spot
+  pub held : take (past .length) text ≡ running .done
+
+-- at the start with nothing
+pub holding-start : (margins : Margins) (list text : List ℕ) (spot : Spot) → Reached list 0 spot
+    → Holding margins list (textOf margins (chunksOf list)) (record { length = 0; any = false; blank = false; standalone = false }) spot text
+unfolding running-start
+holding-start margins list text spot reached = record { running = running-start margins list spot reached; held = refl }
+
+-- at the list's end a buffer of the text's length is the text
+pub holding-done : {margins : Margins} {list all : List ℕ} {past : Past} {spot : Spot} {text : List ℕ}
+    → Holding margins list all past spot text → length list ≤ spot .at → length text ≡ length all → text ≡ all
+holding-done {past = past} {text = text} holding end size =
+    let whole = running-done (holding .running) end in
+    sym (take-all (past .length) text (omega (arith, holding .running .long, ap length whole))) ∙ holding .held ∙ sym whole
 
 -- ---- a line more
 
-module _ {margins : Margins} {list buffer : List ℕ} {writing : Bool} {all : List ℕ} {past : Past} {spot : Spot} {text : List ℕ}
-    (running : Running margins list buffer writing all past spot text) (narrow : Narrow margins) {walked : Walked} (found : LineWalked margins list spot walked)
+module _ {margins : Margins} {list all : List ℕ} {past : Past} {spot : Spot}
+    (running : Running margins list all past spot) (narrow : Narrow margins) {walked : Walked} (found : LineWalked margins list spot walked)
     {cut : Cut} (made : cut ≡ cutOf margins past (walked .measure) (walked .indent)) where
   -- the line at the spot
   abbrev line : Line
@@ -176,10 +272,6 @@ module _ {margins : Margins} {list buffer : List ℕ} {writing : Bool} {all : Li
   -- the lines behind this one
   abbrev more : List (List ℕ)
   more = linesFrom margins list (beforeOf (grownBy past cut)) (walked .spot)
-
-  -- the buffer behind the line
-  abbrev stored-on : List ℕ
-  stored-on = cond writing (cond (cut .kept) (sets text (past .length) bytes) text) text
 
   -- what the cut says of it
   says : CutSays margins past line cut
@@ -222,18 +314,8 @@ module _ {margins : Margins} {list buffer : List ℕ} {writing : Bool} {all : Li
   line-room kept =
       omega (arith, running .long, ap length (rest-kept kept), length-append (running .done ++ bytes) (behind more), length-append (running .done) bytes)
 
-  -- the buffer holds the text with a kept line
-  stored-kept : cut .kept ≡ true → stored-on ≡ cond writing (sets buffer 0 (running .done ++ bytes)) buffer
-  stored-kept kept =
-      by-test writing
-      (λ e.
-      let so-far : text ≡ sets buffer 0 (running .done) = running .stored ∙ rw e in
-      let end : 0 + length (running .done) ≡ past .length = omega (arith, running .long) in
-      rw (e, kept, so-far, sets-append buffer 0 (running .done) bytes, end))
-      (λ e. rw e (running .stored ∙ rw e))
-
   -- the same holds behind a kept line
-  on-kept : cut .kept ≡ true → Running margins list buffer writing all (grownBy past cut) (walked .spot) stored-on
+  on-kept : cut .kept ≡ true → Running margins list all (grownBy past cut) (walked .spot)
   on-kept kept =
       let end = cut-end past cut (line .bytes) line-fits in
       let grown : grownBy past cut .length ≡ lineStart past + cut .lead + (cut .high - cut .low) = rw kept in
@@ -243,13 +325,12 @@ module _ {margins : Margins} {list buffer : List ℕ} {writing : Bool} {all : Li
         done = running .done ++ bytes;
         long = grown ∙ omega (arith, length-append (running .done) bytes, running .long);
         rest = rw any (rest-kept kept);
-        stored = stored-kept kept;
         standing = found .standing;
         small = omega (arith, start-near past, line-length, found .small, found .onward, running .small);
       }
 
   -- and behind a line that is not kept
-  on-dropped : cut .kept ≡ false → Running margins list buffer writing all (grownBy past cut) (walked .spot) stored-on
+  on-dropped : cut .kept ≡ false → Running margins list all (grownBy past cut) (walked .spot)
   on-dropped dropped =
       let same : grownBy past cut ≡ past = rw dropped in
       record {
@@ -258,11 +339,49 @@ module _ {margins : Margins} {list buffer : List ℕ} {writing : Bool} {all : Li
         rest =
             running .rest ∙ ap (λ (lines : List (List ℕ)). running .done ++ restOf (past .any) lines) (lines-here ∙ rw dropped)
             ∙ ap (λ (grown : Past). running .done ++ restOf (grown .any) more) (sym same);
-        stored = by-test writing (λ e. rw (e, dropped) (running .stored ∙ rw e)) (λ e. rw e (running .stored ∙ rw e));
         standing = found .standing;
         small = omega (arith, ap (λ (grown : Past). grown .length) same, found .onward, running .small);
       }
 
   -- so it holds behind every line
-  pub running-on : Running margins list buffer writing all (grownBy past cut) (walked .spot) stored-on
+  pub running-on : Running margins list all (grownBy past cut) (walked .spot)
   running-on = by-test (cut .kept) (λ kept. on-kept kept) (λ dropped. on-dropped dropped)
+
+  -- ---- the line is written
+
+  -- a line that went astray has room
+  pub astray-room : (guess : Guess) → astray cut guess ≡ true → past .length + length bytes ≤ length all
+  astray-room guess e = line-room (and-true-left (cut .kept) _ e)
+
+  module _ {text text₁ text₂ : List ℕ} {guess : Guess} (held : take (past .length) text ≡ running .done) (size : length text ≡ length all)
+      (tried : Tried past guess (line .bytes) text text₁) (mended : text₂ ≡ cond (astray cut guess) (sets text₁ (past .length) bytes) text₁)
+      (size₁ : length text₁ ≡ length text) where
+    -- a kept line stands behind the text so far, as it was guessed or mended
+    held-kept : cut .kept ≡ true → take (grownBy past cut .length) text₂ ≡ running .done ++ bytes
+    held-kept kept =
+        let fit = line-fits in
+        let room = line-room kept in
+        let end = cut-end past cut (line .bytes) fit in
+        let grown : grownBy past cut .length ≡ lineStart past + cut .lead + (cut .high - cut .low) = rw kept in
+        by-test (eqb (cut .lead) (guess .lead) && eqb (cut .low) (guess .low))
+        (λ same.
+        let lead = eqb-true (cut .lead) (guess .lead) (and-true-left _ _ same) in
+        let low = eqb-true (cut .low) (guess .low) (and-true-right (eqb (cut .lead) (guess .lead)) _ same) in
+        let left : text₂ ≡ text₁ = mended ∙ rw (kept, same) in
+        let whole = tried .shown (cut .high) (omega (arith, fit .part)) (fit .within) (omega arith) in
+        rw (grown, left, ← held) (rw (← lead, ← low) at whole))
+        (λ other.
+        let anew : text₂ ≡ sets text₁ (past .length) bytes = mended ∙ rw (kept, other) in
+        let all-of = take-stores text₁ (past .length) (length bytes) bytes (omega arith) (omega arith) in
+        rw (grown ∙ sym end, anew) (all-of ∙ rw (take-length bytes, tried .kept, held)))
+
+    -- so the buffer starts with the text behind every line
+    pub holding-on : Holding margins list all (grownBy past cut) (walked .spot) text₂
+    unfolding on-kept on-dropped
+    holding-on =
+        by-test (cut .kept)
+        (λ kept. record { running = on-kept kept; held = held-kept kept })
+        (λ dropped.
+        let same : grownBy past cut .length ≡ past .length = rw dropped in
+        let left : text₂ ≡ text₁ = mended ∙ rw dropped in
+        record { running = on-dropped dropped; held = rw (same, left) (tried .kept ∙ held) })

@@ -201,3 +201,38 @@ writing-on {margins} {list} {here} {window} {before} {n} {step} writing stepped 
 pub writing-end : {margins : Margins} {list : List ℕ} {spot here : Spot} {window : Window} {before text : List ℕ} {n : ℕ} {ended : Bool}
     → Writing margins list spot window before text n here ended → ended ≡ true → text ≡ puts before window 0 (lineAt margins list spot .line .bytes)
 writing-end writing e = writing .written ∙ rw (walking-end (writing .walking) e)
+
+-- ---- the walk that measures and writes
+
+-- the line so far is measured, and the text has what the window shows of it
+pub record Placing (margins : Margins) (list : List ℕ) (spot : Spot) (window : Window) (before text : List ℕ) (measure : Measure) (indent : Indent) (here : Spot) (ended : Bool) : Type 0 where
+  pub measuring : Measuring margins list spot measure indent here ended
+  pub written : text ≡ puts before window 0 (measuring .line .bytes)
+
+-- of a fresh line nothing is written
+pub placing-start : (margins : Margins) (list : List ℕ) (spot : Spot) (window : Window) (text : List ℕ) → Standing list spot → spot .at < length list
+    → Placing margins list spot window text text (record { length = 0; leading = 0; «ink_end» = 0 }) Unset spot false
+unfolding measuring-start puts
+placing-start margins list spot window text standing some = record { measuring = measuring-start margins list spot standing some; written = refl }
+
+-- a step keeps the walk
+pub placing-on : {margins : Margins} {list : List ℕ} {spot here : Spot} {window : Window} {before text text′ : List ℕ} {measure measure′ : Measure} {indent indent′ : Indent} {step : Step}
+    → Placing margins list spot window before text measure indent here false → Stepped margins list here (measure .length) step
+    → text′ ≡ puts text window (measure .length) (stepBytes list step)
+    → ((bytes : List ℕ) → Measured measure bytes → Measured measure′ (bytes ++ stepBytes list step)) → measure′ .leading ≤ measure′ .length → indent′ ≡ taken indent here
+    → Placing margins list spot window before text′ measure′ indent′ (step .spot) (step .ends)
+unfolding measuring-on
+placing-on {list = list} {window = window} {before = before} {measure = measure} {step = step} placing stepped writes counted fits takes =
+    let measuring = placing .measuring in
+    let line = measuring .line in
+    let long = measuring .measured .length in
+    let all : 0 + length (line .bytes) ≡ measure .length = omega (arith, long) in
+    record {
+      measuring = measuring-on measuring stepped counted fits takes;
+      written = writes ∙ sym (rw (longer-bytes (measuring .walking) long stepped) (puts-append before window 0 (line .bytes) (stepBytes list step) ∙ rw (all, placing .written)));
+    }
+
+-- at its end the line is written
+pub placing-end : {margins : Margins} {list : List ℕ} {spot here : Spot} {window : Window} {before text : List ℕ} {measure : Measure} {indent : Indent} {ended : Bool}
+    → Placing margins list spot window before text measure indent here ended → ended ≡ true → text ≡ puts before window 0 (lineAt margins list spot .line .bytes)
+placing-end placing e = placing .written ∙ rw (walking-end (placing .measuring .walking) e)

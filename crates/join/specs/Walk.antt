@@ -3,7 +3,7 @@ use Prim.Native.Nat.{ℕ, _+_, _-_, _*_, _≤_, _<_, min}
 use mathlib.Core.Path.{_≡_}
 use mathlib.Core.List.{List, [], _∷_, _++_}
 use mathlib.Core.Bool.{Bool, true, false, cond, not, _&&_, _||_}
-use lib.ListN.{length, set}
+use lib.ListN.{length, set, take}
 use lib.Seq.{slice}
 use lib.Dec.{eqb, ltb, leb}
 use Rattle.text.specs.Ink.{leadingBlanks, inkEnd, spaces}
@@ -29,6 +29,7 @@ use Rattle.join.specs.declared.line.Window.{Window}
 use Rattle.join.specs.declared.line.Walked.{Walked}
 use Rattle.join.specs.declared.lines.Past.{Past}
 use Rattle.join.specs.declared.lines.Cut.{Cut}
+use Rattle.join.specs.declared.lines.Guess.{Guess}
 
 -- margins are bytes
 pub record Narrow (margins : Margins) : Type 0 where
@@ -214,3 +215,21 @@ pub record CutFits (cut : Cut) (n : ℕ) : Type 0 where
   pub part : cut .low ≤ cut .high
   pub within : cut .high ≤ n
   pub small : cut .lead ≤ 4351
+
+-- ---- a line that is written while it is walked, where it is guessed to stand
+
+-- the window from a place of a text to its end; where there is none it shows nothing
+abbrev pub windowTo : ℕ → ℕ → ℕ → Window
+windowTo room base low =
+    cond (leb base room) (record { base = base; low = low; high = low + (room - base) }) (record { base = 0; low = 0; high = 0 })
+
+-- the text so far is left, and behind it stands the line as guessed, up to any of its bytes that has room
+pub record Tried (past : Past) (guess : Guess) (bytes before text : List ℕ) : Type 0 where
+  pub kept : take (past .length) text ≡ take (past .length) before
+  pub shown : (high : ℕ) → guess .low ≤ high → high ≤ length bytes → lineStart past + guess .lead + (high - guess .low) ≤ length before
+      → take (lineStart past + guess .lead + (high - guess .low)) text
+      ≡ take (past .length) before ++ (front (past .any) ++ (spaces (guess .lead) ++ slice (guess .low) high bytes))
+
+-- a line is kept and stands elsewhere than was guessed
+abbrev pub astray : Cut → Guess → Bool
+astray cut guess = cut .kept && not (eqb (cut .lead) (guess .lead) && eqb (cut .low) (guess .low))

@@ -228,3 +228,39 @@ pub(crate) fn write_line(text: &mut [u8], window: Window, list: &[u8], margins: 
         here = step.spot;
     }
 }
+
+// The line that starts at a spot, measured to its end while what the window shows of it is written.
+pub(crate) fn walk_line(
+    text: &mut [u8],
+    window: Window,
+    list: &[u8],
+    margins: Margins,
+    spot: Spot,
+) -> Walked
+    requires { ⌜ Narrow margins × Standing (now list) spot × (spot .at < length (now list)) × (length (now list) ≤ 1048576) ⌝ }
+    requires { ⌜ Room window (length (now text)) ⌝ }
+    ensures { λ r. ⌜ LineWalked margins (now (list .entry)) spot r ⌝ }
+    ensures { λ _. ⌜ now (text .exit) ≡ puts (now (text .entry)) window 0 (lineAt margins (now (list .entry)) spot .line .bytes) ⌝ }
+{
+    let mut measure = Measure {
+        length: 0,
+        leading: 0,
+        ink_end: 0,
+    };
+    let mut indent = Indent::Unset;
+    let mut here = spot;
+    let mut ended = false;
+    while !ended {
+        let step = piece::step_over(list, margins, here, measure.length);
+        put_step(text, window, measure.length, list, step);
+        measure = add_step(measure, list, step);
+        indent = takes(indent, here);
+        ended = step.ends;
+        here = step.spot;
+    }
+    Walked {
+        measure: measure,
+        indent: indent_of(indent),
+        spot: here,
+    }
+}

@@ -1,19 +1,22 @@
 // The lines of a text: which are kept, and where each stands.
 use crate::line;
 use crate::line::Measure;
+use crate::line::Walked;
 use crate::line::Window;
 use crate::margins::Margins;
 use crate::piece;
 use crate::piece::Spot;
+use chunks::stored::ChunkType;
 use text::stores;
 ghost use mathlib.Core.Path.{_≡_};
 ghost use mathlib.Core.Bool.{true, cond};
 ghost use Prim.Native.Nat.{_+_, _≤_, _<_};
 ghost use lib.ListN.{length};
 ghost use lib.Seq.{sets};
+ghost use Rattle.text.specs.Stores.{storedBuffer};
 ghost use Rattle.chunks.specs.Reading.{chunksOf};
 ghost use Rattle.join.specs.Setting.{textOf};
-ghost use Rattle.join.specs.Walk.{Narrow, Laid, Standing, lineAt, cutOf, lineStart, grownBy, cutBytes, CutFits};
+ghost use Rattle.join.specs.Walk.{Narrow, Laid, Standing, lineAt, LineWalked, cutOf, lineStart, grownBy, front, cutBytes, CutFits, Room, windowTo, Tried, astray};
 
 // The text so far: its length, whether it has a line, whether the last line kept is blank, and whether a standalone comment came last.
 pub struct Past {
@@ -92,6 +95,18 @@ pub(crate) fn grown(past: Past, cut: Cut) -> Past
     past
 }
 
+// The newline that goes before each line but the first.
+pub(crate) fn put_newline(text: &mut [u8], past: Past)
+    ensures { λ _. ⌜ now (text .exit) ≡ storedBuffer (now (text .entry)) (past .length) (front (past .any)) ⌝ }
+{
+    let length = past.length;
+    if past.any {
+        if length < text.len() {
+            text[length] = 10;
+        }
+    }
+}
+
 // Writes a kept line behind the text so far.
 pub(crate) fn write_cut(
     text: &mut [u8],
@@ -106,10 +121,9 @@ pub(crate) fn write_cut(
     requires { ⌜ past .length + length (cutBytes past cut (lineAt margins (now list) spot .line .bytes)) ≤ length (now text) ⌝ }
     ensures { λ _. ⌜ now (text .exit) ≡ sets (now (text .entry)) (past .length) (cutBytes past cut (lineAt margins (now (list .entry)) spot .line .bytes)) ⌝ }
 {
-    let length = past.length;
     let start = line_start(past);
     let base = start + cut.lead;
-    stores::fill(text, length, start - length, 10);
+    put_newline(text, past);
     stores::fill(text, start, cut.lead, 32);
     let window = Window {
         base: base,
@@ -119,34 +133,125 @@ pub(crate) fn write_cut(
     line::write_line(text, window, list, margins, spot);
 }
 
-// The same where the line is kept and the text is to be written; else nothing.
-pub(crate) fn place(
+// Where a line is taken to stand before it was walked: behind `lead` spaces, from its byte `low` on.
+pub struct Guess {
+    pub lead: usize,
+    pub low: usize,
+}
+
+// The indent of a line whose first chunk starts with it.
+fn first_indent(spot: Spot) -> usize
+    requires { ⌜ spot .indent ≤ 4096 ⌝ }
+    ensures { λ r. ⌜ r ≤ 4096 ⌝ }
+{
+    if spot.at == spot.start {
+        return spot.indent;
+    }
+    0
+}
+
+// Where the line at a spot most often stands: one that starts with a comment is standalone. Whatever is guessed, the text comes out right.
+pub(crate) fn guess_of(margins: Margins, spot: Spot) -> Guess
+    requires { ⌜ Narrow margins × (spot .indent ≤ 4096) ⌝ }
+    ensures { λ r. ⌜ (r .lead ≤ 4351) × (r .low ≤ 510) ⌝ }
+{
+    let indent = first_indent(spot);
+    let ty = spot.ty;
+    match ty {
+        ChunkType::Comment => Guess {
+            lead: indent + margins.label,
+            low: margins.label + margins.code,
+        },
+        ChunkType::Code => Guess {
+            lead: indent,
+            low: 0,
+        },
+        ChunkType::Label => Guess {
+            lead: indent,
+            low: 0,
+        },
+    }
+}
+
+// The window from `base` of a text to its end; where there is none it shows nothing.
+pub(crate) fn window_of(room: usize, base: usize, low: usize) -> Window
+    requires { ⌜ (room < 4503599627370496) × (low ≤ 510) ⌝ }
+    ensures { λ r. ⌜ r ≡ windowTo room base low ⌝ }
+    ensures { λ r. ⌜ Room r room ⌝ }
+{
+    if base <= room {
+        return Window {
+            base: base,
+            low: low,
+            high: low + (room - base),
+        };
+    }
+    Window {
+        base: 0,
+        low: 0,
+        high: 0,
+    }
+}
+
+// Writes the line at a spot as guessed, as far as there is room, while it is walked. Blanks at its end may be written too: what follows the line overwrites them.
+pub(crate) fn try_line(
+    text: &mut [u8],
+    list: &[u8],
+    margins: Margins,
+    spot: Spot,
+    past: Past,
+    guess: Guess,
+) -> Walked
+    requires { ⌜ Narrow margins × Standing (now list) spot × (spot .at < length (now list)) × (length (now list) ≤ 1048576) ⌝ }
+    requires { ⌜ (past .length < 4503599627370496) × (length (now text) < 4503599627370496) × (guess .lead ≤ 4351) × (guess .low ≤ 510) ⌝ }
+    ensures { λ r. ⌜ LineWalked margins (now (list .entry)) spot r ⌝ }
+    ensures { λ _. ⌜ Tried past guess (lineAt margins (now (list .entry)) spot .line .bytes) (now (text .entry)) (now (text .exit)) ⌝ }
+{
+    let start = line_start(past);
+    let base = start + guess.lead;
+    put_newline(text, past);
+    stores::fill(text, start, guess.lead, 32);
+    let window = window_of(text.len(), base, guess.low);
+    line::walk_line(text, window, list, margins, spot)
+}
+
+// Whether a line is kept and stands elsewhere than was guessed.
+pub(crate) fn is_astray(cut: Cut, guess: Guess) -> bool
+    ensures { λ r. ⌜ r ≡ astray cut guess ⌝ }
+{
+    if !cut.kept {
+        return false;
+    }
+    if cut.lead != guess.lead {
+        return true;
+    }
+    cut.low != guess.low
+}
+
+// Writes a line anew that went astray.
+pub(crate) fn mend(
     text: &mut [u8],
     list: &[u8],
     margins: Margins,
     spot: Spot,
     past: Past,
     cut: Cut,
-    writing: bool,
+    guess: Guess,
 )
     requires { ⌜ Narrow margins × Standing (now list) spot × (spot .at < length (now list)) × (length (now list) ≤ 1048576) ⌝ }
     requires { ⌜ CutFits cut (length (lineAt margins (now list) spot .line .bytes)) ⌝ }
-    requires { ⌜ (writing ≡ true → cut .kept ≡ true → past .length + length (cutBytes past cut (lineAt margins (now list) spot .line .bytes)) ≤ length (now text)) ⌝ }
-    ensures { λ _. ⌜ now (text .exit) ≡ cond writing (cond (cut .kept) (sets (now (text .entry)) (past .length) (cutBytes past cut (lineAt margins (now (list .entry)) spot .line .bytes))) (now (text .entry))) (now (text .entry)) ⌝ }
+    requires { ⌜ (astray cut guess ≡ true → past .length + length (cutBytes past cut (lineAt margins (now list) spot .line .bytes)) ≤ length (now text)) ⌝ }
+    ensures { λ _. ⌜ now (text .exit) ≡ cond (astray cut guess) (sets (now (text .entry)) (past .length) (cutBytes past cut (lineAt margins (now (list .entry)) spot .line .bytes))) (now (text .entry)) ⌝ }
 {
-    if writing {
-        if cut.kept {
-            write_cut(text, list, margins, spot, past, cut);
-        }
+    if is_astray(cut, guess) {
+        write_cut(text, list, margins, spot, past, cut);
     }
 }
 
-// The text's length; where `writing`, the text is written at the buffer's start.
-pub(crate) fn set_lines(text: &mut [u8], list: &[u8], margins: Margins, writing: bool) -> usize
+// The length of the text.
+pub(crate) fn measure_lines(list: &[u8], margins: Margins) -> usize
     requires { ⌜ Narrow margins × Laid (now list) 0 × (length (now list) ≤ 1048576) ⌝ }
-    requires { ⌜ (writing ≡ true → length (textOf margins (chunksOf (now list))) ≤ length (now text)) ⌝ }
-    ensures { λ r. ⌜ r ≡ length (textOf margins (chunksOf (now (list .entry)))) ⌝ }
-    ensures { λ _. ⌜ now (text .exit) ≡ cond writing (sets (now (text .entry)) 0 (textOf margins (chunksOf (now (list .entry))))) (now (text .entry)) ⌝ }
+    ensures { λ r. ⌜ (r ≡ length (textOf margins (chunksOf (now (list .entry))))) × (r < 4503599627370496) ⌝ }
 {
     let mut past = Past {
         length: 0,
@@ -159,9 +264,32 @@ pub(crate) fn set_lines(text: &mut [u8], list: &[u8], margins: Margins, writing:
         let walked = line::measure_line(list, margins, spot);
         let measure = walked.measure;
         let cut = cut_of(margins, past, measure, walked.indent);
-        place(text, list, margins, spot, past, cut, writing);
         past = grown(past, cut);
         spot = walked.spot;
     }
     past.length
+}
+
+// Writes the text to a buffer of its length.
+pub(crate) fn write_lines(text: &mut [u8], list: &[u8], margins: Margins)
+    requires { ⌜ Narrow margins × Laid (now list) 0 × (length (now list) ≤ 1048576) ⌝ }
+    requires { ⌜ (length (now text) ≡ length (textOf margins (chunksOf (now list)))) × (length (now text) < 4503599627370496) ⌝ }
+    ensures { λ _. ⌜ now (text .exit) ≡ textOf margins (chunksOf (now (list .entry))) ⌝ }
+{
+    let mut past = Past {
+        length: 0,
+        any: false,
+        blank: false,
+        standalone: false,
+    };
+    let mut spot = piece::spot_at(list, 0);
+    while spot.at < list.len() {
+        let guess = guess_of(margins, spot);
+        let walked = try_line(text, list, margins, spot, past, guess);
+        let measure = walked.measure;
+        let cut = cut_of(margins, past, measure, walked.indent);
+        mend(text, list, margins, spot, past, cut, guess);
+        past = grown(past, cut);
+        spot = walked.spot;
+    }
 }

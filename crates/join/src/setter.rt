@@ -28,14 +28,14 @@ pub(crate) fn join_with(chunks: &[u8], margins: Margins, text: &mut [u8]) -> Ans
     if let Checked::Failed(refusal) = checked {
         return Answer::Refused(refusal);
     }
-    let length = lines::set_lines(text, chunks, margins, false);
+    let length = lines::measure_lines(chunks, margins);
     if text.len() < length {
         return Answer::Refused(Refusal {
             reason: Reason::TextRoom,
             place: length,
         });
     }
-    lines::set_lines(text, chunks, margins, true);
+    lines::write_lines(&mut text[..length], chunks, margins);
     Answer::Accepted(length)
 }
 

@@ -1,6 +1,6 @@
 -- The newline, the spaces and what the window shows of the line are one run of bytes behind the text so far.
-use native.Mathlib.Omega.{arith}
 use borrow.Author.Needs.{needs}
+use native.Mathlib.Omega.{arith}
 use Rattle.join.specs.Walk.{lineAt}
 use Rattle.join.proofs.Running.{start-near, cut-end, cut-written}
 use Rattle.join.proofs.lines.write_cut.Statement.{statement}
@@ -12,25 +12,20 @@ line-start-requires c κs = search needs
 add-base : tie.Need-add-base
 add-base c = omega (arith, start-near (c .before .before .before .before .args .past))
 
-sub-fill : tie.Need-sub-fill
-sub-fill c = omega (arith, start-near (c .before .before .before .before .before .args .past))
+put-newline-requires : tie.Need-put-newline-requires
+put-newline-requires c κs = search needs
 
 fill-requires : tie.Need-fill-requires
 fill-requires c κs = search needs
 
-fill-requires-2 : tie.Need-fill-requires-2
-fill-requires-2 c κs = search needs
-
 write-line-requires : tie.Need-write-line-requires
 write-line-requires c κs =
-    let spaced = c .before .before .before in
-    let emptied = spaced .before .before .before .before in
-    let started = emptied .before .before .before in
-    let start = started .before .before .before in
+    let started = c .before .before .before .before .before .before .before .before .before .before in
+    let start = c .before .before .before .before .before .before .before .before .before .before .before .before .before in
     let args = start .args in
     let end = cut-end (args .past) (args .cut) (lineAt (args .margins) (args .list .now) (args .spot) .line .bytes) (start .pre .1 .0) in (
       start .pre .0,
-      omega (arith, started .line-start .ensures, emptied .fill .kept .0, spaced .fill2 .kept .0),
+      omega (arith, started .line-start .ensures, c .before .before .before .before .before .before .before .put-newline .kept .0, c .before .before .before .fill .kept .0),
     )
 
 same-length : tie.Need-same-length
@@ -39,11 +34,8 @@ same-length c = search needs
 returns : tie.Need-returns
 returns c =
     let start = c .before .before .before .before .before .before .before .before .before .before .before .before .before .before .before .before in
-    cut-written (start .args .past) (start .args .cut) _ (start .pre .1 .0) _ _ _ _
-    (c .before .before .before .before .before .before .before .before .before .before .before .before .before .line-start .ensures)
-    (start .pre .1 .1)
-    (c .before .before .before .before .before .before .before .before .before .before .fill .ensures .1)
-    (c .before .before .before .before .before .before .fill2 .ensures .1) (c .before .before .write-line .ensures)
+    cut-written (start .args .past) (start .args .cut) _ _ _ _ _ (c .before .before .before .before .before .before .before .before .before .before .before .before .before .line-start .ensures) (start .pre .1 .1)
+    (c .before .before .before .before .before .before .before .before .before .before .put-newline .ensures) (c .before .before .before .before .before .before .fill .ensures .1) (c .before .before .write-line .ensures)
 
 pub write-cut-spec : {M : Type 1} → statement M
 write-cut-spec =
@@ -51,9 +43,8 @@ write-cut-spec =
     (tie.spec
     line-start-requires
     add-base
-    sub-fill
+    put-newline-requires
     fill-requires
-    fill-requires-2
     write-line-requires
     same-length
     returns)

@@ -1,0 +1,87 @@
+-- Before each step the measures are those of the line so far and the window shows it in the text, and a step adds the next piece to both.
+use mathlib.Core.Path.{_≡_, refl, _∙_}
+use Prim.Native.Nat.{_-_}
+use native.Mathlib.Omega.{arith}
+use lib.ListN.{length}
+use borrow.Author.Needs.{needs}
+use borrow.Author.Tests.{not-true, not-false}
+use Rattle.join.proofs.Walking.{Placing, placing-start, step-fits, placing-on, measuring-end, placing-end}
+use Rattle.join.proofs.line.walk_line.Statement.{statement}
+use Rattle.join.proofs.line.walk_line.Tie as tie
+
+abbrev Inv-loop : tie.InvT-loop
+Inv-loop text₀ window list margins measure₀ indent₀ here₀ ended₀ text measure indent here ended = Placing margins list here₀ window text₀ text measure indent here ended × (length text ≡ length text₀)
+
+abbrev μ-loop : tie.MeasureT-loop
+μ-loop text₀ window list margins measure₀ indent₀ here₀ ended₀ text measure indent here ended = length list - here .at
+
+loop-holds : tie.Need-loop-holds Inv-loop μ-loop
+loop-holds c =
+    let start = c .before .before in
+    (placing-start (start .args .margins) (start .args .list .now) (start .args .spot) (start .args .window) (start .args .text .now) (start .pre .0 .1) (start .pre .0 .2), refl)
+
+step-over-requires : tie.Need-step-over-requires Inv-loop μ-loop
+step-over-requires c κs =
+    let start = c .before .before .before .before in
+    let walking = c .before .loop .inv .0 .measuring .walking in
+    (start .pre .0 .0, walking .standing, walking .more (not-true _ (c .loop-test .taken)), start .pre .0 .3)
+
+put-step-requires : tie.Need-put-step-requires Inv-loop μ-loop
+put-step-requires c κs =
+    let start = c .before .before .before .before .before .before in
+    let turn = c .before .before .before .loop in
+    let stepped = c .before .step-over .ensures in
+    let going = rw (not-true (turn .ended) (c .before .before .loop-test .taken)) at (turn .inv .0) in
+    ((rw (turn .inv .1) (start .pre .1), stepped .part, stepped .inside), step-fits (going .measuring) stepped (start .pre .0 .3) .small)
+
+add-step-requires : tie.Need-add-step-requires Inv-loop μ-loop
+add-step-requires c κs =
+    let turn = c .before .before .before .before .before .before .loop in
+    let stepped = c .before .before .before .before .step-over .ensures in
+    let going = rw (not-true (turn .ended) (c .before .before .before .before .before .loop-test .taken)) at (turn .inv .0) in
+    ((stepped .part, stepped .inside), step-fits (going .measuring) stepped (c .before .before .before .before .before .before .before .before .before .pre .0 .3))
+
+takes-requires : tie.Need-takes-requires Inv-loop μ-loop
+takes-requires c κs = search needs
+
+loop-less : tie.Need-loop-less Inv-loop μ-loop
+loop-less c =
+    let turn = c .before .before .before .before .before .before .before .before .before .loop in
+    omega (arith, turn .inv .0 .measuring .walking .more (not-true (turn .ended) (c .before .before .before .before .before .before .before .before .loop-test .taken)), c .before .before .before .before .before .before .before .step-over .ensures .onward)
+
+loop-again : tie.Need-loop-again Inv-loop μ-loop
+loop-again c =
+    let turn = c .before .before .before .before .before .before .before .before .before .loop in
+    let going = rw (not-true (turn .ended) (c .before .before .before .before .before .before .before .before .loop-test .taken)) at (turn .inv .0) in
+    let counted = c .before .before .add-step .ensures in
+    let put = c .before .before .before .before .before .put-step in
+    (placing-on going (c .before .before .before .before .before .before .before .step-over .ensures) (put .ensures .1) (counted .0) (counted .1 .1) (c .before .takes .ensures), put .kept .0 ∙ turn .inv .1)
+
+indent-of-requires : tie.Need-indent-of-requires Inv-loop μ-loop
+indent-of-requires c κs = search needs
+
+same-length : tie.Need-same-length Inv-loop μ-loop
+same-length c = c .before .before .loop .inv .1
+
+returns : tie.Need-returns Inv-loop μ-loop
+returns c =
+    let turn = c .before .before .loop .inv .0 in
+    let ended = not-false _ (c .before .loop-test .left) in
+    (measuring-end (turn .measuring) ended (c .indent-of .ensures), placing-end turn ended)
+
+pub walk-line-spec : {M : Type 1} → statement M
+walk-line-spec =
+    tie.close
+    (tie.spec
+    Inv-loop
+    μ-loop
+    loop-holds
+    step-over-requires
+    put-step-requires
+    add-step-requires
+    takes-requires
+    loop-less
+    loop-again
+    indent-of-requires
+    same-length
+    returns)
