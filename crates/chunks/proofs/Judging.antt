@@ -1,7 +1,7 @@
 -- Laws of judging a stored list chunk by chunk.
 use mathlib.Core.Path.{_≡_, refl, ap, _∙_}
 use mathlib.Core.List.{List, [], _∷_, map}
-use mathlib.Core.Bool.{cond}
+use mathlib.Core.Bool.{true, cond}
 use Prim.Native.Nat.{ℕ, _+_, _≤_, _<_}
 use native.Mathlib.Omega.{arith}
 use lib.ListN.{length}
@@ -14,7 +14,7 @@ use Rattle.answers.specs.declared.Refusal.{Refusal}
 use Rattle.answers.specs.declared.Reason.the-variants.{ChunkLayout, NotAscii}
 use Rattle.text.specs.Accepted.{acceptedText, faultAt}
 use Rattle.text.proofs.Choices.{by-test}
-use Rattle.text.proofs.Accepted.{fault-none, fault-some}
+use Rattle.text.proofs.Accepted.{fault-none, fault-some, accepted-part}
 use Rattle.chunks.specs.Stored.{AllAccepted}
 use Rattle.chunks.specs.Reading.{chunkAt, storedChunks, chunkOf, ChunkFits}
 use Rattle.chunks.specs.Judging.{endFrom, layoutChecked, textsChecked, chunksChecked}
@@ -53,6 +53,13 @@ unfolding textsChecked
 texts-none list at e = ap (textsChecked list) (chunks-none list at e)
 
 -- ---- the place of the first bad byte, carried on
+
+-- in a list of accepted bytes there is none to find
+pub fault-kept : (list : List ℕ) (start end fault : ℕ) → start ≤ end → end ≤ length list → acceptedText list ≡ true → firstFault list start end fault ≡ fault
+fault-kept list start end fault up within accepted =
+    let none = fault-none (slice start end list) (accepted-part start end list accepted) in
+    let past : end ≤ start + faultAt (slice start end list) = omega (arith, length-slice start end list within) in
+    by-test (ltb fault (length list)) (λ e. rw e) (λ e. rw (e, le-ltb _ _ past))
 
 -- refusal 7 where a bad byte was found, else the judgement of the rest
 abbrev judged : List ℕ → ℕ → Checked → Checked

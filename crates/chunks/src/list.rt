@@ -8,14 +8,20 @@ use text::scans;
 ghost use mathlib.Core.Path.{_≡_};
 ghost use Prim.Native.Nat.{_≤_};
 ghost use lib.ListN.{length};
+ghost use Rattle.text.specs.Accepted.{acceptedText};
 ghost use Rattle.chunks.specs.Judging.{chunksChecked};
 ghost use Rattle.chunks.specs.Steps.{firstFault};
 
 // The first byte of list[start..end] that no text may hold, where an earlier text has no such byte; a place past the list stands for none.
-fn fault_in(list: &[u8], start: usize, end: usize, fault: usize) -> usize
+// Where all bytes of the list are `accepted` there is nothing to look for.
+fn fault_in(list: &[u8], start: usize, end: usize, fault: usize, accepted: bool) -> usize
     requires { ⌜ (start ≤ end) × (end ≤ length (now list)) ⌝ }
+    requires { ⌜ accepted ≡ acceptedText (now list) ⌝ }
     ensures { λ r. ⌜ r ≡ firstFault (now (list .entry)) start end fault ⌝ }
 {
+    if accepted {
+        return fault;
+    }
     if fault < list.len() {
         return fault;
     }
@@ -37,6 +43,7 @@ pub fn check_chunks(list: &[u8]) -> Checked
             place: 0,
         });
     }
+    let accepted = scans::is_accepted(list);
     let mut at = 0;
     let mut fault = length;
     while at < length {
@@ -47,7 +54,7 @@ pub fn check_chunks(list: &[u8]) -> Checked
                 place: at,
             });
         };
-        fault = fault_in(list, chunk.start, chunk.end, fault);
+        fault = fault_in(list, chunk.start, chunk.end, fault, accepted);
         at = chunk.end;
     }
     if fault < length {

@@ -1,9 +1,10 @@
 // Scans of a slice, or of a part of one: blanks at either end, the first newline, the first byte that is not accepted.
 use crate::blanks;
 ghost use mathlib.Core.Path.{_≡_};
+ghost use Prim.Native.Nat.{max};
 ghost use Rattle.text.specs.Ink.{leadingBlanks, inkEnd};
 ghost use Rattle.text.specs.Lines.{newlineAt};
-ghost use Rattle.text.specs.Accepted.{faultAt};
+ghost use Rattle.text.specs.Accepted.{faultAt, acceptedText};
 
 // How many blanks stand before the first ink.
 pub fn leading_blanks(bytes: &[u8]) -> usize
@@ -59,4 +60,27 @@ pub fn fault_at(bytes: &[u8]) -> usize
         i += 1;
     }
     i
+}
+
+// The larger of two bytes.
+fn larger_byte(a: u8, b: u8) -> u8
+    ensures { λ r. ⌜ r ≡ max a b ⌝ }
+{
+    if a < b {
+        return b;
+    }
+    a
+}
+
+// Whether a text holds only bytes that it may. The loop does not stop at a bad byte: so it is compiled to take many bytes at once.
+pub fn is_accepted(bytes: &[u8]) -> bool
+    ensures { λ r. ⌜ r ≡ acceptedText (now (bytes .entry)) ⌝ }
+{
+    let mut largest = 0;
+    let mut i = 0;
+    while i < bytes.len() {
+        largest = larger_byte(largest, bytes[i]);
+        i += 1;
+    }
+    largest <= 127
 }

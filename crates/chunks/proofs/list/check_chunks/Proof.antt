@@ -11,14 +11,14 @@ use Rattle.chunks.proofs.list.check_chunks.Statement.{statement}
 use Rattle.chunks.proofs.list.check_chunks.Tie as tie
 
 abbrev Inv-loop : tie.InvT-loop
-Inv-loop list length at₀ fault₀ at fault = Going list at fault
+Inv-loop list length accepted at₀ fault₀ at fault = Going list at fault
 
 abbrev μ-loop : tie.MeasureT-loop
-μ-loop list length at₀ fault₀ at fault = length - at
+μ-loop list length accepted at₀ fault₀ at fault = length - at
 
 -- the list, and the chunk that was found in it
 abbrev list : tie.After-known-told Inv-loop μ-loop → List ℕ
-list c = c .before .before .before .before .before .before .before .before .args .list .now
+list c = c .before .before .before .before .before .before .before .before .before .args .list .now
 
 abbrev chunk : tie.After-known-told Inv-loop μ-loop → StoredChunk
 chunk c = c .before .found .given .0 .0
@@ -30,8 +30,11 @@ fit c = rw (c .before .found .given .1) at (c .before .before .before .chunk-at 
 returns : tie.Need-returns Inv-loop μ-loop
 returns c = sym (too-long _ (c .if1 .taken))
 
+is-accepted-requires : tie.Need-is-accepted-requires Inv-loop μ-loop
+is-accepted-requires c κs = search needs
+
 loop-holds : tie.Need-loop-holds Inv-loop μ-loop
-loop-holds c = going-first (c .before .before .args .list .now)
+loop-holds c = going-first (c .before .before .before .args .list .now)
 
 chunk-at-requires : tie.Need-chunk-at-requires Inv-loop μ-loop
 chunk-at-requires c κs = search needs
@@ -47,11 +50,11 @@ returns-2 c =
     let looked = c .before .before in
     let turn = looked .before .before .loop in
     let none = sym (looked .chunk-at .ensures .0) ∙ c .enum-told .given .1 in
-    sym (bad-chunk (looked .before .before .before .before .before .args .list .now) (turn .at) (turn .fault)
-    (looked .before .before .before .if1 .left) (turn .inv) (looked .before .loop-test .taken) none)
+    sym (bad-chunk (looked .before .before .before .before .before .before .args .list .now) (turn .at) (turn .fault)
+    (looked .before .before .before .before .if1 .left) (turn .inv) (looked .before .loop-test .taken) none)
 
 fault-in-requires : tie.Need-fault-in-requires Inv-loop μ-loop
-fault-in-requires c κs = omega (arith, fit c)
+fault-in-requires c κs = ((omega (arith, fit c), omega (arith, fit c)), c .before .before .before .before .before .before .is-accepted .ensures)
 
 loop-less : tie.Need-loop-less Inv-loop μ-loop
 loop-less c = omega (arith, fit (c .before))
@@ -67,13 +70,13 @@ returns-3 : tie.Need-returns-3 Inv-loop μ-loop
 returns-3 c =
     let at-loop = c .before .before in
     let turn = at-loop .loop in
-    sym (bad-byte (at-loop .before .before .before .args .list .now) (turn .at) (turn .fault) (at-loop .before .if1 .left) (turn .inv) (c .before .loop-test .left) (c .if2 .taken))
+    sym (bad-byte (at-loop .before .before .before .before .args .list .now) (turn .at) (turn .fault) (at-loop .before .before .if1 .left) (turn .inv) (c .before .loop-test .left) (c .if2 .taken))
 
 returns-4 : tie.Need-returns-4 Inv-loop μ-loop
 returns-4 c =
     let at-loop = c .before .before in
     let turn = at-loop .loop in
-    sym (all-good (at-loop .before .before .before .args .list .now) (turn .at) (turn .fault) (at-loop .before .if1 .left) (turn .inv) (c .before .loop-test .left) (c .if2 .left))
+    sym (all-good (at-loop .before .before .before .before .args .list .now) (turn .at) (turn .fault) (at-loop .before .before .if1 .left) (turn .inv) (c .before .loop-test .left) (c .if2 .left))
 
 pub check-chunks-spec : {M : Type 1} → statement M
 check-chunks-spec =
@@ -82,6 +85,7 @@ check-chunks-spec =
     Inv-loop
     μ-loop
     returns
+    is-accepted-requires
     loop-holds
     chunk-at-requires
     enum-known-found
