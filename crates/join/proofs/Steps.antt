@@ -5,16 +5,23 @@ use mathlib.Core.Bool.{Bool, true, false, not, _&&_, _||_, and-true, and-false, 
 use Prim.Native.Nat.{ℕ, _+_, _-_, _≤_, _<_}
 use native.Mathlib.Omega.{arith}
 use lib.ListN.{length}
-use lib.Seq.{slice, slice-empty}
-use lib.Dec.{leb, ltb}
-use borrow.Author.Tests.{leb-false}
+use lib.Seq.{slice, slice-empty, length-slice}
+use lib.Dec.{eqb, leb, ltb}
+use borrow.Author.Tests.{leb-false, ltb-false, lt-leb}
 use Rattle.text.specs.Ink.{spaces}
+use Rattle.text.proofs.Choices.{by-test}
+use Rattle.options.specs.declared.Alignment.{Alignment}
+use Rattle.options.specs.declared.Alignment.the-variants.{Left, Right}
+use Rattle.chunks.specs.declared.stored.ChunkType.{ChunkType}
+use Rattle.chunks.specs.declared.stored.ChunkType.the-variants.{Code, Label, Comment}
 use Rattle.text.specs.Lines.{newlineAt}
 use Rattle.chunks.specs.Reading.{chunksAt}
 use Rattle.join.specs.Pieces.{following}
 use Rattle.join.specs.Layout.{ignored, laid, added, ends}
-use Rattle.join.specs.Walk.{Narrow, Standing, Passed, layOf, pieceAt, Stepped}
+use Rattle.join.specs.Walk.{Narrow, Standing, Passed, layAligned, layOf, pieceAt, Stepped, Whole}
 use Rattle.join.specs.declared.margins.Margins.{Margins}
+use Rattle.join.specs.declared.piece.Follows.{Follows}
+use Rattle.join.specs.declared.piece.Follows.the-variants.{Nothing, Newline, Other}
 use Rattle.join.specs.declared.piece.Lay.{Lay}
 use Rattle.join.specs.declared.piece.PieceEnd.{PieceEnd}
 use Rattle.join.specs.declared.piece.Spot.{Spot}
@@ -86,3 +93,29 @@ module _ (margins : Margins) (list : List ℕ) (spot : Spot) (n : ℕ) (piece : 
       stepped _ false kept refl refl (omega (arith, piece-some list spot standing inside, end)) (omega arith) (lays-at .small)
       (rw (lays-at .ignored ∙ kept, end) (lays-at .bytes kept))
       (rw (and-true (piece .newline)) ended)
+
+-- ---- a piece without a newline, of a chunk that another follows
+
+-- it is not ignored
+lay-plain : (margins : Margins) (ty : ChunkType) (n count : ℕ) (follows : Follows) → layOf margins ty n count false follows .ignored ≡ false
+lay-plain margins Label n count follows = by-test (ltb (margins .label) n) (λ e. rw e) (λ e. rw e (aligned-plain (margins .alignment) (margins .label - (count + 1))))
+  where
+    aligned-plain : (alignment : Alignment) (pad : ℕ) → layAligned alignment pad .ignored ≡ false
+    aligned-plain Left pad = refl
+    aligned-plain Right pad = refl
+lay-plain margins Code n count follows = rw (and-false (eqb count 1))
+lay-plain margins Comment n count Nothing = refl
+lay-plain margins Comment n count Newline = refl
+lay-plain margins Comment n count Other = refl
+
+module _ (margins : Margins) (list : List ℕ) (spot : Spot) (n : ℕ) (lay : Lay) (behind : Spot)
+    (narrow : Narrow margins) (standing : Standing list spot) (inside : spot .at < length list) (whole : Whole list spot)
+    (is : lay ≡ layAt margins list spot n (record { end = spot .end; newline = false })) (passed : Passed list spot (spot .end) behind) where
+  -- it is all of the rest of its chunk, and the line goes on behind it
+  pub stepped-whole : Stepped margins list spot n (record { before = lay .before; from = spot .at; to = spot .end; behind = lay .behind; ends = false; spot = behind })
+  stepped-whole =
+      let far = ltb-false (newlineAt (restAt list spot)) (spot .end - spot .at) (whole .plain) in
+      let end : spot .end ≡ pieceEnd list spot = omega (arith, length-slice (spot .at) (spot .end) list (standing .inside), standing .within) in
+      let kept : lay .ignored ≡ false = rw is (lay-plain margins (spot .ty) n (spot .end - spot .at) (following (chunksAt list (spot .end)))) in
+      stepped-kept margins list spot n (record { end = spot .end; newline = false }) lay behind narrow standing inside end (sym (whole .plain)) is passed kept
+      (sym (rw (lt-leb (length list) (spot .end) (whole .more))))

@@ -1,6 +1,6 @@
 -- The walk of a line, piece by piece: what holds before each step, and that a step keeps it.
 use mathlib.Core.Path.{_≡_, refl, sym, ap, _∙_}
-use mathlib.Core.List.{List, _++_}
+use mathlib.Core.List.{List, [], _++_, append-nil, append-assoc}
 use mathlib.Core.Bool.{Bool, true, false, cond}
 use Prim.Native.Nat.{ℕ, _+_, _-_, _*_, _≤_, _<_}
 use native.Mathlib.Omega.{arith}
@@ -9,8 +9,8 @@ use lib.Seq.{length-slice}
 use lib.Dec.{eqb}
 use Rattle.text.specs.Ink.{leadingBlanks, trimEnd}
 use Rattle.text.proofs.Choices.{by-test, true-false}
-use Rattle.join.specs.Layout.{Line, fresh, add, indentWith, indentOf}
-use Rattle.join.specs.Walk.{Standing, Stepped, Measured, LineWalked, piecesAt, pieceAt, firstLine, lineAt, taken, puts, Fits}
+use Rattle.join.specs.Layout.{Line, fresh, add, ends, indentWith, indentOf}
+use Rattle.join.specs.Walk.{Standing, Stepped, Measured, LineWalked, piecesAt, pieceAt, firstLine, lineAt, taken, Longer, Ran, puts, RanShown, Fits}
 use Rattle.join.specs.declared.margins.Margins.{Margins}
 use Rattle.join.specs.declared.piece.Spot.{Spot}
 use Rattle.join.specs.declared.piece.Step.{Step}
@@ -119,28 +119,134 @@ measuring-start margins list spot standing some = record {
   fits = omega arith;
 }
 
-module _ {margins : Margins} {list : List ℕ} {spot here : Spot} {measure : Measure} {indent : Indent} {step : Step}
-    (measuring : Measuring margins list spot measure indent here false) (stepped : Stepped margins list here (measure .length) step) where
+-- in the middle of a turn the indent is that of the line with the piece to come
+pub record Pausing (margins : Margins) (list : List ℕ) (spot : Spot) (measure : Measure) (indent : Indent) (here : Spot) : Type 0 where
+  pub line : Line
+  pub walking : Walking margins list spot line here false
+  pub measured : Measured measure (line .bytes)
+  pub takes : indent ≡ taken (line .indent) here
+  pub fits : measure .leading ≤ measure .length
+
+-- the turn starts with that
+pub pausing-start : {margins : Margins} {list : List ℕ} {spot here : Spot} {measure : Measure} {indent indent′ : Indent}
+    → Measuring margins list spot measure indent here false → indent′ ≡ taken indent here → Pausing margins list spot measure indent′ here
+pausing-start {here = here} measuring takes = record {
+  line = measuring .line;
+  walking = measuring .walking;
+  measured = measuring .measured;
+  takes = takes ∙ ap (λ (indent : Indent). taken indent here) (measuring .takes);
+  fits = measuring .fits;
+}
+
+-- the line is no longer than the list has bytes for
+pub pausing-short : {margins : Margins} {list : List ℕ} {spot here : Spot} {measure : Measure} {indent : Indent}
+    → Pausing margins list spot measure indent here → measure .length ≤ 512 * here .at
+pausing-short pausing = omega (arith, pausing .measured .length, pausing .walking .small)
+
+-- no chunk leaves the line as it is
+pub ran-start : (margins : Margins) (list : List ℕ) (spot : Spot) (measure : Measure) (indent : Indent) → Standing list spot → spot .at < length list
+    → measure .leading ≤ measure .length → Ran margins list spot measure indent measure spot
+ran-start margins list spot measure indent standing some fits = record {
+  more = [];
+  longer = λ line _ e. record { indent = line .indent; takes = e; left = rw (append-nil (line .bytes)) };
+  measured = λ bytes known. rw (append-nil bytes) known;
+  long = omega arith;
+  fits = fits;
+  standing = standing;
+  some = some;
+  onward = omega arith;
+  small = omega arith;
+}
+
+module _ {margins : Margins} {list : List ℕ} {spot here : Spot} {measure reached : Measure} {step : Step} (n : ℕ)
+    (ran : Ran margins list spot measure (Set n) reached here) (stepped : Stepped margins list here (reached .length) step) where
   -- a step's bytes fit
-  pub step-fits : length list ≤ 1048576 → Fits measure (step .before + (step .to - step .from) + step .behind)
-  step-fits short = record {
-    leading = measuring .fits;
-    small = step-room (measuring .walking) (measuring .measured .length) stepped short;
+  pub run-fits : measure .length ≤ 512 * spot .at → length list ≤ 1048576 → Fits reached (step .before + (step .to - step .from) + step .behind)
+  run-fits near short = record {
+    leading = ran .fits;
+    small = omega (arith, ran .small, stepped .small, stepped .onward, stepped .standing .within, stepped .standing .inside);
   }
 
-  -- and a step keeps the walk
-  pub measuring-on : {measure′ : Measure} {indent′ : Indent} → ((bytes : List ℕ) → Measured measure bytes → Measured measure′ (bytes ++ stepBytes list step))
-      → measure′ .leading ≤ measure′ .length → indent′ ≡ taken indent here → Measuring margins list spot measure′ indent′ (step .spot) (step .ends)
-  measuring-on counted fits takes =
-      let line = measuring .line in
-      let long = measuring .measured .length in
+  -- with a step more the line is the longer one
+  longer-on : step .ends ≡ false → (line : Line) → length (line .bytes) ≡ measure .length → taken (line .indent) spot ≡ Set n
+      → Longer margins list line spot (ran .more ++ stepBytes list step) (step .spot) (Set n)
+  unfolding firstLine add
+  longer-on goes line long e =
+      let on = ran .longer line long e in
+      let all : length (line .bytes ++ ran .more) ≡ reached .length = omega (arith, length-append (line .bytes) (ran .more), ran .long) in
+      let ongoing : ends margins (reached .length) (pieceAt list here) ≡ false = sym (stepped .ends) ∙ goes in
       record {
-        line = longer margins list line here;
-        walking = walking-on (measuring .walking) long stepped;
-        measured = rw (longer-bytes (measuring .walking) long stepped) (counted (line .bytes) (measuring .measured));
-        takes = takes ∙ rw (measuring .takes) (sym (longer-indent margins list line here));
-        fits = fits;
+        indent = Set n;
+        takes = refl;
+        left = on .left ∙ rw (stepped .pieces, all, ongoing, stepped .bytes, piece-indent list here (on .indent), on .takes, append-assoc (line .bytes) (ran .more) (stepBytes list step));
       }
+
+  -- so it ran on
+  pub ran-on : {reached′ : Measure} → step .ends ≡ false → ((bytes : List ℕ) → Measured reached bytes → Measured reached′ (bytes ++ stepBytes list step))
+      → reached′ .length ≡ reached .length + (step .before + (step .to - step .from) + step .behind) → reached′ .leading ≤ reached′ .length
+      → Ran margins list spot measure (Set n) reached′ (step .spot)
+  ran-on goes counted long fits =
+      let size = step-length list step (stepped .inside) in
+      record {
+        more = ran .more ++ stepBytes list step;
+        longer = longer-on goes;
+        measured = λ bytes known. rw (append-assoc bytes (ran .more) (stepBytes list step)) at (counted (bytes ++ ran .more) (ran .measured bytes known));
+        long = omega (arith, length-append (ran .more) (stepBytes list step), ran .long);
+        fits = fits;
+        standing = stepped .standing;
+        some = stepped .more goes;
+        onward = omega (arith, ran .onward, stepped .onward);
+        small = omega (arith, ran .small, stepped .small, stepped .onward);
+      }
+
+-- an indent is not less with a piece more
+taken-more : (indent : Indent) (spot : Spot) → indentOf indent ≤ indentOf (taken indent spot)
+taken-more (Set n) spot = omega arith
+taken-more Unset spot = omega arith
+
+-- a run goes on within a turn
+pub pausing-run : {margins : Margins} {list : List ℕ} {spot here there : Spot} {measure reached : Measure} {indent : Indent}
+    → Pausing margins list spot measure indent here → Ran margins list here measure indent reached there → Pausing margins list spot reached indent there
+pausing-run {here = here} {there = there} pausing ran =
+    let line = pausing .line in
+    let walking = pausing .walking in
+    let on = ran .longer line (sym (pausing .measured .length)) (sym (pausing .takes)) in
+    record {
+      line = record { bytes = line .bytes ++ ran .more; indent = on .indent };
+      walking = record {
+        left = walking .left ∙ on .left;
+        standing = ran .standing;
+        more = λ _. ran .some;
+        onward = λ e. true-false (sym e);
+        small = omega (arith, length-append (line .bytes) (ran .more), walking .small, ran .small, ran .long, pausing .measured .length);
+        low = omega (arith, taken-more (on .indent) there, ap indentOf (on .takes ∙ pausing .takes), taken-low (line .indent) here (walking .low) (walking .standing .small));
+      };
+      measured = ran .measured (line .bytes) (pausing .measured);
+      takes = sym (on .takes);
+      fits = ran .fits;
+    }
+
+-- a step's bytes fit
+pub pausing-fits : {margins : Margins} {list : List ℕ} {spot here : Spot} {measure : Measure} {indent : Indent} {step : Step}
+    → Pausing margins list spot measure indent here → Stepped margins list here (measure .length) step → length list ≤ 1048576
+    → Fits measure (step .before + (step .to - step .from) + step .behind)
+pausing-fits pausing stepped short = record { leading = pausing .fits; small = step-room (pausing .walking) (pausing .measured .length) stepped short }
+
+-- a step ends the turn
+pub pausing-on : {margins : Margins} {list : List ℕ} {spot here : Spot} {measure measure′ : Measure} {indent : Indent} {step : Step}
+    → Pausing margins list spot measure indent here → Stepped margins list here (measure .length) step
+    → ((bytes : List ℕ) → Measured measure bytes → Measured measure′ (bytes ++ stepBytes list step)) → measure′ .leading ≤ measure′ .length
+    → Measuring margins list spot measure′ indent (step .spot) (step .ends)
+pausing-on {margins = margins} {list = list} {here = here} pausing stepped counted fits =
+    let line = pausing .line in
+    let long = pausing .measured .length in
+    record {
+      line = longer margins list line here;
+      walking = walking-on (pausing .walking) long stepped;
+      measured = rw (longer-bytes (pausing .walking) long stepped) (counted (line .bytes) (pausing .measured));
+      takes = pausing .takes ∙ sym (longer-indent margins list line here);
+      fits = fits;
+    }
 
 -- at its end the line is measured
 pub measuring-end : {margins : Margins} {list : List ℕ} {spot here : Spot} {measure : Measure} {indent : Indent} {ended : Bool} {n : ℕ}
@@ -215,21 +321,67 @@ pub placing-start : (margins : Margins) (list : List ℕ) (spot : Spot) (window 
 unfolding measuring-start puts
 placing-start margins list spot window text standing some = record { measuring = measuring-start margins list spot standing some; written = refl }
 
--- a step keeps the walk
-pub placing-on : {margins : Margins} {list : List ℕ} {spot here : Spot} {window : Window} {before text text′ : List ℕ} {measure measure′ : Measure} {indent indent′ : Indent} {step : Step}
-    → Placing margins list spot window before text measure indent here false → Stepped margins list here (measure .length) step
+-- the same in the middle of a turn
+pub record PlacingOn (margins : Margins) (list : List ℕ) (spot : Spot) (window : Window) (before text : List ℕ) (measure : Measure) (indent : Indent) (here : Spot) : Type 0 where
+  pub pausing : Pausing margins list spot measure indent here
+  pub written : text ≡ puts before window 0 (pausing .line .bytes)
+
+-- the turn starts with that
+pub placing-turn : {margins : Margins} {list : List ℕ} {spot here : Spot} {window : Window} {before text : List ℕ} {measure : Measure} {indent indent′ : Indent}
+    → Placing margins list spot window before text measure indent here false → indent′ ≡ taken indent here
+    → PlacingOn margins list spot window before text measure indent′ here
+unfolding pausing-start
+placing-turn placing takes = record { pausing = pausing-start (placing .measuring) takes; written = placing .written }
+
+-- no chunk writes nothing
+pub shown-start : (margins : Margins) (list : List ℕ) (spot : Spot) (window : Window) (text : List ℕ) (measure : Measure) (indent : Indent)
+    → Standing list spot → spot .at < length list → measure .leading ≤ measure .length → RanShown margins list spot window text text measure indent measure spot
+unfolding ran-start puts
+shown-start margins list spot window text measure indent standing some fits = record { ran = ran-start margins list spot measure indent standing some fits; written = refl }
+
+-- a step writes its bytes behind those of the run so far
+pub shown-on : {margins : Margins} {list : List ℕ} {spot here : Spot} {window : Window} {before text text′ : List ℕ} {measure reached reached′ : Measure} {step : Step} (n : ℕ)
+    → RanShown margins list spot window before text measure (Set n) reached here → Stepped margins list here (reached .length) step → step .ends ≡ false
+    → text′ ≡ puts text window (reached .length) (stepBytes list step)
+    → ((bytes : List ℕ) → Measured reached bytes → Measured reached′ (bytes ++ stepBytes list step))
+    → reached′ .length ≡ reached .length + (step .before + (step .to - step .from) + step .behind) → reached′ .leading ≤ reached′ .length
+    → RanShown margins list spot window before text′ measure (Set n) reached′ (step .spot)
+unfolding ran-on
+shown-on {list = list} {window = window} {before = before} {measure = measure} {step = step} n shown stepped goes writes counted long fits =
+    let more = shown .ran .more in
+    record {
+      ran = ran-on n (shown .ran) stepped goes counted long fits;
+      written = writes ∙ sym (puts-append before window (measure .length) more (stepBytes list step) ∙ rw (← (shown .ran .long), shown .written));
+    }
+
+-- a run goes on within a turn
+pub placing-run : {margins : Margins} {list : List ℕ} {spot here there : Spot} {window : Window} {before text text′ : List ℕ} {measure reached : Measure} {indent : Indent}
+    → PlacingOn margins list spot window before text measure indent here → RanShown margins list here window text text′ measure indent reached there
+    → PlacingOn margins list spot window before text′ reached indent there
+unfolding pausing-run
+placing-run {window = window} {before = before} {measure = measure} placing shown =
+    let line = placing .pausing .line in
+    let all : 0 + length (line .bytes) ≡ measure .length = omega (arith, placing .pausing .measured .length) in
+    record {
+      pausing = pausing-run (placing .pausing) (shown .ran);
+      written = shown .written ∙ sym (puts-append before window 0 (line .bytes) (shown .ran .more) ∙ rw (all, placing .written));
+    }
+
+-- a step ends the turn
+pub placing-on : {margins : Margins} {list : List ℕ} {spot here : Spot} {window : Window} {before text text′ : List ℕ} {measure measure′ : Measure} {indent : Indent} {step : Step}
+    → PlacingOn margins list spot window before text measure indent here → Stepped margins list here (measure .length) step
     → text′ ≡ puts text window (measure .length) (stepBytes list step)
-    → ((bytes : List ℕ) → Measured measure bytes → Measured measure′ (bytes ++ stepBytes list step)) → measure′ .leading ≤ measure′ .length → indent′ ≡ taken indent here
-    → Placing margins list spot window before text′ measure′ indent′ (step .spot) (step .ends)
-unfolding measuring-on
-placing-on {list = list} {window = window} {before = before} {measure = measure} {step = step} placing stepped writes counted fits takes =
-    let measuring = placing .measuring in
-    let line = measuring .line in
-    let long = measuring .measured .length in
+    → ((bytes : List ℕ) → Measured measure bytes → Measured measure′ (bytes ++ stepBytes list step)) → measure′ .leading ≤ measure′ .length
+    → Placing margins list spot window before text′ measure′ indent (step .spot) (step .ends)
+unfolding pausing-on
+placing-on {list = list} {window = window} {before = before} {measure = measure} {step = step} placing stepped writes counted fits =
+    let pausing = placing .pausing in
+    let line = pausing .line in
+    let long = pausing .measured .length in
     let all : 0 + length (line .bytes) ≡ measure .length = omega (arith, long) in
     record {
-      measuring = measuring-on measuring stepped counted fits takes;
-      written = writes ∙ sym (rw (longer-bytes (measuring .walking) long stepped) (puts-append before window 0 (line .bytes) (stepBytes list step) ∙ rw (all, placing .written)));
+      measuring = pausing-on pausing stepped counted fits;
+      written = writes ∙ sym (rw (longer-bytes (pausing .walking) long stepped) (puts-append before window 0 (line .bytes) (stepBytes list step) ∙ rw (all, placing .written)));
     }
 
 -- at its end the line is written

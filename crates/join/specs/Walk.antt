@@ -124,6 +124,11 @@ pub record Stepped (margins : Margins) (list : List ℕ) (spot : Spot) (n : ℕ)
   pub more : step .ends ≡ false → step .spot .at < length list
   pub small : step .before + (step .to - step .from) + step .behind ≤ 512 * (step .spot .at - spot .at)
 
+-- the rest of the chunk at a spot has no newline, and another chunk follows
+pub record Whole (list : List ℕ) (spot : Spot) : Type 0 where
+  pub more : spot .end < length list
+  pub plain : ltb (newlineAt (slice (spot .at) (spot .end) list)) (spot .end - spot .at) ≡ false
+
 -- ---- a line by its measures
 
 pub record Measured (measure : Measure) (bytes : List ℕ) : Type 0 where
@@ -169,6 +174,24 @@ pub record LineWalked (margins : Margins) (list : List ℕ) (spot : Spot) (walke
   pub small : walked .measure .length + 512 * spot .at ≤ 512 * walked .spot .at
   pub low : walked .indent ≤ 4096
 
+-- a line that went on from a spot by more bytes and is still open, with the indent that it has when the next piece is added
+pub record Longer (margins : Margins) (list : List ℕ) (line : Line) (spot : Spot) (more : List ℕ) (here : Spot) (taken-there : Indent) : Type 0 where
+  pub indent : Indent
+  pub takes : taken indent here ≡ taken-there
+  pub left : firstLine margins line (piecesAt list spot) ≡ firstLine margins (record { bytes = line .bytes ++ more; indent = indent }) (piecesAt list here)
+
+-- a line that is open at a spot, whichever it is, went on to another by chunks without a newline
+pub record Ran (margins : Margins) (list : List ℕ) (spot : Spot) (measure : Measure) (indent : Indent) (reached : Measure) (here : Spot) : Type 0 where
+  pub more : List ℕ
+  pub longer : (line : Line) → length (line .bytes) ≡ measure .length → taken (line .indent) spot ≡ indent → Longer margins list line spot more here indent
+  pub measured : (bytes : List ℕ) → Measured measure bytes → Measured reached (bytes ++ more)
+  pub long : reached .length ≡ measure .length + length more
+  pub fits : reached .leading ≤ reached .length
+  pub standing : Standing list here
+  pub some : here .at < length list
+  pub onward : spot .at ≤ here .at
+  pub small : reached .length + 512 * spot .at ≤ measure .length + 512 * here .at
+
 -- ---- bytes written through a window: byte `at` of a line, where it is one of low to high
 
 abbrev pub put : List ℕ → Window → ℕ → ℕ → List ℕ
@@ -177,6 +200,11 @@ put text window at b = cond (leb (window .low) at && ltb at (window .high)) (set
 unfoldable pub puts : List ℕ → Window → ℕ → List ℕ → List ℕ
 puts text window at [] = text
 puts text window at (b ∷ bs) = puts (put text window at b) window (at + 1) bs
+
+-- what the window shows of a line that went on is written
+pub record RanShown (margins : Margins) (list : List ℕ) (spot : Spot) (window : Window) (before text : List ℕ) (measure : Measure) (indent : Indent) (reached : Measure) (here : Spot) : Type 0 where
+  pub ran : Ran margins list spot measure indent reached here
+  pub written : text ≡ puts before window (measure .length) (ran .more)
 
 -- the window lies within a text of n bytes
 abbrev pub Room : Window → ℕ → Type 0

@@ -7,12 +7,13 @@ use text::scans;
 use text::stores;
 ghost use mathlib.Core.Path.{_≡_};
 ghost use mathlib.Core.List.{List, _++_};
-ghost use Prim.Native.Nat.{ℕ, _+_, _-_, _≤_, _<_, min, max};
+ghost use Prim.Native.Nat.{ℕ, _+_, _-_, _*_, _≤_, _<_, min, max};
 ghost use lib.ListN.{length};
 ghost use lib.Seq.{slice};
 ghost use Rattle.text.specs.Ink.{spaces};
 ghost use Rattle.join.specs.Layout.{indentOf};
-ghost use Rattle.join.specs.Walk.{Narrow, Standing, Measured, Fits, taken, lineAt, LineWalked, puts, Room};
+ghost use Rattle.join.specs.Walk.{Narrow, Standing, Measured, Fits, taken, lineAt, LineWalked, Ran, RanShown, puts, Room};
+ghost use Rattle.join.specs.declared.line.Indent.the-variants.{Set};
 
 // A line's length, the blanks before its first ink, and the place behind its last ink (0 for none).
 pub struct Measure {
@@ -110,6 +111,52 @@ pub(crate) fn indent_of(indent: Indent) -> usize
     }
 }
 
+// A line that is still open, and the spot that it goes on from.
+pub struct Run {
+    pub measure: Measure,
+    pub spot: Spot,
+}
+
+// Passes over the chunks that cannot end a line. They are most of all chunks, so this loop has nothing else in it.
+pub(crate) fn measure_run(list: &[u8], margins: Margins, measure: Measure, spot: Spot) -> Run
+    requires { ⌜ Narrow margins × Standing (now list) spot × (spot .at < length (now list)) × (length (now list) ≤ 1048576) ⌝ }
+    requires { ⌜ (measure .leading ≤ measure .length) × (measure .length ≤ 512 * spot .at) ⌝ }
+    ensures { λ r. ⌜ ((n : ℕ) → Ran margins (now (list .entry)) spot measure (Set n) (r .measure) (r .spot)) ⌝ }
+{
+    let mut reached = measure;
+    let mut here = spot;
+    while piece::is_whole(list, here) {
+        let step = piece::step_whole(list, margins, here, reached.length);
+        reached = add_step(reached, list, step);
+        here = step.spot;
+    }
+    Run {
+        measure: reached,
+        spot: here,
+    }
+}
+
+// The same once the line has its indent; before, each piece may set it.
+pub(crate) fn measure_on(
+    list: &[u8],
+    margins: Margins,
+    measure: Measure,
+    indent: Indent,
+    spot: Spot,
+) -> Run
+    requires { ⌜ Narrow margins × Standing (now list) spot × (spot .at < length (now list)) × (length (now list) ≤ 1048576) ⌝ }
+    requires { ⌜ (measure .leading ≤ measure .length) × (measure .length ≤ 512 * spot .at) ⌝ }
+    ensures { λ r. ⌜ Ran margins (now (list .entry)) spot measure indent (r .measure) (r .spot) ⌝ }
+{
+    match indent {
+        Indent::Set(_) => measure_run(list, margins, measure, spot),
+        Indent::Unset => Run {
+            measure: measure,
+            spot: spot,
+        },
+    }
+}
+
 // A line that was walked to its end: its measures, its indent, and the spot behind it.
 pub struct Walked {
     pub measure: Measure,
@@ -131,9 +178,11 @@ pub(crate) fn measure_line(list: &[u8], margins: Margins, spot: Spot) -> Walked
     let mut here = spot;
     let mut ended = false;
     while !ended {
-        let step = piece::step_over(list, margins, here, measure.length);
-        measure = add_step(measure, list, step);
         indent = takes(indent, here);
+        let run = measure_on(list, margins, measure, indent, here);
+        let reached = run.measure;
+        let step = piece::step_over(list, margins, run.spot, reached.length);
+        measure = add_step(reached, list, step);
         ended = step.ends;
         here = step.spot;
     }
@@ -229,6 +278,58 @@ pub(crate) fn write_line(text: &mut [u8], window: Window, list: &[u8], margins: 
     }
 }
 
+// `measure_run`, and what the window shows of the chunks is written.
+pub(crate) fn write_run(
+    text: &mut [u8],
+    window: Window,
+    list: &[u8],
+    margins: Margins,
+    measure: Measure,
+    spot: Spot,
+) -> Run
+    requires { ⌜ Narrow margins × Standing (now list) spot × (spot .at < length (now list)) × (length (now list) ≤ 1048576) ⌝ }
+    requires { ⌜ (measure .leading ≤ measure .length) × (measure .length ≤ 512 * spot .at) ⌝ }
+    requires { ⌜ Room window (length (now text)) ⌝ }
+    ensures { λ r. ⌜ ((n : ℕ) → RanShown margins (now (list .entry)) spot window (now (text .entry)) (now (text .exit)) measure (Set n) (r .measure) (r .spot)) ⌝ }
+{
+    let mut reached = measure;
+    let mut here = spot;
+    while piece::is_whole(list, here) {
+        let step = piece::step_whole(list, margins, here, reached.length);
+        put_step(text, window, reached.length, list, step);
+        reached = add_step(reached, list, step);
+        here = step.spot;
+    }
+    Run {
+        measure: reached,
+        spot: here,
+    }
+}
+
+// `measure_on`, and what the window shows of the chunks is written.
+pub(crate) fn write_on(
+    text: &mut [u8],
+    window: Window,
+    list: &[u8],
+    margins: Margins,
+    measure: Measure,
+    indent: Indent,
+    spot: Spot,
+) -> Run
+    requires { ⌜ Narrow margins × Standing (now list) spot × (spot .at < length (now list)) × (length (now list) ≤ 1048576) ⌝ }
+    requires { ⌜ (measure .leading ≤ measure .length) × (measure .length ≤ 512 * spot .at) ⌝ }
+    requires { ⌜ Room window (length (now text)) ⌝ }
+    ensures { λ r. ⌜ RanShown margins (now (list .entry)) spot window (now (text .entry)) (now (text .exit)) measure indent (r .measure) (r .spot) ⌝ }
+{
+    match indent {
+        Indent::Set(_) => write_run(text, window, list, margins, measure, spot),
+        Indent::Unset => Run {
+            measure: measure,
+            spot: spot,
+        },
+    }
+}
+
 // The line that starts at a spot, measured to its end while what the window shows of it is written.
 pub(crate) fn walk_line(
     text: &mut [u8],
@@ -251,10 +352,12 @@ pub(crate) fn walk_line(
     let mut here = spot;
     let mut ended = false;
     while !ended {
-        let step = piece::step_over(list, margins, here, measure.length);
-        put_step(text, window, measure.length, list, step);
-        measure = add_step(measure, list, step);
         indent = takes(indent, here);
+        let run = write_on(text, window, list, margins, measure, indent, here);
+        let reached = run.measure;
+        let step = piece::step_over(list, margins, run.spot, reached.length);
+        put_step(text, window, reached.length, list, step);
+        measure = add_step(reached, list, step);
         ended = step.ends;
         here = step.spot;
     }

@@ -6,6 +6,7 @@ use options::Alignment;
 use text::numbers;
 use text::scans;
 ghost use mathlib.Core.Path.{_≡_};
+ghost use mathlib.Core.Bool.{true, false};
 ghost use Prim.Native.Nat.{_+_, _-_, _≤_, _<_};
 ghost use lib.ListN.{length};
 ghost use lib.Seq.{slice};
@@ -15,7 +16,7 @@ ghost use Rattle.text.specs.Lines.{newlineAt};
 ghost use Rattle.chunks.specs.Reading.{typeOf, chunkAt, chunksAt, ChunkFits};
 ghost use Rattle.chunks.specs.declared.stored.ChunkAt.the-variants.{Found};
 ghost use Rattle.join.specs.Pieces.{following};
-ghost use Rattle.join.specs.Walk.{Narrow, Laid, Standing, Reached, Passed, layLabel, layCode, layComment, layOf, pieceLength, Stepped};
+ghost use Rattle.join.specs.Walk.{Narrow, Laid, Standing, Reached, Passed, layLabel, layCode, layComment, layOf, pieceLength, Stepped, Whole};
 
 // What follows a chunk: none, a chunk that is exactly a newline, or another chunk.
 pub enum Follows {
@@ -313,6 +314,44 @@ pub(crate) fn step_over(list: &[u8], margins: Margins, spot: Spot, column: usize
         to: piece.end,
         behind: lay.behind,
         ends: last || piece.newline,
+        spot: behind,
+    }
+}
+
+// Whether the rest of the chunk at a spot has no newline and is followed by another chunk: then it is a piece that cannot end a line.
+pub(crate) fn is_whole(list: &[u8], spot: Spot) -> bool
+    requires { ⌜ Standing (now list) spot ⌝ }
+    ensures { λ r. ⌜ (r ≡ true → Whole (now (list .entry)) spot) ⌝ }
+{
+    let at = spot.at;
+    let end = spot.end;
+    if list.len() <= end {
+        return false;
+    }
+    let piece = piece_end(list, at, end);
+    !piece.newline
+}
+
+// The step over such a rest.
+pub(crate) fn step_whole(list: &[u8], margins: Margins, spot: Spot, column: usize) -> Step
+    requires { ⌜ Narrow margins × Standing (now list) spot × (spot .at < length (now list)) × (length (now list) ≤ 1048576) ⌝ }
+    requires { ⌜ Whole (now list) spot ⌝ }
+    ensures { λ r. ⌜ Stepped margins (now (list .entry)) spot column r × (r .ends ≡ false) ⌝ }
+{
+    let at = spot.at;
+    let end = spot.end;
+    let piece = PieceEnd {
+        end: end,
+        newline: false,
+    };
+    let lay = lay_piece(list, margins, spot, column, piece);
+    let behind = spot_after(list, spot, end);
+    Step {
+        before: lay.before,
+        from: at,
+        to: end,
+        behind: lay.behind,
+        ends: false,
         spot: behind,
     }
 }

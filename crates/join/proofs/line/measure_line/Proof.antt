@@ -1,10 +1,11 @@
--- Before each step the measures are those of the line so far, and a step adds the next piece to both.
+-- Before each turn the measures are those of the line so far; chunks without a newline run on, and the step behind them adds the next piece to both.
+use mathlib.Core.Path.{refl}
 use Prim.Native.Nat.{_-_}
 use native.Mathlib.Omega.{arith}
 use lib.ListN.{length}
 use borrow.Author.Needs.{needs}
 use borrow.Author.Tests.{not-true, not-false}
-use Rattle.join.proofs.Walking.{Measuring, measuring-start, step-fits, measuring-on, measuring-end}
+use Rattle.join.proofs.Walking.{Measuring, measuring-start, measuring-end, pausing-start, pausing-short, pausing-run, pausing-fits, pausing-on}
 use Rattle.join.proofs.line.measure_line.Statement.{statement}
 use Rattle.join.proofs.line.measure_line.Tie as tie
 
@@ -19,33 +20,40 @@ loop-holds c =
     let start = c .before in
     measuring-start (start .args .margins) (start .args .list .now) (start .args .spot) (start .pre .1) (start .pre .2)
 
-step-over-requires : tie.Need-step-over-requires Inv-loop μ-loop
-step-over-requires c κs =
-    let start = c .before .before .before in
-    let walking = c .before .loop .inv .walking in
-    (start .pre .0, walking .standing, walking .more (not-true _ (c .loop-test .taken)), start .pre .3)
-
-add-step-requires : tie.Need-add-step-requires Inv-loop μ-loop
-add-step-requires c κs =
-    let turn = c .before .before .loop in
-    let stepped = c .step-over .ensures in
-    let going = rw (not-true (turn .ended) (c .before .loop-test .taken)) at (turn .inv) in
-    ((stepped .part, stepped .inside), step-fits going stepped (c .before .before .before .before .pre .3))
-
 takes-requires : tie.Need-takes-requires Inv-loop μ-loop
 takes-requires c κs = search needs
 
+measure-on-requires : tie.Need-measure-on-requires Inv-loop μ-loop
+measure-on-requires c κs =
+    let given = c .before .before .before .before .pre in
+    let turn = c .before .before .loop in
+    let pausing = pausing-start (rw (not-true (turn .ended) (c .before .loop-test .taken)) at (turn .inv)) (c .takes .ensures) in
+    ((given .0, pausing .walking .standing, pausing .walking .more refl, given .3), (pausing .fits, pausing-short pausing))
+
+step-over-requires : tie.Need-step-over-requires Inv-loop μ-loop
+step-over-requires c κs =
+    let given = c .before .before .before .before .before .before .pre in
+    let ran = c .before .measure-on .ensures in
+    (given .0, ran .standing, ran .some, given .3)
+
+add-step-requires : tie.Need-add-step-requires Inv-loop μ-loop
+add-step-requires c κs =
+    let turn = c .before .before .before .before .before .loop in
+    let stepped = c .step-over .ensures in
+    let pausing = pausing-start (rw (not-true (turn .ended) (c .before .before .before .before .loop-test .taken)) at (turn .inv)) (c .before .before .before .takes .ensures) in
+    ((stepped .part, stepped .inside), pausing-fits (pausing-run pausing (c .before .before .measure-on .ensures)) stepped (c .before .before .before .before .before .before .before .pre .3))
+
 loop-less : tie.Need-loop-less Inv-loop μ-loop
 loop-less c =
-    let turn = c .before .before .before .before .before .loop in
-    omega (arith, turn .inv .walking .more (not-true (turn .ended) (c .before .before .before .before .loop-test .taken)), c .before .before .before .step-over .ensures .onward)
+    let ran = c .before .before .before .before .measure-on .ensures in
+    omega (arith, ran .some, ran .onward, c .before .before .step-over .ensures .onward)
 
 loop-again : tie.Need-loop-again Inv-loop μ-loop
 loop-again c =
-    let turn = c .before .before .before .before .before .loop in
-    let going = rw (not-true (turn .ended) (c .before .before .before .before .loop-test .taken)) at (turn .inv) in
-    let counted = c .before .before .add-step .ensures in
-    measuring-on going (c .before .before .before .step-over .ensures) (counted .0) (counted .1 .1) (c .before .takes .ensures)
+    let turn = c .before .before .before .before .before .before .before .loop in
+    let counted = c .before .add-step .ensures in
+    let pausing = pausing-start (rw (not-true (turn .ended) (c .before .before .before .before .before .before .loop-test .taken)) at (turn .inv)) (c .before .before .before .before .before .takes .ensures) in
+    pausing-on (pausing-run pausing (c .before .before .before .before .measure-on .ensures)) (c .before .before .step-over .ensures) (counted .0) (counted .1 .1)
 
 indent-of-requires : tie.Need-indent-of-requires Inv-loop μ-loop
 indent-of-requires c κs = search needs
@@ -60,9 +68,10 @@ measure-line-spec =
     Inv-loop
     μ-loop
     loop-holds
+    takes-requires
+    measure-on-requires
     step-over-requires
     add-step-requires
-    takes-requires
     loop-less
     loop-again
     indent-of-requires

@@ -1,11 +1,11 @@
--- Before each step the measures are those of the line so far and the window shows it in the text, and a step adds the next piece to both.
+-- Before each turn the measures are those of the line so far and the window shows it in the text; chunks without a newline run on, and the step behind them adds the next piece to both.
 use mathlib.Core.Path.{_≡_, refl, _∙_}
 use Prim.Native.Nat.{_-_}
 use native.Mathlib.Omega.{arith}
 use lib.ListN.{length}
 use borrow.Author.Needs.{needs}
 use borrow.Author.Tests.{not-true, not-false}
-use Rattle.join.proofs.Walking.{Placing, placing-start, step-fits, placing-on, measuring-end, placing-end}
+use Rattle.join.proofs.Walking.{Placing, pausing-short, pausing-fits, measuring-end, placing-start, placing-turn, placing-run, placing-on, placing-end}
 use Rattle.join.proofs.line.walk_line.Statement.{statement}
 use Rattle.join.proofs.line.walk_line.Tie as tie
 
@@ -20,42 +20,51 @@ loop-holds c =
     let start = c .before .before in
     (placing-start (start .args .margins) (start .args .list .now) (start .args .spot) (start .args .window) (start .args .text .now) (start .pre .0 .1) (start .pre .0 .2), refl)
 
-step-over-requires : tie.Need-step-over-requires Inv-loop μ-loop
-step-over-requires c κs =
-    let start = c .before .before .before .before in
-    let walking = c .before .loop .inv .0 .measuring .walking in
-    (start .pre .0 .0, walking .standing, walking .more (not-true _ (c .loop-test .taken)), start .pre .0 .3)
-
-put-step-requires : tie.Need-put-step-requires Inv-loop μ-loop
-put-step-requires c κs =
-    let start = c .before .before .before .before .before .before in
-    let turn = c .before .before .before .loop in
-    let stepped = c .before .step-over .ensures in
-    let going = rw (not-true (turn .ended) (c .before .before .loop-test .taken)) at (turn .inv .0) in
-    ((rw (turn .inv .1) (start .pre .1), stepped .part, stepped .inside), step-fits (going .measuring) stepped (start .pre .0 .3) .small)
-
-add-step-requires : tie.Need-add-step-requires Inv-loop μ-loop
-add-step-requires c κs =
-    let turn = c .before .before .before .before .before .before .loop in
-    let stepped = c .before .before .before .before .step-over .ensures in
-    let going = rw (not-true (turn .ended) (c .before .before .before .before .before .loop-test .taken)) at (turn .inv .0) in
-    ((stepped .part, stepped .inside), step-fits (going .measuring) stepped (c .before .before .before .before .before .before .before .before .before .pre .0 .3))
-
 takes-requires : tie.Need-takes-requires Inv-loop μ-loop
 takes-requires c κs = search needs
 
+write-on-requires : tie.Need-write-on-requires Inv-loop μ-loop
+write-on-requires c κs =
+    let given = c .before .before .before .before .before .before .pre in
+    let turn = c .before .before .before .loop in
+    let pausing = placing-turn (rw (not-true (turn .ended) (c .before .before .loop-test .taken)) at (turn .inv .0)) (c .before .takes .ensures) .pausing in
+    ((given .0 .0, pausing .walking .standing, pausing .walking .more refl, given .0 .3), ((pausing .fits, pausing-short pausing), rw (turn .inv .1) (given .1)))
+
+step-over-requires : tie.Need-step-over-requires Inv-loop μ-loop
+step-over-requires c κs =
+    let given = c .before .before .before .before .before .before .before .before .before .before .pre .0 in
+    let ran = c .before .before .before .write-on .ensures .ran in
+    (given .0, ran .standing, ran .some, given .3)
+
+put-step-requires : tie.Need-put-step-requires Inv-loop μ-loop
+put-step-requires c κs =
+    let given = c .before .before .before .before .before .before .before .before .before .before .before .before .pre in
+    let turn = c .before .before .before .before .before .before .before .before .before .loop in
+    let stepped = c .before .step-over .ensures in
+    let placing = placing-turn (rw (not-true (turn .ended) (c .before .before .before .before .before .before .before .before .loop-test .taken)) at (turn .inv .0)) (c .before .before .before .before .before .before .before .takes .ensures) in
+    let on = c .before .before .before .before .before .write-on in
+    ((rw (on .kept .0 ∙ turn .inv .1) (given .1), stepped .part, stepped .inside), pausing-fits (placing-run placing (on .ensures) .pausing) stepped (given .0 .3) .small)
+
+add-step-requires : tie.Need-add-step-requires Inv-loop μ-loop
+add-step-requires c κs =
+    let turn = c .before .before .before .before .before .before .before .before .before .before .before .before .loop in
+    let stepped = c .before .before .before .before .step-over .ensures in
+    let placing = placing-turn (rw (not-true (turn .ended) (c .before .before .before .before .before .before .before .before .before .before .before .loop-test .taken)) at (turn .inv .0)) (c .before .before .before .before .before .before .before .before .before .before .takes .ensures) in
+    ((stepped .part, stepped .inside), pausing-fits (placing-run placing (c .before .before .before .before .before .before .before .before .write-on .ensures) .pausing) stepped (c .before .before .before .before .before .before .before .before .before .before .before .before .before .before .before .pre .0 .3))
+
 loop-less : tie.Need-loop-less Inv-loop μ-loop
 loop-less c =
-    let turn = c .before .before .before .before .before .before .before .before .before .loop in
-    omega (arith, turn .inv .0 .measuring .walking .more (not-true (turn .ended) (c .before .before .before .before .before .before .before .before .loop-test .taken)), c .before .before .before .before .before .before .before .step-over .ensures .onward)
+    let ran = c .before .before .before .before .before .before .before .before .before .before .write-on .ensures .ran in
+    omega (arith, ran .some, ran .onward, c .before .before .before .before .before .before .step-over .ensures .onward)
 
 loop-again : tie.Need-loop-again Inv-loop μ-loop
 loop-again c =
-    let turn = c .before .before .before .before .before .before .before .before .before .loop in
-    let going = rw (not-true (turn .ended) (c .before .before .before .before .before .before .before .before .loop-test .taken)) at (turn .inv .0) in
-    let counted = c .before .before .add-step .ensures in
-    let put = c .before .before .before .before .before .put-step in
-    (placing-on going (c .before .before .before .before .before .before .before .step-over .ensures) (put .ensures .1) (counted .0) (counted .1 .1) (c .before .takes .ensures), put .kept .0 ∙ turn .inv .1)
+    let turn = c .before .before .before .before .before .before .before .before .before .before .before .before .before .before .loop in
+    let counted = c .before .add-step .ensures in
+    let put = c .before .before .before .before .put-step in
+    let on = c .before .before .before .before .before .before .before .before .before .before .write-on in
+    let placing = placing-turn (rw (not-true (turn .ended) (c .before .before .before .before .before .before .before .before .before .before .before .before .before .loop-test .taken)) at (turn .inv .0)) (c .before .before .before .before .before .before .before .before .before .before .before .before .takes .ensures) in
+    (placing-on (placing-run placing (on .ensures)) (c .before .before .before .before .before .before .step-over .ensures) (put .ensures .1) (counted .0) (counted .1 .1), put .kept .0 ∙ on .kept .0 ∙ turn .inv .1)
 
 indent-of-requires : tie.Need-indent-of-requires Inv-loop μ-loop
 indent-of-requires c κs = search needs
@@ -76,10 +85,11 @@ walk-line-spec =
     Inv-loop
     μ-loop
     loop-holds
+    takes-requires
+    write-on-requires
     step-over-requires
     put-step-requires
     add-step-requires
-    takes-requires
     loop-less
     loop-again
     indent-of-requires
