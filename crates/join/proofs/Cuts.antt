@@ -10,9 +10,9 @@ use lib.Dec.{eqb, ltb, leb}
 use borrow.Author.Tests.{ne-eqb, lt-ltb, leb-true, eqb-true, eqb-false}
 use Rattle.text.specs.Ink.{allBlank, trimEnd, leadingBlanks, inkEnd, spaces}
 use Rattle.text.proofs.Choices.{cond-both, by-test}
-use Rattle.text.proofs.Ink.{blank-append, spaces-blank, trim-blank, trim-append-ink, trim-take, ink-end-some, ink-end-le, leading-lt, blank-front}
+use Rattle.text.proofs.Ink.{blank-append, spaces-blank, trim-blank, trim-append-ink, trim-take, ink-end-some, leading-lt, blank-front}
 use Rattle.join.specs.Layout.{Line, indentOf, standalone, setLine, Before, keeps, after}
-use Rattle.join.specs.Walk.{Narrow, Measured, cutOf, grownBy, CutFits}
+use Rattle.join.specs.Walk.{Narrow, Inked, cutOf, grownBy, CutFits}
 use Rattle.join.specs.declared.margins.Margins.{Margins}
 use Rattle.join.specs.declared.line.Measure.{Measure}
 use Rattle.join.specs.declared.lines.Past.{Past}
@@ -96,10 +96,10 @@ pub record CutSays (margins : Margins) (past : Past) (line : Line) (cut : Cut) :
   pub kept : cut .kept ≡ keeps (beforeOf past) (line .bytes)
   pub set : cut .kept ≡ true → setLine margins line ≡ spaces (cut .lead) ++ slice (cut .low) (cut .high) (line .bytes)
   pub after : after margins (beforeOf past) (line .bytes) ≡ beforeOf (grownBy past cut)
-  pub fits : CutFits cut (length (line .bytes))
+  pub fits : CutFits cut (inkEnd (line .bytes))
 
 module _ (margins : Margins) (narrow : Narrow margins) (past : Past) (line : Line) (measure : Measure) (indent : ℕ)
-    (measured : Measured measure (line .bytes)) (same : indent ≡ indentOf (line .indent)) (low : indent ≤ 4096) where
+    (inked-at : Inked measure (line .bytes)) (same : indent ≡ indentOf (line .indent)) (low : indent ≤ 4096) where
   -- of a line without ink
   says-blank : allBlank (line .bytes) ≡ true → CutSays margins past line (record { kept = not (past .blank || past .standalone); standalone = false; lead = 0; low = 0; high = 0 })
   unfolding keeps after standalone
@@ -117,14 +117,14 @@ module _ (margins : Margins) (narrow : Narrow margins) (past : Past) (line : Lin
   says-standalone inked alone =
       let front : leb (margins .label + margins .code) (leadingBlanks (line .bytes)) ≡ true = sym (standalone-ink margins (line .bytes) inked) ∙ alone in
       let some = ink-end-some (line .bytes) inked in
-      let end = measured .end in
+      let end = inked-at .end in
       record {
         kept = rw inked;
         set = λ _. rw (end, same) (set-standalone margins line inked alone);
         after = rw (inked, alone, ne-eqb (measure .«ink_end») 0 (λ none. omega arith));
         fits = record {
           part = omega (arith, front-end (margins .label + margins .code) (line .bytes) inked front);
-          within = omega (arith, ink-end-le (line .bytes));
+          within = omega arith;
           small = omega (arith, narrow .label);
         };
       }
@@ -135,12 +135,12 @@ module _ (margins : Margins) (narrow : Narrow margins) (past : Past) (line : Lin
   unfolding keeps after
   says-inked inked near =
       let some = ink-end-some (line .bytes) inked in
-      let end = measured .end in
+      let end = inked-at .end in
       record {
         kept = rw inked;
         set = λ _. rw (end, same) (set-inked margins line inked near);
         after = rw (inked, near, ne-eqb (measure .«ink_end») 0 (λ none. omega arith));
-        fits = record { part = omega arith; within = omega (arith, ink-end-le (line .bytes)); small = omega arith };
+        fits = record { part = omega arith; within = omega arith; small = omega arith };
       }
 
   -- the cut of a measured line says what becomes of the line
@@ -150,8 +150,8 @@ module _ (margins : Margins) (narrow : Narrow margins) (past : Past) (line : Lin
       let bytes = line .bytes in
       let both = margins .label + margins .code in
       cond-both P (eqb (measure .«ink_end») 0) _ _
-      (λ none. says-blank (end-blank bytes (sym (measured .end) ∙ eqb-true (measure .«ink_end») 0 none)))
+      (λ none. says-blank (end-blank bytes (sym (inked-at .end) ∙ eqb-true (measure .«ink_end») 0 none)))
       (λ some.
-      let inked = end-ink bytes (λ none. eqb-false (measure .«ink_end») 0 some (measured .end ∙ none)) in
-      let alone : standalone margins bytes ≡ leb both (measure .leading) = rw (measured .leading) (standalone-ink margins bytes inked) in
+      let inked = end-ink bytes (λ none. eqb-false (measure .«ink_end») 0 some (inked-at .end ∙ none)) in
+      let alone : standalone margins bytes ≡ leb both (measure .leading) = rw (inked-at .leading inked) (standalone-ink margins bytes inked) in
       cond-both P (leb both (measure .leading)) _ _ (λ far. says-standalone inked (alone ∙ far)) (λ near. says-inked inked (alone ∙ near)))

@@ -6,9 +6,9 @@ use Prim.Native.Nat.{ℕ, _+_}
 use native.Mathlib.Omega.{arith}
 use lib.ListN.{length, length-append}
 use Rattle.text.specs.Ink.{allBlank, leadingBlanks, trimEnd, inkEnd}
-use Rattle.text.proofs.Choices.{by-test}
+use Rattle.text.proofs.Choices.{by-test, true-false}
 use Rattle.text.proofs.Ink.{blank-append, trim-append-ink, trim-append-blank, ink-end-zero, ink-end-some, leading-append-ink, leading-append-blank, leading-blank}
-use Rattle.join.specs.Walk.{Measured}
+use Rattle.join.specs.Walk.{Measured, Inked}
 use Rattle.join.specs.declared.line.Measure.{Measure}
 
 -- where the ink ends at 0 there is none
@@ -83,4 +83,11 @@ blanks-alike measure line xs ys blank blank′ many known = record {
       (λ q. omega (arith, leading-append-blank line xs q, leading-append-blank line ys q, leading-blank xs blank, leading-blank ys blank′))
       (λ q. leading-append-ink line xs q ∙ sym (leading-append-ink line ys q));
   end = known .end ∙ ap length (trim-append-blank line xs blank ∙ sym (trim-append-blank line ys blank′));
+}
+
+-- blanks behind a measured line leave what its cut looks at
+pub inked-behind : {measure : Measure} {line : List ℕ} (rest : List ℕ) → Measured measure line → allBlank rest ≡ true → Inked measure (line ++ rest)
+inked-behind {line = line} rest known blank = record {
+  end = known .end ∙ sym (ap length (trim-append-blank line rest blank));
+  leading = λ ink. known .leading ∙ sym (leading-append-ink line rest (by-test (allBlank line) (λ q. true-false (sym (blank-append line rest ∙ rw (q, blank)) ∙ ink)) (λ q. q)));
 }

@@ -4,22 +4,23 @@ use mathlib.Core.List.{List, [], _∷_, _++_, map, append-assoc, append-nil}
 use mathlib.Core.Bool.{Bool, true, false, cond, _&&_}
 use Prim.Native.Nat.{ℕ, suc, _+_, _-_, _*_, _≤_, _<_}
 use native.Mathlib.Omega.{arith}
-use native.Mathlib.Nat.{min-le-left}
+use native.Mathlib.Nat.{min-le-left, le-trans}
 use lib.ListN.{length, take, drop, set, length-append, length-replicate, length-take}
 use lib.Seq.{slice, sets, sets-eq, length-slice, slice-empty, length-take-le, take-all, take-length, take-append-add, take-append-le, take-set-le, take-take}
 use lib.Dec.{eqb, leb}
 use borrow.Author.Tests.{le-leb, eqb-true}
-use Rattle.text.specs.Ink.{spaces}
+use Rattle.text.specs.Ink.{inkEnd, spaces}
 use Rattle.text.specs.Lines.{behind, joined}
 use Rattle.text.specs.Stores.{fits, storedBuffer}
 use Rattle.text.proofs.Choices.{cond-both, by-test, true-false, and-true-left, and-true-right}
 use Rattle.text.proofs.Parts.{part-slice}
+use Rattle.text.proofs.Ink.{trim-append-blank, ink-end-le}
 use Rattle.text.proofs.Buffers.{sets-append, stored-append}
 use Rattle.chunks.specs.Reading.{chunksOf}
 use Rattle.join.specs.Pieces.{Piece, cut, piecesOf, pieces}
 use Rattle.join.specs.Layout.{Line, fresh, Before, add, ends, keeps, after, withLine, keptLines, setLine}
 use Rattle.join.specs.Setting.{linesKept, textOf}
-use Rattle.join.specs.Walk.{Narrow, Standing, Reached, piecesAt, First, firstLine, lineAt, LineWalked, puts, cutOf, lineStart, grownBy, front, cutBytes, CutFits, windowTo, Tried, astray}
+use Rattle.join.specs.Walk.{Narrow, Standing, Reached, piecesAt, First, firstLine, lineAt, LineWalked, puts, cutOf, lineStart, grownBy, front, cutBytes, CutFits, Showing, windowTo, Tried, astray}
 use Rattle.join.specs.declared.margins.Margins.{Margins}
 use Rattle.join.specs.declared.piece.Spot.{Spot}
 use Rattle.join.specs.declared.line.Walked.{Walked}
@@ -43,7 +44,7 @@ pub start-near : (past : Past) → (past .length ≤ lineStart past) × (lineSta
 start-near past =
     cond-both (λ (n : ℕ). (past .length ≤ n) × (n ≤ past .length + 1)) (past .any) (past .length + 1) (past .length) (λ _. (omega arith, omega arith)) (λ _. (omega arith, omega arith))
 
-module _ (past : Past) (cut : Cut) (bytes : List ℕ) (fit : CutFits cut (length bytes)) where
+module _ (past : Past) (cut : Cut) (bytes : List ℕ) (fit : CutFits cut (inkEnd bytes)) where
   -- where the text ends with a line that is set
   pub cut-end : past .length + length (cutBytes past cut bytes) ≡ lineStart past + cut .lead + (cut .high - cut .low)
   cut-end =
@@ -51,7 +52,7 @@ module _ (past : Past) (cut : Cut) (bytes : List ℕ) (fit : CutFits cut (length
         length-append (front (past .any)) (spaces (cut .lead) ++ slice (cut .low) (cut .high) bytes),
         length-append (spaces (cut .lead)) (slice (cut .low) (cut .high) bytes),
         length-replicate {A = ℕ} (cut .lead) 32,
-        length-slice (cut .low) (cut .high) bytes (fit .within),
+        length-slice (cut .low) (cut .high) bytes (le-trans (fit .within) (ink-end-le bytes)),
         start-front past,
       )
       (omega arith)
@@ -153,9 +154,37 @@ module _ (past : Past) (guess : Guess) (bytes text text₁ text₂ : List ℕ) {
       rw (stored, end, ← whole) (take-stores text n (length before + (high - guess .low)) (before ++ part) (rw whole enough) some
       ∙ rw (take-append-add before part (high - guess .low), shown, append-assoc (front (past .any)) (spaces (guess .lead)) (slice (guess .low) high bytes)))
 
-  -- so the line is tried
-  pub line-tried : Tried past guess bytes text text₃
-  line-tried = record { kept = tried-kept; shown = tried-shown }
+-- a line of which all but blanks at its end is shown stands as if all of it were
+module _ {window : Window} {before text bytes : List ℕ} (showing : Showing window before text bytes true) where
+  -- its ink is in what is shown
+  shown-ink : inkEnd bytes ≤ length (showing .shown)
+  shown-ink = rw (showing .parts, trim-append-blank (showing .shown) (showing .rest) (showing .blank)) (ink-end-le (showing .shown))
+
+  -- so is each of its parts up to the end of the ink
+  pub shown-slice : (low high : ℕ) → high ≤ inkEnd bytes → slice low high (showing .shown) ≡ slice low high bytes
+  shown-slice low high within =
+      sym (ap (drop low) (ap (take high) (showing .parts) ∙ take-append-le high (showing .shown) (showing .rest) (omega (arith, shown-ink))))
+
+-- so the line is tried
+pub line-tried : (past : Past) (guess : Guess) (bytes text text₁ text₂ : List ℕ) {text₃ : List ℕ} (start : ℕ) → start ≡ lineStart past
+    → text₁ ≡ storedBuffer text (past .length) (front (past .any)) → text₂ ≡ storedBuffer text₁ start (spaces (guess .lead))
+    → Showing (windowTo (length text) (start + guess .lead) (guess .low)) text₂ text₃ bytes true → Tried past guess bytes text text₃
+line-tried past guess bytes text text₁ text₂ start here newline lead showing = record {
+  kept = tried-kept past guess (showing .shown) text text₁ text₂ start here newline lead (showing .written);
+  shown = λ high up within room. rw (← (shown-slice showing (guess .low) high within))
+      (tried-shown past guess (showing .shown) text text₁ text₂ start here newline lead (showing .written) high up (omega (arith, shown-ink showing)) room);
+}
+
+-- a kept line through its own window, all but blanks at its end
+pub cut-shown : (past : Past) (cut : Cut) (bytes text text₁ text₂ : List ℕ) {text₃ : List ℕ} (start : ℕ) → CutFits cut (inkEnd bytes) → start ≡ lineStart past
+    → past .length + length (cutBytes past cut bytes) ≤ length text
+    → text₁ ≡ storedBuffer text (past .length) (front (past .any))
+    → text₂ ≡ storedBuffer text₁ start (spaces (cut .lead))
+    → Showing (record { base = start + cut .lead; low = cut .low; high = cut .high }) text₂ text₃ bytes true
+    → text₃ ≡ sets text (past .length) (cutBytes past cut bytes)
+cut-shown past cut bytes text text₁ text₂ start fit here room newline lead showing =
+    let same = shown-slice showing (cut .low) (cut .high) (fit .within) in
+    cut-written past cut (showing .shown) text text₁ text₂ start here (rw same room) newline lead (showing .written) ∙ rw same
 
 -- ---- the line that pieces start with
 
@@ -275,15 +304,11 @@ module _ {margins : Margins} {list all : List ℕ} {past : Past} {spot : Spot}
 
   -- what the cut says of it
   says : CutSays margins past line cut
-  says = rw made (cut-says margins narrow past line (walked .measure) (walked .indent) (found .measured) (found .indent) (found .low))
+  says = rw made (cut-says margins narrow past line (walked .measure) (walked .indent) (found .inked) (found .indent) (found .low))
 
   -- the cut lies within the line
-  pub line-fits : CutFits cut (length (line .bytes))
+  pub line-fits : CutFits cut (inkEnd (line .bytes))
   line-fits = says .fits
-
-  -- the line is as long as was measured
-  line-length : length (line .bytes) ≡ walked .measure .length
-  line-length = sym (found .measured .length)
 
   -- the numbers of the text and of the cut do not grow large
   pub line-small : length list ≤ 1048576 → (past .length < 4503599627370496) × CutFits cut 4294967296
@@ -292,7 +317,7 @@ module _ {margins : Margins} {list all : List ℕ} {past : Past} {spot : Spot}
       let there = found .standing in
       let fit = line-fits in (
         omega (arith, running .small),
-        record { part = fit .part; within = omega (arith, line-length, found .small); small = fit .small },
+        record { part = fit .part; within = omega (arith, ink-end-le (line .bytes), found .small); small = fit .small },
       )
 
   -- the lines from here on are this line, if it is kept, and the lines behind it
@@ -326,7 +351,7 @@ module _ {margins : Margins} {list all : List ℕ} {past : Past} {spot : Spot}
         long = grown ∙ omega (arith, length-append (running .done) bytes, running .long);
         rest = rw any (rest-kept kept);
         standing = found .standing;
-        small = omega (arith, start-near past, line-length, found .small, found .onward, running .small);
+        small = omega (arith, start-near past, ink-end-le (line .bytes), found .small, found .onward, running .small);
       }
 
   -- and behind a line that is not kept

@@ -1,15 +1,16 @@
 -- One step of a walk: what the piece at a spot adds, whether it ends the line, and the spot behind it.
-use mathlib.Core.Path.{_≡_, refl, sym, _∙_}
-use mathlib.Core.List.{List, _++_}
-use mathlib.Core.Bool.{Bool, true, false, not, _&&_, _||_, and-true, and-false, or-false}
+use mathlib.Core.Path.{_≡_, refl, sym, ap, _∙_}
+use mathlib.Core.List.{List, [], _∷_, _++_, append-nil}
+use mathlib.Core.Bool.{Bool, true, false, not, _&&_, _||_, and-true, and-false, or-true, or-false}
 use Prim.Native.Nat.{ℕ, _+_, _-_, _≤_, _<_}
 use native.Mathlib.Omega.{arith}
-use lib.ListN.{length}
+use lib.ListN.{length, length-append, length-replicate}
 use lib.Seq.{slice, slice-empty, length-slice}
 use lib.Dec.{eqb, leb, ltb}
 use borrow.Author.Tests.{leb-false, ltb-false, lt-leb}
-use Rattle.text.specs.Ink.{spaces}
-use Rattle.text.proofs.Choices.{by-test}
+use Rattle.text.specs.Ink.{allBlank, spaces}
+use Rattle.text.proofs.Choices.{by-test, true-false}
+use Rattle.text.proofs.Ink.{blank-append, spaces-blank, newline-blank}
 use Rattle.options.specs.declared.Alignment.{Alignment}
 use Rattle.options.specs.declared.Alignment.the-variants.{Left, Right}
 use Rattle.chunks.specs.declared.stored.ChunkType.{ChunkType}
@@ -18,7 +19,7 @@ use Rattle.text.specs.Lines.{newlineAt}
 use Rattle.chunks.specs.Reading.{chunksAt}
 use Rattle.join.specs.Pieces.{following}
 use Rattle.join.specs.Layout.{ignored, laid, added, ends}
-use Rattle.join.specs.Walk.{Narrow, Standing, Passed, layAligned, layOf, pieceAt, Stepped, Whole}
+use Rattle.join.specs.Walk.{Narrow, Standing, Passed, layAligned, layOf, pieceAt, Stepped, Whole, EndsLine}
 use Rattle.join.specs.declared.margins.Margins.{Margins}
 use Rattle.join.specs.declared.piece.Follows.{Follows}
 use Rattle.join.specs.declared.piece.Follows.the-variants.{Nothing, Newline, Other}
@@ -27,7 +28,7 @@ use Rattle.join.specs.declared.piece.PieceEnd.{PieceEnd}
 use Rattle.join.specs.declared.piece.Spot.{Spot}
 use Rattle.join.specs.declared.piece.Step.{Step}
 use Rattle.join.proofs.Places.{last-is}
-use Rattle.join.proofs.Pieces.{restAt, pieceEnd, piece-some, piece-within, piece-length, piece-newline-is, pieces-cons}
+use Rattle.join.proofs.Pieces.{slice-one, restAt, pieceEnd, piece-some, piece-within, piece-length, piece-newline-is, pieces-cons}
 use Rattle.join.proofs.Lays.{Lays, piece-lays}
 
 -- where neither of two tests holds the first does not
@@ -57,15 +58,20 @@ module _ (margins : Margins) (list : List ℕ) (spot : Spot) (n : ℕ) (piece : 
       rw (lays-at .ignored ∙ e, last-is list (spot .end) (standing .laid), newline ∙ piece-newline-is list spot standing inside)
 
   -- the step, by what is written of the piece
-  stepped : (step : Step) (skipped : Bool) → lay .ignored ≡ skipped → step .spot ≡ behind → step .from ≡ spot .at → step .from ≤ step .to → step .to ≤ piece .end
-      → step .before + step .behind ≤ 511 → added margins n (pieceAt list spot) ≡ spaces (step .before) ++ (slice (step .from) (step .to) list ++ spaces (step .behind))
+  stepped : (step : Step) (skipped : Bool) (rest : List ℕ) → lay .ignored ≡ skipped → step .spot ≡ behind → step .from ≡ spot .at → step .from ≤ step .to → step .to ≤ piece .end
+      → step .before + (step .to - step .from) + step .behind + length rest ≤ 511 + (piece .end - spot .at)
+      → added margins n (pieceAt list spot) ≡ (spaces (step .before) ++ (slice (step .from) (step .to) list ++ spaces (step .behind))) ++ rest
+      → allBlank rest ≡ true → (step .ends ≡ false → rest ≡ [])
       → step .ends ≡ (leb (length list) (spot .end) || (piece .newline && not skipped)) → Stepped margins list spot n step
-  stepped step skipped known there from part within few bytes ended =
+  stepped step skipped rest known there from part within few bytes blank all ended =
       let some : spot .at < piece .end = omega (arith, piece-some list spot standing inside, end) in
       let to : piece .end ≤ spot .end = omega (arith, piece-within list spot standing inside, end) in
       let onward : piece .end ≤ step .spot .at = rw there (passed .onward) in
       record {
+        rest = rest;
         bytes = bytes;
+        blank = blank;
+        all = all;
         ends = ended ∙ sym (ends-at skipped known);
         pieces = rw there (pieces-cons list spot standing inside behind (rw end at passed));
         standing = rw there (passed .standing);
@@ -79,20 +85,39 @@ module _ (margins : Margins) (list : List ℕ) (spot : Spot) (n : ℕ) (piece : 
   -- a piece that is ignored
   pub stepped-ignored : {last : Bool} → lay .ignored ≡ true → last ≡ leb (length list) (spot .end)
       → Stepped margins list spot n (record { before = 0; from = spot .at; to = spot .at; behind = 0; ends = last; spot = behind })
-  unfolding added
+  unfolding added allBlank
   stepped-ignored skipped last =
-      stepped _ true skipped refl refl (omega arith) (omega (arith, piece-some list spot standing inside, end)) (omega arith)
-      (rw (lays-at .ignored ∙ skipped, slice-empty (spot .at) list))
+      stepped _ true [] skipped refl refl (omega arith) (omega (arith, piece-some list spot standing inside, end)) (omega arith)
+      (rw (lays-at .ignored ∙ skipped, slice-empty (spot .at) list)) refl (λ _. refl)
       (last ∙ rw (and-false (piece .newline)) (sym (or-false (leb (length list) (spot .end)))))
+
+  -- what any other adds
+  added-kept : lay .ignored ≡ false → added margins n (pieceAt list spot) ≡ spaces (lay .before) ++ (slice (spot .at) (piece .end) list ++ spaces (lay .behind))
+  unfolding added pieceAt
+  added-kept kept = rw (lays-at .ignored ∙ kept, end) (lays-at .bytes kept)
 
   -- any other
   pub stepped-kept : {ended : Bool} → lay .ignored ≡ false → ended ≡ (leb (length list) (spot .end) || piece .newline)
       → Stepped margins list spot n (record { before = lay .before; from = spot .at; to = piece .end; behind = lay .behind; ends = ended; spot = behind })
-  unfolding added pieceAt
+  unfolding allBlank
   stepped-kept kept ended =
-      stepped _ false kept refl refl (omega (arith, piece-some list spot standing inside, end)) (omega arith) (lays-at .small)
-      (rw (lays-at .ignored ∙ kept, end) (lays-at .bytes kept))
+      stepped _ false [] kept refl refl (omega (arith, piece-some list spot standing inside, end)) (omega arith) (omega (arith, lays-at .small))
+      (added-kept kept ∙ sym (append-nil _)) refl (λ _. refl)
       (rw (and-true (piece .newline)) ended)
+
+  -- a newline that ends the line, of which nothing is laid
+  pub stepped-none : lay .ignored ≡ false → piece .newline ≡ true → slice (spot .at) (piece .end) list ≡ 10 ∷ []
+      → Stepped margins list spot n (record { before = 0; from = spot .at; to = spot .at; behind = 0; ends = true; spot = behind })
+  stepped-none kept newlined one =
+      let text = slice (spot .at) (piece .end) list in
+      let adds = added-kept kept in
+      let size : length (added margins n (pieceAt list spot)) ≡ lay .before + (1 + lay .behind) =
+      ap length adds ∙ rw one (simp (length-append, length-replicate) (omega arith)) in
+      let blank : allBlank (added margins n (pieceAt list spot)) ≡ true =
+      ap allBlank adds ∙ rw (one, blank-append (spaces (lay .before)) ((10 ∷ []) ++ spaces (lay .behind)), blank-append (10 ∷ []) (spaces (lay .behind)), spaces-blank (lay .before), spaces-blank (lay .behind), newline-blank) in
+      stepped _ false (added margins n (pieceAt list spot)) kept refl refl (omega arith) (omega (arith, piece-some list spot standing inside, end)) (omega (arith, lays-at .small, size, piece-some list spot standing inside, end))
+      (rw (slice-empty (spot .at) list)) blank (λ e. true-false e)
+      (rw newlined (sym (or-true (leb (length list) (spot .end)))))
 
 -- ---- a piece without a newline, of a chunk that another follows
 
@@ -119,3 +144,21 @@ module _ (margins : Margins) (list : List ℕ) (spot : Spot) (n : ℕ) (lay : La
       let kept : lay .ignored ≡ false = rw is (lay-plain margins (spot .ty) n (spot .end - spot .at) (following (chunksAt list (spot .end)))) in
       stepped-kept margins list spot n (record { end = spot .end; newline = false }) lay behind narrow standing inside end (sym (whole .plain)) is passed kept
       (sym (rw (lt-leb (length list) (spot .end) (whole .more))))
+
+-- ---- a lone newline that ends its line
+
+module _ (margins : Margins) (list : List ℕ) (spot : Spot) (n : ℕ) (behind : Spot)
+    (narrow : Narrow margins) (standing : Standing list spot) (inside : spot .at < length list) (ending : EndsLine margins list spot n) (passed : Passed list spot (spot .end) behind) where
+  -- the chunk is the newline
+  lone-text : slice (spot .at) (spot .end) list ≡ 10 ∷ []
+  lone-text = slice-one (spot .at) (spot .end) list (ending .one) (standing .inside) ∙ rw (ending .newline)
+
+  -- so nothing of it is laid
+  pub stepped-end : Stepped margins list spot n (record { before = 0; from = spot .at; to = spot .at; behind = 0; ends = true; spot = behind })
+  unfolding newlineAt
+  stepped-end =
+      let piece : PieceEnd = record { end = spot .end; newline = true } in
+      let end : spot .end ≡ pieceEnd list spot = rw lone-text (omega (arith, ending .one)) in
+      let newline : true ≡ ltb (newlineAt (restAt list spot)) (spot .end - spot .at) = rw (lone-text, ending .one) in
+      let kept : layAt margins list spot n piece .ignored ≡ false = rw (ending .code, ending .one, ending .kept) in
+      stepped-none margins list spot n piece (layAt margins list spot n piece) behind narrow standing inside end newline refl passed kept refl lone-text

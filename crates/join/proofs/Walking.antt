@@ -7,10 +7,10 @@ use native.Mathlib.Omega.{arith}
 use lib.ListN.{length, length-append, length-replicate}
 use lib.Seq.{length-slice}
 use lib.Dec.{eqb}
-use Rattle.text.specs.Ink.{leadingBlanks, trimEnd}
+use Rattle.text.specs.Ink.{allBlank, leadingBlanks, trimEnd}
 use Rattle.text.proofs.Choices.{by-test, true-false}
-use Rattle.join.specs.Layout.{Line, fresh, add, ends, indentWith, indentOf}
-use Rattle.join.specs.Walk.{Standing, Stepped, Measured, LineWalked, piecesAt, pieceAt, firstLine, lineAt, taken, Longer, Ran, puts, RanShown, Fits}
+use Rattle.join.specs.Layout.{Line, fresh, add, added, ends, indentWith, indentOf}
+use Rattle.join.specs.Walk.{Standing, Stepped, Measured, LineWalked, piecesAt, pieceAt, firstLine, lineAt, taken, Longer, Ran, puts, Showing, RanShown, Inked, Fits}
 use Rattle.join.specs.declared.margins.Margins.{Margins}
 use Rattle.join.specs.declared.piece.Spot.{Spot}
 use Rattle.join.specs.declared.piece.Step.{Step}
@@ -18,6 +18,7 @@ use Rattle.join.specs.declared.line.Indent.{Indent}
 use Rattle.join.specs.declared.line.Indent.the-variants.{Unset, Set}
 use Rattle.join.specs.declared.line.Measure.{Measure}
 use Rattle.join.specs.declared.line.Window.{Window}
+use Rattle.join.proofs.Measures.{inked-behind}
 use Rattle.join.proofs.Windows.{stepBytes, puts-append}
 
 -- how many bytes a step has
@@ -67,14 +68,19 @@ longer-indent margins list line here = piece-indent list here (line .indent)
 
 module _ {margins : Margins} {list : List ℕ} {spot here : Spot} {line : Line} {n : ℕ} {step : Step} (walking : Walking margins list spot line here false)
     (long : n ≡ length (line .bytes)) (stepped : Stepped margins list here n step) where
-  -- the longer line's bytes are the line's and the step's
-  longer-bytes : longer margins list line here .bytes ≡ line .bytes ++ stepBytes list step
+  -- the longer line's bytes are the line's and the step's, and blanks that the step leaves out
+  longer-bytes : longer margins list line here .bytes ≡ (line .bytes ++ stepBytes list step) ++ stepped .rest
   unfolding add
-  longer-bytes = rw (← long, stepped .bytes)
+  longer-bytes = rw (← long, stepped .bytes) (sym (append-assoc (line .bytes) (stepBytes list step) (stepped .rest)))
+
+  -- none where the line goes on
+  longer-all : step .ends ≡ false → longer margins list line here .bytes ≡ line .bytes ++ stepBytes list step
+  longer-all goes = longer-bytes ∙ ap (λ (rest : List ℕ). (line .bytes ++ stepBytes list step) ++ rest) (stepped .all goes) ∙ append-nil (line .bytes ++ stepBytes list step)
 
   -- how many they are
-  longer-length : length (longer margins list line here .bytes) ≡ n + (step .before + (step .to - step .from) + step .behind)
-  longer-length = rw (longer-bytes, length-append (line .bytes) (stepBytes list step), step-length list step (stepped .inside), long)
+  longer-length : length (longer margins list line here .bytes) ≡ n + (step .before + (step .to - step .from) + step .behind) + length (stepped .rest)
+  longer-length =
+      rw (longer-bytes, length-append (line .bytes ++ stepBytes list step) (stepped .rest), length-append (line .bytes) (stepBytes list step), step-length list step (stepped .inside), long)
 
   -- few enough that sums do not wrap
   pub step-room : length list ≤ 1048576 → n + (step .before + (step .to - step .from) + step .behind) < 4294967296
@@ -103,7 +109,8 @@ walking-end walking e = walking .left ∙ rw e
 pub record Measuring (margins : Margins) (list : List ℕ) (spot : Spot) (measure : Measure) (indent : Indent) (here : Spot) (ended : Bool) : Type 0 where
   pub line : Line
   pub walking : Walking margins list spot line here ended
-  pub measured : Measured measure (line .bytes)
+  pub measured : ended ≡ false → Measured measure (line .bytes)
+  pub inked : Inked measure (line .bytes)
   pub takes : indent ≡ line .indent
   pub fits : measure .leading ≤ measure .length
 
@@ -114,7 +121,8 @@ unfolding leadingBlanks trimEnd
 measuring-start margins list spot standing some = record {
   line = fresh;
   walking = walking-start margins list spot standing some;
-  measured = record { length = refl; leading = refl; end = refl };
+  measured = λ _. record { length = refl; leading = refl; end = refl };
+  inked = record { end = refl; leading = λ _. refl };
   takes = refl;
   fits = omega arith;
 }
@@ -133,7 +141,7 @@ pub pausing-start : {margins : Margins} {list : List ℕ} {spot here : Spot} {me
 pausing-start {here = here} measuring takes = record {
   line = measuring .line;
   walking = measuring .walking;
-  measured = measuring .measured;
+  measured = measuring .measured refl;
   takes = takes ∙ ap (λ (indent : Indent). taken indent here) (measuring .takes);
   fits = measuring .fits;
 }
@@ -174,11 +182,13 @@ module _ {margins : Margins} {list : List ℕ} {spot here : Spot} {measure reach
   longer-on goes line long e =
       let on = ran .longer line long e in
       let all : length (line .bytes ++ ran .more) ≡ reached .length = omega (arith, length-append (line .bytes) (ran .more), ran .long) in
+      let adds : added margins (reached .length) (pieceAt list here) ≡ stepBytes list step =
+      stepped .bytes ∙ ap (λ (rest : List ℕ). stepBytes list step ++ rest) (stepped .all goes) ∙ append-nil (stepBytes list step) in
       let ongoing : ends margins (reached .length) (pieceAt list here) ≡ false = sym (stepped .ends) ∙ goes in
       record {
         indent = Set n;
         takes = refl;
-        left = on .left ∙ rw (stepped .pieces, all, ongoing, stepped .bytes, piece-indent list here (on .indent), on .takes, append-assoc (line .bytes) (ran .more) (stepBytes list step));
+        left = on .left ∙ rw (stepped .pieces, all, ongoing, adds, piece-indent list here (on .indent), on .takes, append-assoc (line .bytes) (ran .more) (stepBytes list step));
       }
 
   -- so it ran on
@@ -243,7 +253,8 @@ pausing-on {margins = margins} {list = list} {here = here} pausing stepped count
     record {
       line = longer margins list line here;
       walking = walking-on (pausing .walking) long stepped;
-      measured = rw (longer-bytes (pausing .walking) long stepped) (counted (line .bytes) (pausing .measured));
+      measured = λ goes. rw (longer-all (pausing .walking) long stepped goes) (counted (line .bytes) (pausing .measured));
+      inked = rw (longer-bytes (pausing .walking) long stepped) (inked-behind (stepped .rest) (counted (line .bytes) (pausing .measured)) (stepped .blank));
       takes = pausing .takes ∙ sym (longer-indent margins list line here);
       fits = fits;
     }
@@ -257,34 +268,56 @@ measuring-end measuring e amount =
     let line = walking-end walking e in
     let same : indentOf (measuring .line .indent) ≡ _ = ap indentOf (sym (measuring .takes)) ∙ sym amount in
     record {
-      measured = rw line (measuring .measured);
+      inked = rw line (measuring .inked);
       indent = rw line (sym same);
       rest = rw line;
       ended = rw line;
       standing = walking .standing;
       onward = walking .onward e;
-      small = omega (arith, measuring .measured .length, walking .small);
+      small = rw line (walking .small);
       low = omega (arith, same, walking .low);
     }
 
 -- ---- the walk that writes
 
+-- of an open line all is written
+showing-open : {window : Window} {before text bytes : List ℕ} → Showing window before text bytes false → text ≡ puts before window 0 bytes
+showing-open showing = showing .written ∙ rw (showing .parts, showing .all refl, append-nil (showing .shown))
+
+-- a step writes its bytes, and leaves blanks out only where the line ends
+showing-on : {window : Window} {before text text′ : List ℕ} (bytes more : List ℕ) {rest : List ℕ} {n : ℕ} {ended : Bool} → text ≡ puts before window 0 bytes → n ≡ length bytes
+    → text′ ≡ puts text window n more → allBlank rest ≡ true → (ended ≡ false → rest ≡ []) → Showing window before text′ ((bytes ++ more) ++ rest) ended
+showing-on {window = window} {before = before} bytes more {rest = rest} {n = n} written long writes blank all =
+    let end : 0 + length bytes ≡ n = omega (arith, long) in
+    record {
+      shown = bytes ++ more;
+      rest = rest;
+      parts = refl;
+      blank = blank;
+      all = all;
+      written = writes ∙ sym (puts-append before window 0 bytes more ∙ rw (end, written));
+    }
+
+-- where a line has ended
+showing-end : {window : Window} {before text bytes : List ℕ} {ended : Bool} → Showing window before text bytes ended → ended ≡ true → Showing window before text bytes true
+showing-end showing e = rw e at showing
+
 -- the text has what the window shows of the line so far, which is n bytes long
 pub record Writing (margins : Margins) (list : List ℕ) (spot : Spot) (window : Window) (before text : List ℕ) (n : ℕ) (here : Spot) (ended : Bool) : Type 0 where
   pub line : Line
   pub walking : Walking margins list spot line here ended
-  pub written : text ≡ puts before window 0 (line .bytes)
-  pub long : n ≡ length (line .bytes)
+  pub showing : Showing window before text (line .bytes) ended
+  pub long : ended ≡ false → n ≡ length (line .bytes)
 
 -- of a fresh line nothing is written
 pub writing-start : (margins : Margins) (list : List ℕ) (spot : Spot) (window : Window) (text : List ℕ) → Standing list spot → spot .at < length list
     → Writing margins list spot window text text 0 spot false
-unfolding puts
+unfolding puts allBlank
 writing-start margins list spot window text standing some = record {
   line = fresh;
   walking = walking-start margins list spot standing some;
-  written = refl;
-  long = refl;
+  showing = record { shown = []; rest = []; parts = refl; blank = refl; all = λ _. refl; written = refl };
+  long = λ _. refl;
 }
 
 -- a step keeps the walk
@@ -292,34 +325,37 @@ pub writing-on : {margins : Margins} {list : List ℕ} {spot here : Spot} {windo
     → Writing margins list spot window before text n here false → Stepped margins list here n step
     → text′ ≡ puts text window n (stepBytes list step) → n′ ≡ n + (step .before + (step .to - step .from) + step .behind)
     → Writing margins list spot window before text′ n′ (step .spot) (step .ends)
-writing-on {margins} {list} {here} {window} {before} {n} {step} writing stepped writes counts =
+writing-on {margins} {list} {here} {step = step} writing stepped writes counts =
     let line = writing .line in
     let walking = writing .walking in
-    let all : 0 + length (line .bytes) ≡ n = omega (arith, writing .long) in
+    let long = writing .long refl in
     record {
       line = longer margins list line here;
-      walking = walking-on walking (writing .long) stepped;
-      written = writes ∙ sym (rw (longer-bytes walking (writing .long) stepped) (puts-append before window 0 (line .bytes) (stepBytes list step) ∙ rw (all, writing .written)));
-      long = counts ∙ sym (longer-length walking (writing .long) stepped);
+      walking = walking-on walking long stepped;
+      showing = rw (longer-bytes walking long stepped) (showing-on (line .bytes) (stepBytes list step) (showing-open (writing .showing)) long writes (stepped .blank) (stepped .all));
+      long = λ goes. counts ∙ omega (arith, longer-length walking long stepped, ap (λ (rest : List ℕ). length rest) (stepped .all goes));
     }
 
 -- at its end the line is written
 pub writing-end : {margins : Margins} {list : List ℕ} {spot here : Spot} {window : Window} {before text : List ℕ} {n : ℕ} {ended : Bool}
-    → Writing margins list spot window before text n here ended → ended ≡ true → text ≡ puts before window 0 (lineAt margins list spot .line .bytes)
-writing-end writing e = writing .written ∙ rw (walking-end (writing .walking) e)
+    → Writing margins list spot window before text n here ended → ended ≡ true → Showing window before text (lineAt margins list spot .line .bytes) true
+writing-end writing e = rw (walking-end (writing .walking) e) (showing-end (writing .showing) e)
 
 -- ---- the walk that measures and writes
 
 -- the line so far is measured, and the text has what the window shows of it
 pub record Placing (margins : Margins) (list : List ℕ) (spot : Spot) (window : Window) (before text : List ℕ) (measure : Measure) (indent : Indent) (here : Spot) (ended : Bool) : Type 0 where
   pub measuring : Measuring margins list spot measure indent here ended
-  pub written : text ≡ puts before window 0 (measuring .line .bytes)
+  pub showing : Showing window before text (measuring .line .bytes) ended
 
 -- of a fresh line nothing is written
 pub placing-start : (margins : Margins) (list : List ℕ) (spot : Spot) (window : Window) (text : List ℕ) → Standing list spot → spot .at < length list
     → Placing margins list spot window text text (record { length = 0; leading = 0; «ink_end» = 0 }) Unset spot false
-unfolding measuring-start puts
-placing-start margins list spot window text standing some = record { measuring = measuring-start margins list spot standing some; written = refl }
+unfolding measuring-start puts allBlank
+placing-start margins list spot window text standing some = record {
+  measuring = measuring-start margins list spot standing some;
+  showing = record { shown = []; rest = []; parts = refl; blank = refl; all = λ _. refl; written = refl };
+}
 
 -- the same in the middle of a turn
 pub record PlacingOn (margins : Margins) (list : List ℕ) (spot : Spot) (window : Window) (before text : List ℕ) (measure : Measure) (indent : Indent) (here : Spot) : Type 0 where
@@ -331,7 +367,7 @@ pub placing-turn : {margins : Margins} {list : List ℕ} {spot here : Spot} {win
     → Placing margins list spot window before text measure indent here false → indent′ ≡ taken indent here
     → PlacingOn margins list spot window before text measure indent′ here
 unfolding pausing-start
-placing-turn placing takes = record { pausing = pausing-start (placing .measuring) takes; written = placing .written }
+placing-turn placing takes = record { pausing = pausing-start (placing .measuring) takes; written = showing-open (placing .showing) }
 
 -- no chunk writes nothing
 pub shown-start : (margins : Margins) (list : List ℕ) (spot : Spot) (window : Window) (text : List ℕ) (measure : Measure) (indent : Indent)
@@ -374,17 +410,16 @@ pub placing-on : {margins : Margins} {list : List ℕ} {spot here : Spot} {windo
     → ((bytes : List ℕ) → Measured measure bytes → Measured measure′ (bytes ++ stepBytes list step)) → measure′ .leading ≤ measure′ .length
     → Placing margins list spot window before text′ measure′ indent (step .spot) (step .ends)
 unfolding pausing-on
-placing-on {list = list} {window = window} {before = before} {measure = measure} {step = step} placing stepped writes counted fits =
+placing-on {list = list} {step = step} placing stepped writes counted fits =
     let pausing = placing .pausing in
     let line = pausing .line in
     let long = pausing .measured .length in
-    let all : 0 + length (line .bytes) ≡ measure .length = omega (arith, long) in
     record {
       measuring = pausing-on pausing stepped counted fits;
-      written = writes ∙ sym (rw (longer-bytes (pausing .walking) long stepped) (puts-append before window 0 (line .bytes) (stepBytes list step) ∙ rw (all, placing .written)));
+      showing = rw (longer-bytes (pausing .walking) long stepped) (showing-on (line .bytes) (stepBytes list step) (placing .written) long writes (stepped .blank) (stepped .all));
     }
 
 -- at its end the line is written
 pub placing-end : {margins : Margins} {list : List ℕ} {spot here : Spot} {window : Window} {before text : List ℕ} {measure : Measure} {indent : Indent} {ended : Bool}
-    → Placing margins list spot window before text measure indent here ended → ended ≡ true → text ≡ puts before window 0 (lineAt margins list spot .line .bytes)
-placing-end placing e = placing .written ∙ rw (walking-end (placing .measuring .walking) e)
+    → Placing margins list spot window before text measure indent here ended → ended ≡ true → Showing window before text (lineAt margins list spot .line .bytes) true
+placing-end placing e = rw (walking-end (placing .measuring .walking) e) (showing-end (placing .showing) e)

@@ -3,10 +3,10 @@ use Prim.Native.Nat.{ℕ, _+_, _-_, _*_, _≤_, _<_, min}
 use mathlib.Core.Path.{_≡_}
 use mathlib.Core.List.{List, [], _∷_, _++_}
 use mathlib.Core.Bool.{Bool, true, false, cond, not, _&&_, _||_}
-use lib.ListN.{length, set, take}
+use lib.ListN.{length, getD, set, take}
 use lib.Seq.{slice}
 use lib.Dec.{eqb, ltb, leb}
-use Rattle.text.specs.Ink.{leadingBlanks, inkEnd, spaces}
+use Rattle.text.specs.Ink.{allBlank, leadingBlanks, inkEnd, spaces}
 use Rattle.text.specs.Lines.{newlineAt}
 use Rattle.options.specs.declared.Alignment.{Alignment}
 use Rattle.options.specs.declared.Alignment.the-variants.{Left, Right}
@@ -112,9 +112,20 @@ layOf margins Label n count newline follows = layLabel margins n count
 layOf margins Code n count newline follows = layCode margins n (eqb count 1 && newline)
 layOf margins Comment n count newline follows = layComment margins n follows
 
--- a step over the piece at a spot, on a line of n bytes
+-- a lone newline of code that ends a line of n bytes
+pub record EndsLine (margins : Margins) (list : List ℕ) (spot : Spot) (n : ℕ) : Type 0 where
+  pub code : spot .ty ≡ Code
+  pub one : spot .end - spot .at ≡ 1
+  pub newline : getD list (spot .at) 0 ≡ 10
+  pub more : spot .end < length list
+  pub kept : (ltb 0 n && leb n (margins .label)) ≡ false
+
+-- a step over the piece at a spot, on a line of n bytes. Where it ends the line it may leave blanks out, which are cut in any case.
 pub record Stepped (margins : Margins) (list : List ℕ) (spot : Spot) (n : ℕ) (step : Step) : Type 0 where
-  pub bytes : added margins n (pieceAt list spot) ≡ spaces (step .before) ++ (slice (step .from) (step .to) list ++ spaces (step .behind))
+  pub rest : List ℕ
+  pub bytes : added margins n (pieceAt list spot) ≡ (spaces (step .before) ++ (slice (step .from) (step .to) list ++ spaces (step .behind))) ++ rest
+  pub blank : allBlank rest ≡ true
+  pub all : step .ends ≡ false → rest ≡ []
   pub ends : step .ends ≡ ends margins n (pieceAt list spot)
   pub pieces : piecesAt list spot ≡ pieceAt list spot ∷ piecesAt list (step .spot)
   pub standing : Standing list (step .spot)
@@ -122,7 +133,7 @@ pub record Stepped (margins : Margins) (list : List ℕ) (spot : Spot) (n : ℕ)
   pub inside : step .to ≤ length list
   pub onward : spot .at < step .spot .at
   pub more : step .ends ≡ false → step .spot .at < length list
-  pub small : step .before + (step .to - step .from) + step .behind ≤ 512 * (step .spot .at - spot .at)
+  pub small : step .before + (step .to - step .from) + step .behind + length rest ≤ 512 * (step .spot .at - spot .at)
 
 -- the rest of the chunk at a spot has no newline, and another chunk follows
 pub record Whole (list : List ℕ) (spot : Spot) : Type 0 where
@@ -135,6 +146,11 @@ pub record Measured (measure : Measure) (bytes : List ℕ) : Type 0 where
   pub length : measure .length ≡ length bytes
   pub leading : measure .leading ≡ leadingBlanks bytes
   pub end : measure .«ink_end» ≡ inkEnd bytes
+
+-- what the cut of a line looks at: where its ink ends, and where the ink starts if there is any
+pub record Inked (measure : Measure) (bytes : List ℕ) : Type 0 where
+  pub end : measure .«ink_end» ≡ inkEnd bytes
+  pub leading : allBlank bytes ≡ false → measure .leading ≡ leadingBlanks bytes
 
 -- room for `count` bytes more
 pub record Fits (measure : Measure) (count : ℕ) : Type 0 where
@@ -165,13 +181,13 @@ lineAt margins list spot = firstLine margins fresh (piecesAt list spot)
 
 -- what the walk of a line finds
 pub record LineWalked (margins : Margins) (list : List ℕ) (spot : Spot) (walked : Walked) : Type 0 where
-  pub measured : Measured (walked .measure) (lineAt margins list spot .line .bytes)
+  pub inked : Inked (walked .measure) (lineAt margins list spot .line .bytes)
   pub indent : walked .indent ≡ indentOf (lineAt margins list spot .line .indent)
   pub rest : piecesAt list (walked .spot) ≡ lineAt margins list spot .rest
   pub ended : lineAt margins list spot .ended ≡ true
   pub standing : Standing list (walked .spot)
   pub onward : spot .at < walked .spot .at
-  pub small : walked .measure .length + 512 * spot .at ≤ 512 * walked .spot .at
+  pub small : length (lineAt margins list spot .line .bytes) + 512 * spot .at ≤ 512 * walked .spot .at
   pub low : walked .indent ≤ 4096
 
 -- a line that went on from a spot by more bytes and is still open, with the indent that it has when the next piece is added
@@ -200,6 +216,15 @@ put text window at b = cond (leb (window .low) at && ltb at (window .high)) (set
 unfoldable pub puts : List ℕ → Window → ℕ → List ℕ → List ℕ
 puts text window at [] = text
 puts text window at (b ∷ bs) = puts (put text window at b) window (at + 1) bs
+
+-- what the window shows of a line is written, but for blanks at its end where it has ended
+pub record Showing (window : Window) (before text bytes : List ℕ) (ended : Bool) : Type 0 where
+  pub shown : List ℕ
+  pub rest : List ℕ
+  pub parts : bytes ≡ shown ++ rest
+  pub blank : allBlank rest ≡ true
+  pub all : ended ≡ false → rest ≡ []
+  pub written : text ≡ puts before window 0 shown
 
 -- what the window shows of a line that went on is written
 pub record RanShown (margins : Margins) (list : List ℕ) (spot : Spot) (window : Window) (before text : List ℕ) (measure : Measure) (indent : Indent) (reached : Measure) (here : Spot) : Type 0 where
@@ -251,10 +276,10 @@ abbrev pub windowTo : ℕ → ℕ → ℕ → Window
 windowTo room base low =
     cond (leb base room) (record { base = base; low = low; high = low + (room - base) }) (record { base = 0; low = 0; high = 0 })
 
--- the text so far is left, and behind it stands the line as guessed, up to any of its bytes that has room
+-- the text so far is left, and behind it stands the line as guessed, up to any place in it that has room and is not behind its ink
 pub record Tried (past : Past) (guess : Guess) (bytes before text : List ℕ) : Type 0 where
   pub kept : take (past .length) text ≡ take (past .length) before
-  pub shown : (high : ℕ) → guess .low ≤ high → high ≤ length bytes → lineStart past + guess .lead + (high - guess .low) ≤ length before
+  pub shown : (high : ℕ) → guess .low ≤ high → high ≤ inkEnd bytes → lineStart past + guess .lead + (high - guess .low) ≤ length before
       → take (lineStart past + guess .lead + (high - guess .low)) text
       ≡ take (past .length) before ++ (front (past .any) ++ (spaces (guess .lead) ++ slice (guess .low) high bytes))
 

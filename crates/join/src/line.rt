@@ -7,12 +7,13 @@ use text::scans;
 use text::stores;
 ghost use mathlib.Core.Path.{_≡_};
 ghost use mathlib.Core.List.{List, _++_};
+ghost use mathlib.Core.Bool.{true};
 ghost use Prim.Native.Nat.{ℕ, _+_, _-_, _*_, _≤_, _<_, min, max};
 ghost use lib.ListN.{length};
 ghost use lib.Seq.{slice};
 ghost use Rattle.text.specs.Ink.{spaces};
 ghost use Rattle.join.specs.Layout.{indentOf};
-ghost use Rattle.join.specs.Walk.{Narrow, Standing, Measured, Fits, taken, lineAt, LineWalked, Ran, RanShown, puts, Room};
+ghost use Rattle.join.specs.Walk.{Narrow, Standing, Measured, Fits, taken, lineAt, LineWalked, Ran, RanShown, Showing, puts, Room};
 ghost use Rattle.join.specs.declared.line.Indent.the-variants.{Set};
 
 // A line's length, the blanks before its first ink, and the place behind its last ink (0 for none).
@@ -223,6 +224,9 @@ pub(crate) fn put_spaces(text: &mut [u8], window: Window, at: usize, count: usiz
     requires { ⌜ Room window (length (now text)) × (at + count < 4294967296) ⌝ }
     ensures { λ _. ⌜ now (text .exit) ≡ puts (now (text .entry)) window at (spaces count) ⌝ }
 {
+    if count == 0 {
+        return;
+    }
     let from = larger(at, window.low);
     let to = smaller(at + count, window.high);
     if from < to {
@@ -265,7 +269,7 @@ pub(crate) fn put_step(text: &mut [u8], window: Window, at: usize, list: &[u8], 
 pub(crate) fn write_line(text: &mut [u8], window: Window, list: &[u8], margins: Margins, spot: Spot)
     requires { ⌜ Narrow margins × Standing (now list) spot × (spot .at < length (now list)) × (length (now list) ≤ 1048576) ⌝ }
     requires { ⌜ Room window (length (now text)) ⌝ }
-    ensures { λ _. ⌜ now (text .exit) ≡ puts (now (text .entry)) window 0 (lineAt margins (now (list .entry)) spot .line .bytes) ⌝ }
+    ensures { λ _. ⌜ Showing window (now (text .entry)) (now (text .exit)) (lineAt margins (now (list .entry)) spot .line .bytes) true ⌝ }
 {
     let mut length = 0;
     let mut here = spot;
@@ -341,7 +345,7 @@ pub(crate) fn walk_line(
     requires { ⌜ Narrow margins × Standing (now list) spot × (spot .at < length (now list)) × (length (now list) ≤ 1048576) ⌝ }
     requires { ⌜ Room window (length (now text)) ⌝ }
     ensures { λ r. ⌜ LineWalked margins (now (list .entry)) spot r ⌝ }
-    ensures { λ _. ⌜ now (text .exit) ≡ puts (now (text .entry)) window 0 (lineAt margins (now (list .entry)) spot .line .bytes) ⌝ }
+    ensures { λ _. ⌜ Showing window (now (text .entry)) (now (text .exit)) (lineAt margins (now (list .entry)) spot .line .bytes) true ⌝ }
 {
     let mut measure = Measure {
         length: 0,

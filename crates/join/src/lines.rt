@@ -13,6 +13,7 @@ ghost use mathlib.Core.Bool.{true, cond};
 ghost use Prim.Native.Nat.{_+_, _≤_, _<_};
 ghost use lib.ListN.{length};
 ghost use lib.Seq.{sets};
+ghost use Rattle.text.specs.Ink.{inkEnd};
 ghost use Rattle.text.specs.Stores.{storedBuffer};
 ghost use Rattle.chunks.specs.Reading.{chunksOf};
 ghost use Rattle.join.specs.Setting.{textOf};
@@ -117,7 +118,7 @@ pub(crate) fn write_cut(
     cut: Cut,
 )
     requires { ⌜ Narrow margins × Standing (now list) spot × (spot .at < length (now list)) × (length (now list) ≤ 1048576) ⌝ }
-    requires { ⌜ CutFits cut (length (lineAt margins (now list) spot .line .bytes)) ⌝ }
+    requires { ⌜ CutFits cut (inkEnd (lineAt margins (now list) spot .line .bytes)) ⌝ }
     requires { ⌜ past .length + length (cutBytes past cut (lineAt margins (now list) spot .line .bytes)) ≤ length (now text) ⌝ }
     ensures { λ _. ⌜ now (text .exit) ≡ sets (now (text .entry)) (past .length) (cutBytes past cut (lineAt margins (now (list .entry)) spot .line .bytes)) ⌝ }
 {
@@ -239,7 +240,7 @@ pub(crate) fn mend(
     guess: Guess,
 )
     requires { ⌜ Narrow margins × Standing (now list) spot × (spot .at < length (now list)) × (length (now list) ≤ 1048576) ⌝ }
-    requires { ⌜ CutFits cut (length (lineAt margins (now list) spot .line .bytes)) ⌝ }
+    requires { ⌜ CutFits cut (inkEnd (lineAt margins (now list) spot .line .bytes)) ⌝ }
     requires { ⌜ (astray cut guess ≡ true → past .length + length (cutBytes past cut (lineAt margins (now list) spot .line .bytes)) ≤ length (now text)) ⌝ }
     ensures { λ _. ⌜ now (text .exit) ≡ cond (astray cut guess) (sets (now (text .entry)) (past .length) (cutBytes past cut (lineAt margins (now (list .entry)) spot .line .bytes))) (now (text .entry)) ⌝ }
 {

@@ -6,17 +6,17 @@ use options::Alignment;
 use text::numbers;
 use text::scans;
 ghost use mathlib.Core.Path.{_≡_};
-ghost use mathlib.Core.Bool.{true, false};
+ghost use mathlib.Core.Bool.{true, false, _&&_};
 ghost use Prim.Native.Nat.{_+_, _-_, _≤_, _<_};
 ghost use lib.ListN.{length};
 ghost use lib.Seq.{slice};
-ghost use lib.Dec.{ltb};
+ghost use lib.Dec.{ltb, leb};
 ghost use Rattle.text.specs.Numbers.{numberAt};
 ghost use Rattle.text.specs.Lines.{newlineAt};
 ghost use Rattle.chunks.specs.Reading.{typeOf, chunkAt, chunksAt, ChunkFits};
 ghost use Rattle.chunks.specs.declared.stored.ChunkAt.the-variants.{Found};
 ghost use Rattle.join.specs.Pieces.{following};
-ghost use Rattle.join.specs.Walk.{Narrow, Laid, Standing, Reached, Passed, layLabel, layCode, layComment, layOf, pieceLength, Stepped, Whole};
+ghost use Rattle.join.specs.Walk.{Narrow, Laid, Standing, Reached, Passed, layLabel, layCode, layComment, layOf, pieceLength, Stepped, Whole, EndsLine};
 
 // What follows a chunk: none, a chunk that is exactly a newline, or another chunk.
 pub enum Follows {
@@ -287,13 +287,58 @@ pub struct Step {
     pub spot: Spot,
 }
 
-// One piece: `column` is the length of the line so far.
+// Whether a lone newline is not ignored on a line of `column` bytes.
+pub(crate) fn keeps_newline(margins: Margins, column: usize) -> bool
+    ensures { λ r. ⌜ (r ≡ true → (ltb 0 column && leb column (margins .label)) ≡ false) ⌝ }
+{
+    if column == 0 {
+        return true;
+    }
+    margins.label < column
+}
+
+// Whether the chunk at a spot is a newline of code that ends a line of `column` bytes.
+pub(crate) fn ends_line(list: &[u8], margins: Margins, spot: Spot, column: usize) -> bool
+    requires { ⌜ Standing (now list) spot × (spot .at < length (now list)) ⌝ }
+    ensures { λ r. ⌜ (r ≡ true → EndsLine margins (now (list .entry)) spot column) ⌝ }
+{
+    let at = spot.at;
+    let end = spot.end;
+    if list.len() <= end {
+        return false;
+    }
+    if end - at != 1 {
+        return false;
+    }
+    if list[at] != 10 {
+        return false;
+    }
+    let ty = spot.ty;
+    match ty {
+        ChunkType::Code => keeps_newline(margins, column),
+        ChunkType::Label => false,
+        ChunkType::Comment => false,
+    }
+}
+
+// One piece: `column` is the length of the line so far. Most lines end in a newline of their own, which adds only blanks that are cut: nothing is laid for it.
 pub(crate) fn step_over(list: &[u8], margins: Margins, spot: Spot, column: usize) -> Step
     requires { ⌜ Narrow margins × Standing (now list) spot × (spot .at < length (now list)) × (length (now list) ≤ 1048576) ⌝ }
     ensures { λ r. ⌜ Stepped margins (now (list .entry)) spot column r ⌝ }
 {
     let at = spot.at;
     let end = spot.end;
+    if ends_line(list, margins, spot, column) {
+        let next = spot_after(list, spot, end);
+        return Step {
+            before: 0,
+            from: at,
+            to: at,
+            behind: 0,
+            ends: true,
+            spot: next,
+        };
+    }
     let last = list.len() <= end;
     let piece = piece_end(list, at, end);
     let lay = lay_piece(list, margins, spot, column, piece);

@@ -4,9 +4,14 @@ use mathlib.Core.Path.{_∙_}
 use lib.ListN.{length-replicate}
 use borrow.Author.Needs.{needs}
 use Rattle.text.specs.Ink.{spaces}
+use Rattle.join.specs.Walk.{puts}
 use Rattle.join.proofs.Windows.{puts-hidden, spaces-shown}
 use Rattle.join.proofs.line.put_spaces.Statement.{statement}
 use Rattle.join.proofs.line.put_spaces.Tie as tie
+
+returns : tie.Need-returns
+unfolding puts
+returns c = rw (c .if1 .taken)
 
 larger-requires : tie.Need-larger-requires
 larger-requires c κs = search needs
@@ -32,24 +37,25 @@ fill-requires c κs = search needs
 same-length : tie.Need-same-length
 same-length c = search needs
 
-returns : tie.Need-returns
-returns c =
-    let start = c .before .before .before .before .before .before .before .before .before .before in
-    let test = c .before .before .before .before .before .before in
-    c .before .before .fill .ensures .1 ∙ spaces-shown (start .args .text .now) (start .args .window) (start .args .at) (start .args .count)
-    (test .before .before .larger .ensures) (test .before .smaller .ensures) (test .if1 .taken) (start .pre .0)
-
 returns-2 : tie.Need-returns-2
 returns-2 c =
-    let start = c .before .before .before .before in
+    let start = c .before .before .before .before .before .before .before .before .before .before .before in
+    let test = c .before .before .before .before .before .before in
+    c .before .before .fill .ensures .1 ∙ spaces-shown (start .args .text .now) (start .args .window) (start .args .at) (start .args .count)
+    (test .before .before .larger .ensures) (test .before .smaller .ensures) (test .if2 .taken) (start .pre .0)
+
+returns-3 : tie.Need-returns-3
+returns-3 c =
+    let start = c .before .before .before .before .before in
     let count = start .args .count in
     puts-hidden (start .args .text .now) (start .args .window) (start .args .at) (spaces count) (c .before .before .larger .ensures) (rw
-    (length-replicate {A = ℕ} count 32) (c .before .smaller .ensures)) (c .if1 .left)
+    (length-replicate {A = ℕ} count 32) (c .before .smaller .ensures)) (c .if2 .left)
 
 pub put-spaces-spec : {M : Type 1} → statement M
 put-spaces-spec =
     tie.close
     (tie.spec
+    returns
     larger-requires
     add-smaller
     smaller-requires
@@ -58,5 +64,5 @@ put-spaces-spec =
     sub-fill-2
     fill-requires
     same-length
-    returns
-    returns-2)
+    returns-2
+    returns-3)

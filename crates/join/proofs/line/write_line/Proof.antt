@@ -31,7 +31,7 @@ put-step-requires c κs =
     let turn = c .before .before .before .loop in
     let stepped = c .before .step-over .ensures in
     let going = rw (not-true (turn .ended) (c .before .before .loop-test .taken)) at (turn .inv .0) in
-    ((rw (turn .inv .1) (start .pre .1), stepped .part, stepped .inside), step-room (going .walking) (going .long) stepped (start .pre .0 .3))
+    ((rw (turn .inv .1) (start .pre .1), stepped .part, stepped .inside), step-room (going .walking) (going .long refl) stepped (start .pre .0 .3))
 
 loop-less : tie.Need-loop-less Inv-loop μ-loop
 loop-less c =

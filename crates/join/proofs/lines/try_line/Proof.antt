@@ -34,7 +34,7 @@ returns c =
     let walked = c .before .before .walk-line .ensures in (
       walked .0,
       line-tried (start .args .past) (start .args .guess) _ _ _ _ _ (c .before .before .before .before .before .before .before .before .before .before .before .before .before .before .line-start .ensures)
-          (c .before .before .before .before .before .before .before .before .before .before .before .put-newline .ensures) (c .before .before .before .before .before .before .before .fill .ensures .1) (walked .1 ∙ rw (c .before .before .before .before .window-of .ensures .0, size)),
+          (c .before .before .before .before .before .before .before .before .before .before .before .put-newline .ensures) (c .before .before .before .before .before .before .before .fill .ensures .1) (rw (c .before .before .before .before .window-of .ensures .0, size) at (walked .1)),
     )
 
 pub try-line-spec : {M : Type 1} → statement M

@@ -2,7 +2,7 @@
 use borrow.Author.Needs.{needs}
 use native.Mathlib.Omega.{arith}
 use Rattle.join.specs.Walk.{lineAt}
-use Rattle.join.proofs.Running.{start-near, cut-end, cut-written}
+use Rattle.join.proofs.Running.{start-near, cut-end, cut-shown}
 use Rattle.join.proofs.lines.write_cut.Statement.{statement}
 use Rattle.join.proofs.lines.write_cut.Tie as tie
 
@@ -34,7 +34,7 @@ same-length c = search needs
 returns : tie.Need-returns
 returns c =
     let start = c .before .before .before .before .before .before .before .before .before .before .before .before .before .before .before .before in
-    cut-written (start .args .past) (start .args .cut) _ _ _ _ _ (c .before .before .before .before .before .before .before .before .before .before .before .before .before .line-start .ensures) (start .pre .1 .1)
+    cut-shown (start .args .past) (start .args .cut) _ _ _ _ _ (start .pre .1 .0) (c .before .before .before .before .before .before .before .before .before .before .before .before .before .line-start .ensures) (start .pre .1 .1)
     (c .before .before .before .before .before .before .before .before .before .before .put-newline .ensures) (c .before .before .before .before .before .before .fill .ensures .1) (c .before .before .write-line .ensures)
 
 pub write-cut-spec : {M : Type 1} → statement M
