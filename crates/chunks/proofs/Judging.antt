@@ -1,27 +1,30 @@
 -- Laws of judging a stored list chunk by chunk.
-use mathlib.Core.Path.{_≡_, refl, ap, _∙_}
+use mathlib.Core.Path.{_≡_, refl, sym, ap, _∙_}
 use mathlib.Core.List.{List, [], _∷_, map}
 use mathlib.Core.Bool.{true, cond}
-use Prim.Native.Nat.{ℕ, _+_, _≤_, _<_}
+use Prim.Native.Nat.{ℕ, _+_, _%_, _≤_, _<_}
 use native.Mathlib.Omega.{arith}
-use lib.ListN.{length}
+use lib.ListN.{length, getD}
 use lib.Seq.{slice, length-slice}
 use lib.Dec.{eqb, ltb}
-use borrow.Author.Tests.{lt-ltb, le-ltb, eq-eqb, ne-eqb, ltb-false, eqb-true}
+use borrow.Author.Tests.{le-leb, lt-ltb, le-ltb, eq-eqb, ne-eqb, ltb-false, eqb-true}
 use Rattle.answers.specs.declared.Checked.{Checked}
 use Rattle.answers.specs.declared.Checked.the-variants.{Passed, Failed}
 use Rattle.answers.specs.declared.Refusal.{Refusal}
 use Rattle.answers.specs.declared.Reason.the-variants.{ChunkLayout, NotAscii}
+use Rattle.text.specs.Numbers.{numberAt}
+use Rattle.text.specs.declared.numbers.Number.the-variants.{Read}
 use Rattle.text.specs.Accepted.{acceptedText, faultAt}
 use Rattle.text.proofs.Choices.{by-test}
 use Rattle.text.proofs.Accepted.{fault-none, fault-some, accepted-part}
 use Rattle.chunks.specs.Stored.{AllAccepted}
-use Rattle.chunks.specs.Reading.{chunkAt, storedChunks, chunkOf, ChunkFits}
+use Rattle.chunks.specs.Reading.{typeOf, textOn, textAt, chunkAt, storedChunks, chunkOf, ChunkFits}
 use Rattle.chunks.specs.Judging.{endFrom, layoutChecked, textsChecked, chunksChecked}
-use Rattle.chunks.specs.Steps.{firstFault}
+use Rattle.chunks.specs.Steps.{firstFault, endOn}
 use Rattle.chunks.specs.declared.stored.StoredChunk.{StoredChunk}
+use Rattle.chunks.specs.declared.stored.ChunkAt.{ChunkAt}
 use Rattle.chunks.specs.declared.stored.ChunkAt.the-variants.{Found, NoChunk}
-use Rattle.chunks.proofs.Reading.{chunks-found, chunks-none, chunk-end}
+use Rattle.chunks.proofs.Reading.{chunk-plain, LaidAs, chunk-laid, chunks-found, chunks-none, chunk-end}
 
 -- ---- from one chunk to the next
 
@@ -53,13 +56,6 @@ unfolding textsChecked
 texts-none list at e = ap (textsChecked list) (chunks-none list at e)
 
 -- ---- the place of the first bad byte, carried on
-
--- in a list of accepted bytes there is none to find
-pub fault-kept : (list : List ℕ) (start end fault : ℕ) → start ≤ end → end ≤ length list → acceptedText list ≡ true → firstFault list start end fault ≡ fault
-fault-kept list start end fault up within accepted =
-    let none = fault-none (slice start end list) (accepted-part start end list accepted) in
-    let past : end ≤ start + faultAt (slice start end list) = omega (arith, length-slice start end list within) in
-    by-test (ltb fault (length list)) (λ e. rw e) (λ e. rw (e, le-ltb _ _ past))
 
 -- refusal 7 where a bad byte was found, else the judgement of the rest
 abbrev judged : List ℕ → ℕ → Checked → Checked
@@ -133,6 +129,73 @@ module _ (list : List ℕ) (at fault : ℕ) (short : length list ≤ 1048576) (g
   -- or none
   pub all-good : length list ≤ at → length list ≤ fault → chunksChecked list ≡ Passed
   all-good done none = whole done ∙ rw (le-ltb _ _ none)
+
+-- ---- a list of accepted bytes, of which only the layout is judged
+
+-- a chunk without indent, by its text length
+module _ (list : List ℕ) (at : ℕ) (inside : at + 3 ≤ length list) (small : getD list at 0 < 3) {count : ℕ} (stored : count ≡ numberAt list (at + 1)) where
+  -- it ends where its text does
+  plain-is : endOn at (chunkAt list at) ≡ endOn at (textOn list (at + 1) (typeOf (getD list at 0 % 4)) 0 (Read count))
+  unfolding textAt
+  plain-is =
+      let plain = chunk-plain list at (omega arith) refl (omega arith) (λ both. omega arith) (omega arith) in
+      rw (plain, le-leb (at + 1 + 2) (length list) (omega arith), stored)
+
+  -- which has a byte
+  pub plain-empty : count ≡ 0 → at ≡ endOn at (chunkAt list at)
+  plain-empty none = sym (plain-is ∙ rw (eq-eqb count 0 none))
+
+  -- and does not go past the list
+  pub plain-long : length list < at + 3 + count → at ≡ endOn at (chunkAt list at)
+  plain-long long = sym (plain-is ∙ by-test (eqb count 0) (λ e. rw e) (λ e. rw (e, lt-ltb (length list) (at + 1 + 2 + count) (omega arith))))
+
+  -- so it is found
+  pub plain-found : (count ≡ 0 → ⊥) → at + 3 + count ≤ length list → at + 3 + count ≡ endOn at (chunkAt list at)
+  plain-found some enough = sym (plain-is ∙ rw (ne-eqb count 0 some, le-ltb (length list) (at + 1 + 2 + count) (omega arith)) (omega arith))
+
+-- a place that the chunks from the start on lead to
+pub record Ending (list : List ℕ) (at : ℕ) : Type 0 where
+  pub within : at ≤ length list
+  pub ends : endFrom 0 (storedChunks list 0) ≡ endFrom at (storedChunks list at)
+
+-- from there to the end of the chunk there
+pub ending-on : {list : List ℕ} {at end : ℕ} → Ending list at → end ≡ endOn at (chunkAt list at) → (end ≡ at → ⊥) → Ending list end × (at < end)
+ending-on {list} {at} {end} ending e other = by-found (chunkAt list at) refl (chunk-laid list at)
+  where
+    by-found : (found : ChunkAt) → chunkAt list at ≡ found → LaidAs list at found → Ending list end × (at < end)
+    by-found (Found chunk) f laid =
+        let there : end ≡ chunk .end = e ∙ ap (endOn at) f in
+        (rw there (record { within = laid .inside; ends = ending .ends ∙ end-found list at chunk f }), omega (arith, laid .start, laid .some))
+    by-found NoChunk f laid = absurd (other (e ∙ ap (endOn at) f))
+
+-- where there is no chunk they end
+pub ending-none : {list : List ℕ} {at : ℕ} → Ending list at → at ≡ endOn at (chunkAt list at) → at ≡ endFrom 0 (storedChunks list 0)
+ending-none {list} {at} ending e = by-found (chunkAt list at) refl (chunk-laid list at)
+  where
+    by-found : (found : ChunkAt) → chunkAt list at ≡ found → LaidAs list at found → at ≡ endFrom 0 (storedChunks list 0)
+    by-found (Found chunk) f laid = absurd (omega (arith, e ∙ ap (endOn at) f, laid .start, laid .some))
+    by-found NoChunk f laid = sym (ending .ends ∙ end-none list at f)
+
+-- and at the list's end
+pub ending-all : {list : List ℕ} {at : ℕ} → Ending list at → length list ≤ at → at ≡ endFrom 0 (storedChunks list 0)
+ending-all {list} {at} ending done = sym (ending .ends ∙ end-none list at (chunk-end list at done))
+
+-- no text of such a list is refused
+texts-all : (list : List ℕ) (chunks : List StoredChunk) → acceptedText list ≡ true → textsChecked list chunks ≡ Passed
+unfolding textsChecked
+texts-all list [] e = refl
+texts-all list (chunk ∷ chunks) e = rw (accepted-part (chunk .start) (chunk .end) list e) (texts-all list chunks e)
+
+module _ (list : List ℕ) (short : length list ≤ 1048576) (accepted : acceptedText list ≡ true) {end : ℕ} (ends : end ≡ endFrom 0 (storedChunks list 0)) where
+  -- it is passed where its chunks end with it
+  pub layout-passed : end ≡ length list → chunksChecked list ≡ Passed
+  unfolding chunksChecked layoutChecked
+  layout-passed all = rw (le-ltb _ _ short, ← ends, eq-eqb _ _ all) (texts-all list (storedChunks list 0) accepted)
+
+  -- or else refused where they end
+  pub layout-failed : (end ≡ length list → ⊥) → chunksChecked list ≡ Failed (record { reason = ChunkLayout; place = end })
+  unfolding chunksChecked layoutChecked
+  layout-failed other = rw (le-ltb _ _ short, ← ends, ne-eqb _ _ other)
 
 -- ---- what a judgement that is passed tells
 

@@ -6,9 +6,17 @@ use lib.ListN.{length}
 use lib.Seq.{slice}
 use lib.Dec.{ltb}
 use Rattle.text.specs.Accepted.{faultAt}
+use Rattle.chunks.specs.declared.stored.StoredChunk.{StoredChunk}
+use Rattle.chunks.specs.declared.stored.ChunkAt.{ChunkAt}
+use Rattle.chunks.specs.declared.stored.ChunkAt.the-variants.{Found, NoChunk}
 
 -- the place that `check_chunks` carries on, a place past the list while no bad byte was found.
 abbrev pub firstFault : List ℕ → ℕ → ℕ → ℕ → ℕ
 firstFault list start end fault =
     cond (ltb fault (length list)) fault
     (cond (ltb (start + faultAt (slice start end list)) end) (start + faultAt (slice start end list)) fault)
+
+-- where a chunk that was looked for at a place ends, the place itself where there is none
+abbrev pub endOn : ℕ → ChunkAt → ℕ
+endOn at (Found chunk) = chunk .end
+endOn at NoChunk = at

@@ -4,24 +4,96 @@ use crate::stored::ChunkAt;
 use answers::Checked;
 use answers::Reason;
 use answers::Refusal;
+use text::numbers;
 use text::scans;
 ghost use mathlib.Core.Path.{_≡_};
-ghost use Prim.Native.Nat.{_≤_};
-ghost use lib.ListN.{length};
+ghost use mathlib.Core.Bool.{true};
+ghost use Prim.Native.Nat.{_+_, _≤_, _<_};
+ghost use lib.ListN.{length, getD};
+ghost use Rattle.text.specs.Numbers.{numberAt};
 ghost use Rattle.text.specs.Accepted.{acceptedText};
-ghost use Rattle.chunks.specs.Judging.{chunksChecked};
-ghost use Rattle.chunks.specs.Steps.{firstFault};
+ghost use Rattle.chunks.specs.Reading.{chunkAt, storedChunks};
+ghost use Rattle.chunks.specs.Judging.{endFrom, chunksChecked};
+ghost use Rattle.chunks.specs.Steps.{firstFault, endOn};
+
+// The two-byte number at a place.
+fn number_at(list: &[u8], at: usize) -> usize
+    requires { ⌜ at + 2 ≤ length (now list) ⌝ }
+    ensures { λ r. ⌜ (r ≡ numberAt (now (list .entry)) at) × (r < 65536) ⌝ }
+{
+    numbers::wide(list[at]) + 256 * numbers::wide(list[at + 1])
+}
+
+// Where a chunk without indent ends whose map is known; its own place where it breaks the layout.
+fn plain_end(list: &[u8], at: usize) -> usize
+    requires { ⌜ (at + 3 ≤ length (now list)) × (length (now list) ≤ 1048576) × (getD (now list) at 0 < 3) ⌝ }
+    ensures { λ r. ⌜ r ≡ endOn at (chunkAt (now (list .entry)) at) ⌝ }
+{
+    let count = number_at(list, at + 1);
+    if count == 0 {
+        return at;
+    }
+    let end = at + 3 + count;
+    if list.len() < end {
+        return at;
+    }
+    end
+}
+
+// Where the chunk at a place ends; the place itself where there is none. Most chunks have no indent, so these are read first.
+fn chunk_end(list: &[u8], at: usize) -> usize
+    requires { ⌜ (at < length (now list)) × (length (now list) ≤ 1048576) ⌝ }
+    ensures { λ r. ⌜ r ≡ endOn at (chunkAt (now (list .entry)) at) ⌝ }
+{
+    if at + 3 <= list.len() {
+        let map = numbers::wide(list[at]);
+        if map < 3 {
+            return plain_end(list, at);
+        }
+    }
+    let found = stored::chunk_at(list, at);
+    match found {
+        ChunkAt::Found(chunk) => chunk.end,
+        ChunkAt::NoChunk => at,
+    }
+}
+
+// Where the chunks of a list end.
+fn layout_end(list: &[u8]) -> usize
+    requires { ⌜ length (now list) ≤ 1048576 ⌝ }
+    ensures { λ r. ⌜ r ≡ endFrom 0 (storedChunks (now (list .entry)) 0) ⌝ }
+{
+    let mut at = 0;
+    while at < list.len() {
+        let end = chunk_end(list, at);
+        if end == at {
+            return at;
+        }
+        at = end;
+    }
+    at
+}
+
+// The judgement of a list of accepted bytes: only its layout is left to be judged.
+fn check_layout(list: &[u8]) -> Checked
+    requires { ⌜ (length (now list) ≤ 1048576) × (acceptedText (now list) ≡ true) ⌝ }
+    ensures { λ r. ⌜ r ≡ chunksChecked (now (list .entry)) ⌝ }
+{
+    let end = layout_end(list);
+    if end == list.len() {
+        return Checked::Passed;
+    }
+    Checked::Failed(Refusal {
+        reason: Reason::ChunkLayout,
+        place: end,
+    })
+}
 
 // The first byte of list[start..end] that no text may hold, where an earlier text has no such byte; a place past the list stands for none.
-// Where all bytes of the list are `accepted` there is nothing to look for.
-fn fault_in(list: &[u8], start: usize, end: usize, fault: usize, accepted: bool) -> usize
+fn fault_in(list: &[u8], start: usize, end: usize, fault: usize) -> usize
     requires { ⌜ (start ≤ end) × (end ≤ length (now list)) ⌝ }
-    requires { ⌜ accepted ≡ acceptedText (now list) ⌝ }
     ensures { λ r. ⌜ r ≡ firstFault (now (list .entry)) start end fault ⌝ }
 {
-    if accepted {
-        return fault;
-    }
     if fault < list.len() {
         return fault;
     }
@@ -43,7 +115,9 @@ pub fn check_chunks(list: &[u8]) -> Checked
             place: 0,
         });
     }
-    let accepted = scans::is_accepted(list);
+    if scans::is_accepted(list) {
+        return check_layout(list);
+    }
     let mut at = 0;
     let mut fault = length;
     while at < length {
@@ -54,7 +128,7 @@ pub fn check_chunks(list: &[u8]) -> Checked
                 place: at,
             });
         };
-        fault = fault_in(list, chunk.start, chunk.end, fault, accepted);
+        fault = fault_in(list, chunk.start, chunk.end, fault);
         at = chunk.end;
     }
     if fault < length {

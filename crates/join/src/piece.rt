@@ -54,13 +54,22 @@ fn type_of(bits: usize) -> ChunkType
     ChunkType::Code
 }
 
-// The chunk at a place of a list that was judged: it is not judged again.
+// The chunk at a place of a list that was judged: it is not judged again. Most chunks are code without indent, so that is asked first.
 pub(crate) fn chunk_in(list: &[u8], place: usize) -> StoredChunk
     requires { ⌜ Laid (now list) place × (place < length (now list)) ⌝ }
     ensures { λ r. ⌜ chunkAt (now (list .entry)) place ≡ Found r ⌝ }
     ensures { λ r. ⌜ ChunkFits (now (list .entry)) place r ⌝ }
 {
     let map = numbers::wide(list[place]);
+    if map == 0 {
+        let start = place + 3;
+        return StoredChunk {
+            ty: ChunkType::Code,
+            indent: 0,
+            start: start,
+            end: start + number_at(list, place + 1),
+        };
+    }
     if map < 4 {
         let start = place + 3;
         return StoredChunk {

@@ -1,5 +1,5 @@
 -- The same tests as the definition's, on the place that `fault_at` finds in the part.
-use mathlib.Core.Path.{_≡_, sym, ap, _∙_}
+use mathlib.Core.Path.{_≡_, ap, _∙_}
 use native.Mathlib.Omega.{arith}
 use lib.Seq.{slice, length-slice}
 use borrow.Author.Tests.{lt-ltb, le-ltb}
@@ -7,18 +7,11 @@ use borrow.Author.Needs.{needs}
 use Rattle.text.specs.Accepted.{faultAt}
 use Rattle.text.proofs.Parts.{part-slice}
 use Rattle.text.proofs.Accepted.{fault-within}
-use Rattle.chunks.proofs.Judging.{fault-kept}
 use Rattle.chunks.proofs.list.fault_in.Statement.{statement}
 use Rattle.chunks.proofs.list.fault_in.Tie as tie
 
 returns : tie.Need-returns
-returns c =
-    let start = c .before .before in
-    sym (fault-kept (start .args .list .now) (start .args .start) (start .args .end) (start .args .fault) (start .pre .0 .0) (start .pre .0 .1)
-    (sym (start .pre .1) ∙ c .if1 .taken))
-
-returns-2 : tie.Need-returns-2
-returns-2 c = simp (lt-ltb _ _ (c .if2 .taken))
+returns c = simp (lt-ltb _ _ (c .if1 .taken))
 
 sub-fault-at : tie.Need-sub-fault-at
 sub-fault-at c = search needs
@@ -34,33 +27,32 @@ fault-at-requires c κs = search needs
 
 add-found : tie.Need-add-found
 add-found c =
-    let start = c .before .before .before .before .before in
+    let start = c .before .before .before .before in
     let part = slice (start .args .start) (start .args .end) (start .args .list .now) in
     let found : c .fault-at .result ≡ faultAt part = c .fault-at .ensures ∙ ap faultAt (part-slice (start .args .start) (start .args .end) (start .args .list .now)) in
-    omega (arith, fault-within part, length-slice (start .args .start) (start .args .end) (start .args .list .now) (start .pre .0 .1))
+    omega (arith, fault-within part, length-slice (start .args .start) (start .args .end) (start .args .list .now) (start .pre .1))
+
+returns-2 : tie.Need-returns-2
+returns-2 c =
+    let start = c .before .before .before .before .before in
+    let part = part-slice (start .args .start) (start .args .end) (start .args .list .now) in
+    simp (le-ltb _ _ (c .before .before .before .if1 .left), ← part, ← (c .before .fault-at .ensures), lt-ltb _ _ (c .if2 .taken))
 
 returns-3 : tie.Need-returns-3
 returns-3 c =
-    let start = c .before .before .before .before .before .before in
+    let start = c .before .before .before .before .before in
     let part = part-slice (start .args .start) (start .args .end) (start .args .list .now) in
-    simp (le-ltb _ _ (c .before .before .before .if2 .left), ← part, ← (c .before .fault-at .ensures), lt-ltb _ _ (c .if3 .taken))
-
-returns-4 : tie.Need-returns-4
-returns-4 c =
-    let start = c .before .before .before .before .before .before in
-    let part = part-slice (start .args .start) (start .args .end) (start .args .list .now) in
-    simp (le-ltb _ _ (c .before .before .before .if2 .left), ← part, ← (c .before .fault-at .ensures), le-ltb _ _ (c .if3 .left))
+    simp (le-ltb _ _ (c .before .before .before .if1 .left), ← part, ← (c .before .fault-at .ensures), le-ltb _ _ (c .if2 .left))
 
 pub fault-in-spec : {M : Type 1} → statement M
 fault-in-spec =
     tie.close
     (tie.spec
     returns
-    returns-2
     sub-fault-at
     part-fault-at-start
     part-fault-at-end
     fault-at-requires
     add-found
-    returns-3
-    returns-4)
+    returns-2
+    returns-3)
