@@ -2,9 +2,9 @@
 use mathlib.Core.Path.{_≡_, refl, sym, ap, _∙_}
 use mathlib.Core.List.{List, [], _∷_, map}
 use mathlib.Core.Bool.{true, cond}
-use Prim.Native.Nat.{ℕ, _+_, _%_, _≤_, _<_}
+use Prim.Native.Nat.{ℕ, _+_, _≤_, _<_}
 use native.Mathlib.Omega.{arith}
-use lib.ListN.{length, getD}
+use lib.ListN.{length}
 use lib.Seq.{slice, length-slice}
 use lib.Dec.{eqb, ltb}
 use borrow.Author.Tests.{le-leb, lt-ltb, le-ltb, eq-eqb, ne-eqb, ltb-false, eqb-true}
@@ -13,14 +13,13 @@ use Rattle.answers.specs.declared.Checked.the-variants.{Passed, Failed}
 use Rattle.answers.specs.declared.Refusal.{Refusal}
 use Rattle.answers.specs.declared.Reason.the-variants.{ChunkLayout, NotAscii}
 use Rattle.text.specs.Numbers.{numberAt}
-use Rattle.text.specs.declared.numbers.Number.the-variants.{Read}
 use Rattle.text.specs.Accepted.{acceptedText, faultAt}
 use Rattle.text.proofs.Choices.{by-test}
 use Rattle.text.proofs.Accepted.{fault-none, fault-some, accepted-part}
 use Rattle.chunks.specs.Stored.{AllAccepted}
-use Rattle.chunks.specs.Reading.{typeOf, textOn, textAt, chunkAt, storedChunks, chunkOf, ChunkFits}
+use Rattle.chunks.specs.Reading.{textAt, chunkAt, storedChunks, chunkOf, ChunkFits}
 use Rattle.chunks.specs.Judging.{endFrom, layoutChecked, textsChecked, chunksChecked}
-use Rattle.chunks.specs.Steps.{firstFault, endOn}
+use Rattle.chunks.specs.Steps.{firstFault, Plain, endOn}
 use Rattle.chunks.specs.declared.stored.StoredChunk.{StoredChunk}
 use Rattle.chunks.specs.declared.stored.ChunkAt.{ChunkAt}
 use Rattle.chunks.specs.declared.stored.ChunkAt.the-variants.{Found, NoChunk}
@@ -132,26 +131,18 @@ module _ (list : List ℕ) (at fault : ℕ) (short : length list ≤ 1048576) (g
 
 -- ---- a list of accepted bytes, of which only the layout is judged
 
--- a chunk without indent, by its text length
-module _ (list : List ℕ) (at : ℕ) (inside : at + 3 ≤ length list) (small : getD list at 0 < 3) {count : ℕ} (stored : count ≡ numberAt list (at + 1)) where
-  -- it ends where its text does
-  plain-is : endOn at (chunkAt list at) ≡ endOn at (textOn list (at + 1) (typeOf (getD list at 0 % 4)) 0 (Read count))
-  unfolding textAt
-  plain-is =
-      let plain = chunk-plain list at (omega arith) refl (omega arith) (λ both. omega arith) (omega arith) in
-      rw (plain, le-leb (at + 1 + 2) (length list) (omega arith), stored)
-
-  -- which has a byte
-  pub plain-empty : count ≡ 0 → at ≡ endOn at (chunkAt list at)
-  plain-empty none = sym (plain-is ∙ rw (eq-eqb count 0 none))
-
-  -- and does not go past the list
-  pub plain-long : length list < at + 3 + count → at ≡ endOn at (chunkAt list at)
-  plain-long long = sym (plain-is ∙ by-test (eqb count 0) (λ e. rw e) (λ e. rw (e, lt-ltb (length list) (at + 1 + 2 + count) (omega arith))))
-
-  -- so it is found
-  pub plain-found : (count ≡ 0 → ⊥) → at + 3 + count ≤ length list → at + 3 + count ≡ endOn at (chunkAt list at)
-  plain-found some enough = sym (plain-is ∙ rw (ne-eqb count 0 some, le-ltb (length list) (at + 1 + 2 + count) (omega arith)) (omega arith))
+-- a chunk without indent ends with its text
+pub plain-end : (list : List ℕ) (at : ℕ) → Plain list at → endOn at (chunkAt list at) ≡ at + 3 + numberAt list (at + 1)
+unfolding textAt
+plain-end list at plain =
+    let text = chunk-plain list at (omega (arith, plain .head)) refl (omega (arith, plain .map)) (λ both. omega (arith, plain .map)) (omega (arith, plain .map)) in
+    rw (
+      text,
+      le-leb (at + 1 + 2) (length list) (omega (arith, plain .head)),
+      ne-eqb (numberAt list (at + 1)) 0 (plain .some),
+      le-ltb (length list) (at + 1 + 2 + numberAt list (at + 1)) (omega (arith, plain .enough)),
+    )
+    (omega arith)
 
 -- a place that the chunks from the start on lead to
 pub record Ending (list : List ℕ) (at : ℕ) : Type 0 where

@@ -1,10 +1,12 @@
 -- Not part of any promise of this crate: what its inner functions hand on.
-use Prim.Native.Nat.{ℕ, _+_}
+use Prim.Native.Nat.{ℕ, _+_, _≤_}
 use mathlib.Core.List.{List}
 use mathlib.Core.Bool.{cond}
-use lib.ListN.{length}
+use mathlib.Core.Path.{_≡_}
+use lib.ListN.{length, getD}
 use lib.Seq.{slice}
 use lib.Dec.{ltb}
+use Rattle.text.specs.Numbers.{numberAt}
 use Rattle.text.specs.Accepted.{faultAt}
 use Rattle.chunks.specs.declared.stored.StoredChunk.{StoredChunk}
 use Rattle.chunks.specs.declared.stored.ChunkAt.{ChunkAt}
@@ -20,3 +22,10 @@ firstFault list start end fault =
 abbrev pub endOn : ℕ → ChunkAt → ℕ
 endOn at (Found chunk) = chunk .end
 endOn at NoChunk = at
+
+-- a chunk without indent stands at a place: a map, a text length of at least 1, and as many bytes
+pub record Plain (list : List ℕ) (at : ℕ) : Type 0 where
+  pub head : at + 3 ≤ length list
+  pub map : getD list at 0 ≤ 2
+  pub some : numberAt list (at + 1) ≡ 0 → ⊥
+  pub enough : at + 3 + numberAt list (at + 1) ≤ length list

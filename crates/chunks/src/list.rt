@@ -9,12 +9,12 @@ use text::scans;
 ghost use mathlib.Core.Path.{_≡_};
 ghost use mathlib.Core.Bool.{true};
 ghost use Prim.Native.Nat.{_+_, _≤_, _<_};
-ghost use lib.ListN.{length, getD};
+ghost use lib.ListN.{length};
 ghost use Rattle.text.specs.Numbers.{numberAt};
 ghost use Rattle.text.specs.Accepted.{acceptedText};
 ghost use Rattle.chunks.specs.Reading.{chunkAt, storedChunks};
 ghost use Rattle.chunks.specs.Judging.{endFrom, chunksChecked};
-ghost use Rattle.chunks.specs.Steps.{firstFault, endOn};
+ghost use Rattle.chunks.specs.Steps.{firstFault, Plain, endOn};
 
 // The two-byte number at a place.
 fn number_at(list: &[u8], at: usize) -> usize
@@ -24,32 +24,32 @@ fn number_at(list: &[u8], at: usize) -> usize
     numbers::wide(list[at]) + 256 * numbers::wide(list[at + 1])
 }
 
-// Where a chunk without indent ends whose map is known; its own place where it breaks the layout.
-fn plain_end(list: &[u8], at: usize) -> usize
-    requires { ⌜ (at + 3 ≤ length (now list)) × (length (now list) ≤ 1048576) × (getD (now list) at 0 < 3) ⌝ }
-    ensures { λ r. ⌜ r ≡ endOn at (chunkAt (now (list .entry)) at) ⌝ }
+// Whether a chunk without indent stands at a place. Most do. The answer is asked apart from where the chunk ends, so that the next place waits for no test.
+fn is_plain(list: &[u8], at: usize) -> bool
+    requires { ⌜ (at < length (now list)) × (length (now list) ≤ 1048576) ⌝ }
+    ensures { λ r. ⌜ (r ≡ true → Plain (now (list .entry)) at) ⌝ }
 {
+    if list.len() < at + 3 {
+        return false;
+    }
+    let map = numbers::wide(list[at]);
+    if 2 < map {
+        return false;
+    }
     let count = number_at(list, at + 1);
     if count == 0 {
-        return at;
+        return false;
     }
-    let end = at + 3 + count;
-    if list.len() < end {
-        return at;
-    }
-    end
+    at + 3 + count <= list.len()
 }
 
-// Where the chunk at a place ends; the place itself where there is none. Most chunks have no indent, so these are read first.
+// Where the chunk at a place ends; the place itself where there is none.
 fn chunk_end(list: &[u8], at: usize) -> usize
     requires { ⌜ (at < length (now list)) × (length (now list) ≤ 1048576) ⌝ }
     ensures { λ r. ⌜ r ≡ endOn at (chunkAt (now (list .entry)) at) ⌝ }
 {
-    if at + 3 <= list.len() {
-        let map = numbers::wide(list[at]);
-        if map < 3 {
-            return plain_end(list, at);
-        }
+    if is_plain(list, at) {
+        return at + 3 + number_at(list, at + 1);
     }
     let found = stored::chunk_at(list, at);
     match found {
