@@ -6,14 +6,14 @@ use Prim.Native.Nat.{ℕ, suc, _+_, _-_, _≤_, _<_, min, max}
 use native.Mathlib.Omega.{arith}
 use native.Mathlib.Nat.{le-refl, le-trans, add-le-add, min-le-left}
 use lib.ListN.{length, take, drop, set, length-replicate, replicate-append-replicate, length-take}
-use lib.Seq.{slice, sets, drop-nil, take-nil, drop-at, take-at, take-all, take-length, length-slice}
+use lib.Seq.{slice, sets, drop-nil, take-nil, drop-at, take-at, take-all, take-length, length-slice, slice-empty}
 use lib.Dec.{ltb, leb}
 use borrow.Author.Tests.{le-leb, ltb-true, ltb-false, leb-true, leb-false}
 use Rattle.text.specs.Ink.{spaces}
 use Rattle.text.specs.Stores.{storedBuffer}
 use Rattle.text.proofs.Choices.{by-test}
 use Rattle.text.proofs.Parts.{part-slice}
-use Rattle.join.specs.Walk.{put, puts, Room}
+use Rattle.join.specs.Walk.{put, puts, Room, Empty}
 use Rattle.join.specs.declared.piece.Step.{Step}
 use Rattle.join.specs.declared.line.Window.{Window}
 
@@ -137,3 +137,10 @@ puts-step text window at list step inside e f g =
     let behind = puts-append (puts text window at (spaces (step .before))) window (at + step .before) part (spaces (step .behind)) in
     rw (g, f, e, part-slice (step .from) (step .to) list, ← (length-slice (step .from) (step .to) list inside))
     (sym (puts-append text window at (spaces (step .before)) (part ++ spaces (step .behind)) ∙ rw (length-replicate {A = ℕ} (step .before) 32) behind))
+
+-- an empty step has none
+pub step-none : (list : List ℕ) (step : Step) → Empty step → stepBytes list step ≡ []
+step-none list step empty =
+    ap (λ (n : ℕ). spaces n ++ (slice (step .from) (step .to) list ++ spaces (step .behind))) (empty .before)
+    ∙ ap (λ (n : ℕ). slice (step .from) (step .to) list ++ spaces n) (empty .behind)
+    ∙ ap (λ (from : ℕ). slice from (step .to) list ++ []) (empty .none) ∙ rw (slice-empty (step .to) list)

@@ -140,6 +140,12 @@ pub record Whole (list : List ℕ) (spot : Spot) : Type 0 where
   pub more : spot .end < length list
   pub plain : ltb (newlineAt (slice (spot .at) (spot .end) list)) (spot .end - spot .at) ≡ false
 
+-- a step that adds nothing
+pub record Empty (step : Step) : Type 0 where
+  pub before : step .before ≡ 0
+  pub behind : step .behind ≡ 0
+  pub none : step .from ≡ step .to
+
 -- ---- a line by its measures
 
 pub record Measured (measure : Measure) (bytes : List ℕ) : Type 0 where

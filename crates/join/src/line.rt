@@ -13,7 +13,7 @@ ghost use lib.ListN.{length};
 ghost use lib.Seq.{slice};
 ghost use Rattle.text.specs.Ink.{spaces};
 ghost use Rattle.join.specs.Layout.{indentOf};
-ghost use Rattle.join.specs.Walk.{Narrow, Standing, Measured, Fits, taken, lineAt, LineWalked, Ran, RanShown, Showing, puts, Room};
+ghost use Rattle.join.specs.Walk.{Narrow, Standing, Measured, Fits, taken, lineAt, LineWalked, Ran, RanShown, Showing, puts, Room, Empty};
 ghost use Rattle.join.specs.declared.line.Indent.the-variants.{Set};
 
 // A line's length, the blanks before its first ink, and the place behind its last ink (0 for none).
@@ -85,6 +85,32 @@ pub(crate) fn add_step(measure: Measure, list: &[u8], step: Step) -> Measure
     let padded = add_blanks(measure, step.before);
     let laid = add_text(padded, &list[from..to]);
     add_blanks(laid, step.behind)
+}
+
+// Whether a step adds nothing, as most steps that end a line do.
+pub(crate) fn is_empty(step: Step) -> bool
+    ensures { λ r. ⌜ (r ≡ true → Empty step) ⌝ }
+{
+    if step.before != 0 {
+        return false;
+    }
+    if step.behind != 0 {
+        return false;
+    }
+    step.from == step.to
+}
+
+// `add_step`, which is left out where there is nothing to add.
+pub(crate) fn add_some(measure: Measure, list: &[u8], step: Step) -> Measure
+    requires { ⌜ (step .from ≤ step .to) × (step .to ≤ length (now list)) ⌝ }
+    requires { ⌜ Fits measure (step .before + (step .to - step .from) + step .behind) ⌝ }
+    ensures { λ r. ⌜ ((bytes : List ℕ) → Measured measure bytes → Measured r (bytes ++ (spaces (step .before) ++ (slice (step .from) (step .to) (now (list .entry)) ++ spaces (step .behind))))) ⌝ }
+    ensures { λ r. ⌜ (r .length ≡ measure .length + (step .before + (step .to - step .from) + step .behind)) × (r .leading ≤ r .length) ⌝ }
+{
+    if is_empty(step) {
+        return measure;
+    }
+    add_step(measure, list, step)
 }
 
 // A chunk that starts while the indent is unset sets it.
@@ -183,7 +209,7 @@ pub(crate) fn measure_line(list: &[u8], margins: Margins, spot: Spot) -> Walked
         let run = measure_on(list, margins, measure, indent, here);
         let reached = run.measure;
         let step = piece::step_over(list, margins, run.spot, reached.length);
-        measure = add_step(reached, list, step);
+        measure = add_some(reached, list, step);
         ended = step.ends;
         here = step.spot;
     }
@@ -263,6 +289,18 @@ pub(crate) fn put_step(text: &mut [u8], window: Window, at: usize, list: &[u8], 
     put_bytes(text, window, start, &list[from..to]);
     put_spaces(text, window, end, step.behind);
     end + step.behind
+}
+
+// `put_step`, which is left out where there is nothing to write.
+pub(crate) fn put_some(text: &mut [u8], window: Window, at: usize, list: &[u8], step: Step)
+    requires { ⌜ Room window (length (now text)) × (step .from ≤ step .to) × (step .to ≤ length (now list)) ⌝ }
+    requires { ⌜ at + (step .before + (step .to - step .from) + step .behind) < 4294967296 ⌝ }
+    ensures { λ _. ⌜ now (text .exit) ≡ puts (now (text .entry)) window at (spaces (step .before) ++ (slice (step .from) (step .to) (now (list .entry)) ++ spaces (step .behind))) ⌝ }
+{
+    if is_empty(step) {
+        return;
+    }
+    put_step(text, window, at, list, step);
 }
 
 // Writes what the window shows of the line that starts at a spot.
@@ -360,8 +398,8 @@ pub(crate) fn walk_line(
         let run = write_on(text, window, list, margins, measure, indent, here);
         let reached = run.measure;
         let step = piece::step_over(list, margins, run.spot, reached.length);
-        put_step(text, window, reached.length, list, step);
-        measure = add_step(reached, list, step);
+        put_some(text, window, reached.length, list, step);
+        measure = add_some(reached, list, step);
         ended = step.ends;
         here = step.spot;
     }

@@ -36,8 +36,8 @@ step-over-requires c κs =
     let ran = c .before .measure-on .ensures in
     (given .0, ran .standing, ran .some, given .3)
 
-add-step-requires : tie.Need-add-step-requires Inv-loop μ-loop
-add-step-requires c κs =
+add-some-requires : tie.Need-add-some-requires Inv-loop μ-loop
+add-some-requires c κs =
     let turn = c .before .before .before .before .before .loop in
     let stepped = c .step-over .ensures in
     let pausing = pausing-start (rw (not-true (turn .ended) (c .before .before .before .before .loop-test .taken)) at (turn .inv)) (c .before .before .before .takes .ensures) in
@@ -51,7 +51,7 @@ loop-less c =
 loop-again : tie.Need-loop-again Inv-loop μ-loop
 loop-again c =
     let turn = c .before .before .before .before .before .before .before .loop in
-    let counted = c .before .add-step .ensures in
+    let counted = c .before .add-some .ensures in
     let pausing = pausing-start (rw (not-true (turn .ended) (c .before .before .before .before .before .before .loop-test .taken)) at (turn .inv)) (c .before .before .before .before .before .takes .ensures) in
     pausing-on (pausing-run pausing (c .before .before .before .before .measure-on .ensures)) (c .before .before .step-over .ensures) (counted .0) (counted .1 .1)
 
@@ -71,7 +71,7 @@ measure-line-spec =
     takes-requires
     measure-on-requires
     step-over-requires
-    add-step-requires
+    add-some-requires
     loop-less
     loop-again
     indent-of-requires

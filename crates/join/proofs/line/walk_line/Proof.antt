@@ -36,8 +36,8 @@ step-over-requires c κs =
     let ran = c .before .before .before .write-on .ensures .ran in
     (given .0, ran .standing, ran .some, given .3)
 
-put-step-requires : tie.Need-put-step-requires Inv-loop μ-loop
-put-step-requires c κs =
+put-some-requires : tie.Need-put-some-requires Inv-loop μ-loop
+put-some-requires c κs =
     let given = c .before .before .before .before .before .before .before .before .before .before .before .before .pre in
     let turn = c .before .before .before .before .before .before .before .before .before .loop in
     let stepped = c .before .step-over .ensures in
@@ -45,8 +45,8 @@ put-step-requires c κs =
     let on = c .before .before .before .before .before .write-on in
     ((rw (on .kept .0 ∙ turn .inv .1) (given .1), stepped .part, stepped .inside), pausing-fits (placing-run placing (on .ensures) .pausing) stepped (given .0 .3) .small)
 
-add-step-requires : tie.Need-add-step-requires Inv-loop μ-loop
-add-step-requires c κs =
+add-some-requires : tie.Need-add-some-requires Inv-loop μ-loop
+add-some-requires c κs =
     let turn = c .before .before .before .before .before .before .before .before .before .before .before .before .loop in
     let stepped = c .before .before .before .before .step-over .ensures in
     let placing = placing-turn (rw (not-true (turn .ended) (c .before .before .before .before .before .before .before .before .before .before .before .loop-test .taken)) at (turn .inv .0)) (c .before .before .before .before .before .before .before .before .before .before .takes .ensures) in
@@ -60,11 +60,11 @@ loop-less c =
 loop-again : tie.Need-loop-again Inv-loop μ-loop
 loop-again c =
     let turn = c .before .before .before .before .before .before .before .before .before .before .before .before .before .before .loop in
-    let counted = c .before .add-step .ensures in
-    let put = c .before .before .before .before .put-step in
+    let counted = c .before .add-some .ensures in
+    let put = c .before .before .before .before .put-some in
     let on = c .before .before .before .before .before .before .before .before .before .before .write-on in
     let placing = placing-turn (rw (not-true (turn .ended) (c .before .before .before .before .before .before .before .before .before .before .before .before .before .loop-test .taken)) at (turn .inv .0)) (c .before .before .before .before .before .before .before .before .before .before .before .before .takes .ensures) in
-    (placing-on (placing-run placing (on .ensures)) (c .before .before .before .before .before .before .step-over .ensures) (put .ensures .1) (counted .0) (counted .1 .1), put .kept .0 ∙ on .kept .0 ∙ turn .inv .1)
+    (placing-on (placing-run placing (on .ensures)) (c .before .before .before .before .before .before .step-over .ensures) (put .ensures) (counted .0) (counted .1 .1), put .kept .0 ∙ on .kept .0 ∙ turn .inv .1)
 
 indent-of-requires : tie.Need-indent-of-requires Inv-loop μ-loop
 indent-of-requires c κs = search needs
@@ -88,8 +88,8 @@ walk-line-spec =
     takes-requires
     write-on-requires
     step-over-requires
-    put-step-requires
-    add-step-requires
+    put-some-requires
+    add-some-requires
     loop-less
     loop-again
     indent-of-requires
