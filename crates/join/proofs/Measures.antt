@@ -4,10 +4,10 @@ use mathlib.Core.List.{List, _++_}
 use mathlib.Core.Bool.{true, false}
 use Prim.Native.Nat.{ℕ, _+_}
 use native.Mathlib.Omega.{arith}
-use lib.ListN.{length, length-append}
-use Rattle.text.specs.Ink.{allBlank, leadingBlanks, trimEnd, inkEnd}
+use lib.ListN.{length, length-append, length-replicate}
+use Rattle.text.specs.Ink.{allBlank, leadingBlanks, trimEnd, inkEnd, spaces}
 use Rattle.text.proofs.Choices.{by-test, true-false}
-use Rattle.text.proofs.Ink.{blank-append, trim-append-ink, trim-append-blank, ink-end-zero, ink-end-some, leading-append-ink, leading-append-blank, leading-blank}
+use Rattle.text.proofs.Ink.{blank-append, spaces-blank, trim-append-ink, trim-append-blank, ink-end-zero, ink-end-some, leading-append-ink, leading-append-blank, leading-blank}
 use Rattle.join.specs.Walk.{Measured, Inked}
 use Rattle.join.specs.declared.line.Measure.{Measure}
 
@@ -73,6 +73,53 @@ module _ {measure : Measure} {line : List ℕ} (known : Measured measure line) (
     leading = known .leading ∙ sym (leading-append-ink line bytes (line-ink some));
     end = end-behind ink f;
   }
+
+-- ---- a text between spaces, behind a line with ink
+
+module _ {measure : Measure} {line : List ℕ} (known : Measured measure line) (some : measure .«ink_end» ≡ 0 → ⊥) (before : ℕ) (text : List ℕ) (behind : ℕ) where
+  -- the text between its spaces
+  abbrev between : List ℕ
+  between = spaces before ++ (text ++ spaces behind)
+
+  -- how long the line is with them
+  between-length : measure .length + before + length text + behind ≡ length (line ++ between)
+  between-length =
+      omega (
+        arith,
+        known .length,
+        length-append line between,
+        length-append (spaces before) (text ++ spaces behind),
+        length-append text (spaces behind),
+        length-replicate {A = ℕ} before 32,
+        length-replicate {A = ℕ} behind 32,
+      )
+
+  -- its leading blanks stay
+  between-leading : measure .leading ≡ leadingBlanks (line ++ between)
+  between-leading = known .leading ∙ sym (leading-append-ink line between (line-ink known between some))
+
+  -- a blank text leaves the end of the ink
+  pub between-blank : inkEnd text ≡ 0 → Measured (record { length = measure .length + before + length text + behind; leading = measure .leading; «ink_end» = measure .«ink_end» }) (line ++ between)
+  between-blank none =
+      let blank : allBlank between ≡ true =
+      blank-append (spaces before) (text ++ spaces behind) ∙ rw (spaces-blank before, blank-append text (spaces behind), end-blank text none, spaces-blank behind) in
+      record { length = between-length; leading = between-leading; end = known .end ∙ sym (ap length (trim-append-blank line between blank)) }
+
+  -- any other moves it to the text's
+  pub between-ink : {end : ℕ} → end ≡ inkEnd text → (end ≡ 0 → ⊥)
+      → Measured (record { length = measure .length + before + length text + behind; leading = measure .leading; «ink_end» = measure .length + before + end }) (line ++ between)
+  between-ink {end} e inky =
+      let ink : allBlank text ≡ false = end-ink text (λ none. inky (e ∙ none)) in
+      let behind-ink : allBlank (text ++ spaces behind) ≡ false = blank-append text (spaces behind) ∙ rw ink in
+      let all-ink : allBlank between ≡ false = blank-append (spaces before) (text ++ spaces behind) ∙ rw (spaces-blank before, behind-ink) in
+      let trimmed : trimEnd (line ++ between) ≡ line ++ (spaces before ++ trimEnd text) =
+      trim-append-ink line between all-ink
+      ∙ ap (λ (rest : List ℕ). line ++ rest) (trim-append-ink (spaces before) (text ++ spaces behind) behind-ink ∙ ap (λ (rest : List ℕ). spaces before ++ rest) (trim-append-blank text (spaces behind) (spaces-blank behind))) in
+      record {
+        length = between-length;
+        leading = between-leading;
+        end = omega (arith, known .length, ap length trimmed, length-append line (spaces before ++ trimEnd text), length-append (spaces before) (trimEnd text), length-replicate {A = ℕ} before 32);
+      }
 
 -- blanks behind a line measure alike, whichever they are
 pub blanks-alike : (measure : Measure) (line xs ys : List ℕ) → allBlank xs ≡ true → allBlank ys ≡ true → length xs ≡ length ys

@@ -73,6 +73,31 @@ pub(crate) fn add_text(measure: Measure, bytes: &[u8]) -> Measure
     }
 }
 
+// A step's spaces and text more, behind ink: the blanks before the first ink stay as they are.
+pub(crate) fn add_inked(measure: Measure, list: &[u8], step: Step) -> Measure
+    requires { ⌜ (step .from ≤ step .to) × (step .to ≤ length (now list)) × (measure .«ink_end» ≡ 0 → ⊥) ⌝ }
+    requires { ⌜ Fits measure (step .before + (step .to - step .from) + step .behind) ⌝ }
+    ensures { λ r. ⌜ ((bytes : List ℕ) → Measured measure bytes → Measured r (bytes ++ (spaces (step .before) ++ (slice (step .from) (step .to) (now (list .entry)) ++ spaces (step .behind))))) ⌝ }
+    ensures { λ r. ⌜ (r .length ≡ measure .length + (step .before + (step .to - step .from) + step .behind)) × (r .leading ≤ r .length) ⌝ }
+{
+    let from = step.from;
+    let to = step.to;
+    let start = measure.length + step.before;
+    let ink = scans::ink_end(&list[from..to]);
+    if ink == 0 {
+        return Measure {
+            length: start + (to - from) + step.behind,
+            leading: measure.leading,
+            ink_end: measure.ink_end,
+        };
+    }
+    Measure {
+        length: start + (to - from) + step.behind,
+        leading: measure.leading,
+        ink_end: start + ink,
+    }
+}
+
 // A step's spaces and text more.
 pub(crate) fn add_step(measure: Measure, list: &[u8], step: Step) -> Measure
     requires { ⌜ (step .from ≤ step .to) × (step .to ≤ length (now list)) ⌝ }
@@ -80,6 +105,9 @@ pub(crate) fn add_step(measure: Measure, list: &[u8], step: Step) -> Measure
     ensures { λ r. ⌜ ((bytes : List ℕ) → Measured measure bytes → Measured r (bytes ++ (spaces (step .before) ++ (slice (step .from) (step .to) (now (list .entry)) ++ spaces (step .behind))))) ⌝ }
     ensures { λ r. ⌜ (r .length ≡ measure .length + (step .before + (step .to - step .from) + step .behind)) × (r .leading ≤ r .length) ⌝ }
 {
+    if measure.ink_end != 0 {
+        return add_inked(measure, list, step);
+    }
     let from = step.from;
     let to = step.to;
     let padded = add_blanks(measure, step.before);
