@@ -114,7 +114,8 @@ module _ {measure : Measure} {line : List ℕ} (known : Measured measure line) (
       let all-ink : allBlank between ≡ false = blank-append (spaces before) (text ++ spaces behind) ∙ rw (spaces-blank before, behind-ink) in
       let trimmed : trimEnd (line ++ between) ≡ line ++ (spaces before ++ trimEnd text) =
       trim-append-ink line between all-ink
-      ∙ ap (λ (rest : List ℕ). line ++ rest) (trim-append-ink (spaces before) (text ++ spaces behind) behind-ink ∙ ap (λ (rest : List ℕ). spaces before ++ rest) (trim-append-blank text (spaces behind) (spaces-blank behind))) in
+      ∙ ap (λ (rest : List ℕ). line ++ rest) (trim-append-ink (spaces before) (text ++ spaces behind) behind-ink
+      ∙ ap (λ (rest : List ℕ). spaces before ++ rest) (trim-append-blank text (spaces behind) (spaces-blank behind))) in
       record {
         length = between-length;
         leading = between-leading;

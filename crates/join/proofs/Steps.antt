@@ -114,8 +114,16 @@ module _ (margins : Margins) (list : List ℕ) (spot : Spot) (n : ℕ) (piece : 
       let size : length (added margins n (pieceAt list spot)) ≡ lay .before + (1 + lay .behind) =
       ap length adds ∙ rw one (simp (length-append, length-replicate) (omega arith)) in
       let blank : allBlank (added margins n (pieceAt list spot)) ≡ true =
-      ap allBlank adds ∙ rw (one, blank-append (spaces (lay .before)) ((10 ∷ []) ++ spaces (lay .behind)), blank-append (10 ∷ []) (spaces (lay .behind)), spaces-blank (lay .before), spaces-blank (lay .behind), newline-blank) in
-      stepped _ false (added margins n (pieceAt list spot)) kept refl refl (omega arith) (omega (arith, piece-some list spot standing inside, end)) (omega (arith, lays-at .small, size, piece-some list spot standing inside, end))
+      ap allBlank adds ∙ rw (
+        one,
+        blank-append (spaces (lay .before)) ((10 ∷ []) ++ spaces (lay .behind)),
+        blank-append (10 ∷ []) (spaces (lay .behind)),
+        spaces-blank (lay .before),
+        spaces-blank (lay .behind),
+        newline-blank,
+      ) in
+      stepped _ false (added margins n (pieceAt list spot)) kept refl refl (omega arith) (omega (arith, piece-some list spot standing inside, end))
+      (omega (arith, lays-at .small, size, piece-some list spot standing inside, end))
       (rw (slice-empty (spot .at) list)) blank (λ e. true-false e)
       (rw newlined (sym (or-true (leb (length list) (spot .end)))))
 

@@ -338,14 +338,13 @@ pub(crate) fn step_over(list: &[u8], margins: Margins, spot: Spot, column: usize
     let at = spot.at;
     let end = spot.end;
     if ends_line(list, margins, spot, column) {
-        let next = spot_after(list, spot, end);
         return Step {
             before: 0,
             from: at,
             to: at,
             behind: 0,
             ends: true,
-            spot: next,
+            spot: spot_after(list, spot, end),
         };
     }
     let last = list.len() <= end;

@@ -27,7 +27,8 @@ measure-on-requires : tie.Need-measure-on-requires Inv-loop μ-loop
 measure-on-requires c κs =
     let given = c .before .before .before .before .pre in
     let turn = c .before .before .loop in
-    let pausing = pausing-start (rw (not-true (turn .ended) (c .before .loop-test .taken)) at (turn .inv)) (c .takes .ensures) in
+    let going = not-true (turn .ended) (c .before .loop-test .taken) in
+    let pausing = pausing-start (rw going at (turn .inv)) (c .takes .ensures) in
     ((given .0, pausing .walking .standing, pausing .walking .more refl, given .3), (pausing .fits, pausing-short pausing))
 
 step-over-requires : tie.Need-step-over-requires Inv-loop μ-loop
@@ -39,8 +40,9 @@ step-over-requires c κs =
 add-some-requires : tie.Need-add-some-requires Inv-loop μ-loop
 add-some-requires c κs =
     let turn = c .before .before .before .before .before .loop in
+    let going = not-true (turn .ended) (c .before .before .before .before .loop-test .taken) in
+    let pausing = pausing-start (rw going at (turn .inv)) (c .before .before .before .takes .ensures) in
     let stepped = c .step-over .ensures in
-    let pausing = pausing-start (rw (not-true (turn .ended) (c .before .before .before .before .loop-test .taken)) at (turn .inv)) (c .before .before .before .takes .ensures) in
     ((stepped .part, stepped .inside), pausing-fits (pausing-run pausing (c .before .before .measure-on .ensures)) stepped (c .before .before .before .before .before .before .before .pre .3))
 
 loop-less : tie.Need-loop-less Inv-loop μ-loop
@@ -51,8 +53,9 @@ loop-less c =
 loop-again : tie.Need-loop-again Inv-loop μ-loop
 loop-again c =
     let turn = c .before .before .before .before .before .before .before .loop in
+    let going = not-true (turn .ended) (c .before .before .before .before .before .before .loop-test .taken) in
+    let pausing = pausing-start (rw going at (turn .inv)) (c .before .before .before .before .before .takes .ensures) in
     let counted = c .before .add-some .ensures in
-    let pausing = pausing-start (rw (not-true (turn .ended) (c .before .before .before .before .before .before .loop-test .taken)) at (turn .inv)) (c .before .before .before .before .before .takes .ensures) in
     pausing-on (pausing-run pausing (c .before .before .before .before .measure-on .ensures)) (c .before .before .step-over .ensures) (counted .0) (counted .1 .1)
 
 indent-of-requires : tie.Need-indent-of-requires Inv-loop μ-loop

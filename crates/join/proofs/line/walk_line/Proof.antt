@@ -27,7 +27,8 @@ write-on-requires : tie.Need-write-on-requires Inv-loop μ-loop
 write-on-requires c κs =
     let given = c .before .before .before .before .before .before .pre in
     let turn = c .before .before .before .loop in
-    let pausing = placing-turn (rw (not-true (turn .ended) (c .before .before .loop-test .taken)) at (turn .inv .0)) (c .before .takes .ensures) .pausing in
+    let going = not-true (turn .ended) (c .before .before .loop-test .taken) in
+    let pausing = placing-turn (rw going at (turn .inv .0)) (c .before .takes .ensures) .pausing in
     ((given .0 .0, pausing .walking .standing, pausing .walking .more refl, given .0 .3), ((pausing .fits, pausing-short pausing), rw (turn .inv .1) (given .1)))
 
 step-over-requires : tie.Need-step-over-requires Inv-loop μ-loop
@@ -40,17 +41,22 @@ put-some-requires : tie.Need-put-some-requires Inv-loop μ-loop
 put-some-requires c κs =
     let given = c .before .before .before .before .before .before .before .before .before .before .before .before .pre in
     let turn = c .before .before .before .before .before .before .before .before .before .loop in
-    let stepped = c .before .step-over .ensures in
-    let placing = placing-turn (rw (not-true (turn .ended) (c .before .before .before .before .before .before .before .before .loop-test .taken)) at (turn .inv .0)) (c .before .before .before .before .before .before .before .takes .ensures) in
+    let going = not-true (turn .ended) (c .before .before .before .before .before .before .before .before .loop-test .taken) in
+    let placing = placing-turn (rw going at (turn .inv .0)) (c .before .before .before .before .before .before .before .takes .ensures) in
     let on = c .before .before .before .before .before .write-on in
-    ((rw (on .kept .0 ∙ turn .inv .1) (given .1), stepped .part, stepped .inside), pausing-fits (placing-run placing (on .ensures) .pausing) stepped (given .0 .3) .small)
+    let stepped = c .before .step-over .ensures in
+    let fits = pausing-fits (placing-run placing (on .ensures) .pausing) stepped (given .0 .3) in
+    ((rw (on .kept .0 ∙ turn .inv .1) (given .1), stepped .part, stepped .inside), fits .small)
 
 add-some-requires : tie.Need-add-some-requires Inv-loop μ-loop
 add-some-requires c κs =
+    let given = c .before .before .before .before .before .before .before .before .before .before .before .before .before .before .before .pre in
     let turn = c .before .before .before .before .before .before .before .before .before .before .before .before .loop in
+    let going = not-true (turn .ended) (c .before .before .before .before .before .before .before .before .before .before .before .loop-test .taken) in
+    let placing = placing-turn (rw going at (turn .inv .0)) (c .before .before .before .before .before .before .before .before .before .before .takes .ensures) in
+    let on = c .before .before .before .before .before .before .before .before .write-on in
     let stepped = c .before .before .before .before .step-over .ensures in
-    let placing = placing-turn (rw (not-true (turn .ended) (c .before .before .before .before .before .before .before .before .before .before .before .loop-test .taken)) at (turn .inv .0)) (c .before .before .before .before .before .before .before .before .before .before .takes .ensures) in
-    ((stepped .part, stepped .inside), pausing-fits (placing-run placing (c .before .before .before .before .before .before .before .before .write-on .ensures) .pausing) stepped (c .before .before .before .before .before .before .before .before .before .before .before .before .before .before .before .pre .0 .3))
+    ((stepped .part, stepped .inside), pausing-fits (placing-run placing (on .ensures) .pausing) stepped (given .0 .3))
 
 loop-less : tie.Need-loop-less Inv-loop μ-loop
 loop-less c =
@@ -60,11 +66,13 @@ loop-less c =
 loop-again : tie.Need-loop-again Inv-loop μ-loop
 loop-again c =
     let turn = c .before .before .before .before .before .before .before .before .before .before .before .before .before .before .loop in
-    let counted = c .before .add-some .ensures in
-    let put = c .before .before .before .before .put-some in
+    let going = not-true (turn .ended) (c .before .before .before .before .before .before .before .before .before .before .before .before .before .loop-test .taken) in
+    let placing = placing-turn (rw going at (turn .inv .0)) (c .before .before .before .before .before .before .before .before .before .before .before .before .takes .ensures) in
     let on = c .before .before .before .before .before .before .before .before .before .before .write-on in
-    let placing = placing-turn (rw (not-true (turn .ended) (c .before .before .before .before .before .before .before .before .before .before .before .before .before .loop-test .taken)) at (turn .inv .0)) (c .before .before .before .before .before .before .before .before .before .before .before .before .takes .ensures) in
-    (placing-on (placing-run placing (on .ensures)) (c .before .before .before .before .before .before .step-over .ensures) (put .ensures) (counted .0) (counted .1 .1), put .kept .0 ∙ on .kept .0 ∙ turn .inv .1)
+    let stepped = c .before .before .before .before .before .before .step-over .ensures in
+    let put = c .before .before .before .before .put-some in
+    let counted = c .before .add-some .ensures in
+    (placing-on (placing-run placing (on .ensures)) stepped (put .ensures) (counted .0) (counted .1 .1), put .kept .0 ∙ on .kept .0 ∙ turn .inv .1)
 
 indent-of-requires : tie.Need-indent-of-requires Inv-loop μ-loop
 indent-of-requires c κs = search needs

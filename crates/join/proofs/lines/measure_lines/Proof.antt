@@ -29,13 +29,20 @@ cut-of-requires : tie.Need-cut-of-requires Inv-loop μ-loop
 cut-of-requires c κs = (c .before .before .before .before .before .before .before .pre .0, c .before .measure-line .ensures .low)
 
 grown-requires : tie.Need-grown-requires Inv-loop μ-loop
-grown-requires c κs = line-small (c .before .before .before .before .before .loop .inv) (c .before .before .before .before .before .before .before .before .pre .0) (c .before .before .measure-line .ensures) (c .cut-of .ensures) (c .before .before .before .before .before .before .before .before .pre .2)
+grown-requires c κs =
+    let given = c .before .before .before .before .before .before .before .before .pre in
+    let found = c .before .before .measure-line .ensures in
+    line-small (c .before .before .before .before .before .loop .inv) (given .0) found (c .cut-of .ensures) (given .2)
 
 loop-less : tie.Need-loop-less Inv-loop μ-loop
 loop-less c = omega (arith, c .before .before .before .before .before .if1 .taken, c .before .before .before .before .measure-line .ensures .onward)
 
 loop-again : tie.Need-loop-again Inv-loop μ-loop
-loop-again c = rw (c .before .grown .ensures) (running-on (c .before .before .before .before .before .before .before .loop .inv) (c .before .before .before .before .before .before .before .before .before .before .pre .0) (c .before .before .before .before .measure-line .ensures) (c .before .before .cut-of .ensures))
+loop-again c =
+    let turn = c .before .before .before .before .before .before .before .loop .inv in
+    let narrow = c .before .before .before .before .before .before .before .before .before .before .pre .0 in
+    let found = c .before .before .before .before .measure-line .ensures in
+    rw (c .before .grown .ensures) (running-on turn narrow found (c .before .before .cut-of .ensures))
 
 returns : tie.Need-returns Inv-loop μ-loop
 returns c = running-length (c .before .before .loop .inv) (c .if1 .left) (c .before .before .before .before .before .pre .2)

@@ -30,12 +30,13 @@ same-length c = search needs
 returns : tie.Need-returns
 returns c =
     let start = c .before .before .before .before .before .before .before .before .before .before .before .before .before .before .before .before .before in
-    let size = c .before .before .before .before .before .before .before .fill .kept .0 ∙ c .before .before .before .before .before .before .before .before .before .before .before .put-newline .kept .0 in
-    let walked = c .before .before .walk-line .ensures in (
-      walked .0,
-      line-tried (start .args .past) (start .args .guess) _ _ _ _ _ (c .before .before .before .before .before .before .before .before .before .before .before .before .before .before .line-start .ensures)
-          (c .before .before .before .before .before .before .before .before .before .before .before .put-newline .ensures) (c .before .before .before .before .before .before .before .fill .ensures .1) (rw (c .before .before .before .before .window-of .ensures .0, size) at (walked .1)),
-    )
+    let started = c .before .before .before .before .before .before .before .before .before .before .before .before .before .before .line-start .ensures in
+    let newlined = c .before .before .before .before .before .before .before .before .before .before .before .put-newline in
+    let led = c .before .before .before .before .before .before .before .fill in
+    let window = c .before .before .before .before .window-of .ensures .0 in
+    let walked = c .before .before .walk-line .ensures in
+    let size = led .kept .0 ∙ newlined .kept .0 in
+    (walked .0, line-tried (start .args .past) (start .args .guess) _ _ _ _ _ started (newlined .ensures) (led .ensures .1) (rw (window, size) at (walked .1)))
 
 pub try-line-spec : {M : Type 1} → statement M
 try-line-spec =

@@ -34,8 +34,10 @@ same-length c = search needs
 returns : tie.Need-returns
 returns c =
     let start = c .before .before .before .before .before .before .before .before .before .before .before .before .before .before .before .before in
-    cut-shown (start .args .past) (start .args .cut) _ _ _ _ _ (start .pre .1 .0) (c .before .before .before .before .before .before .before .before .before .before .before .before .before .line-start .ensures) (start .pre .1 .1)
-    (c .before .before .before .before .before .before .before .before .before .before .put-newline .ensures) (c .before .before .before .before .before .before .fill .ensures .1) (c .before .before .write-line .ensures)
+    let started = c .before .before .before .before .before .before .before .before .before .before .before .before .before .line-start .ensures in
+    let newlined = c .before .before .before .before .before .before .before .before .before .before .put-newline .ensures in
+    let led = c .before .before .before .before .before .before .fill .ensures .1 in
+    cut-shown (start .args .past) (start .args .cut) _ _ _ _ _ (start .pre .1 .0) started (start .pre .1 .1) newlined led (c .before .before .write-line .ensures)
 
 pub write-cut-spec : {M : Type 1} → statement M
 write-cut-spec =

@@ -42,15 +42,20 @@ mend-requires c κs =
     let given = c .before .before .before .before .before .before .before .before .before .before .before .before .before .before .pre in
     let turn = c .before .before .before .before .before .before .before .before .before .before .loop .inv in
     let running = turn .0 .running in
+    let guess = c .before .before .before .before .before .before .before .guess-of .result in
     let tried = c .before .before .before .before .before .try-line in
     let found = tried .ensures .0 in
     let made = c .before .cut-of .ensures in (
       (given .0 .0, running .standing, c .before .before .before .before .before .before .before .before .if1 .taken, given .0 .2),
-      (line-fits running (given .0 .0) found made, λ e. omega (arith, astray-room running (given .0 .0) found made (c .before .before .before .before .before .before .before .guess-of .result) e, turn .1, given .1 .0, tried .kept .0)),
+      (line-fits running (given .0 .0) found made, λ e. omega (arith, astray-room running (given .0 .0) found made guess e, turn .1, given .1 .0, tried .kept .0)),
     )
 
 grown-requires : tie.Need-grown-requires Inv-loop μ-loop
-grown-requires c κs = line-small (c .before .before .before .before .before .before .before .before .before .before .before .before .before .loop .inv .0 .running) (c .before .before .before .before .before .before .before .before .before .before .before .before .before .before .before .before .before .pre .0 .0) (c .before .before .before .before .before .before .before .before .try-line .ensures .0) (c .before .before .before .before .cut-of .ensures) (c .before .before .before .before .before .before .before .before .before .before .before .before .before .before .before .before .before .pre .0 .2)
+grown-requires c κs =
+    let given = c .before .before .before .before .before .before .before .before .before .before .before .before .before .before .before .before .before .pre .0 in
+    let running = c .before .before .before .before .before .before .before .before .before .before .before .before .before .loop .inv .0 .running in
+    let found = c .before .before .before .before .before .before .before .before .try-line .ensures .0 in
+    line-small running (given .0) found (c .before .before .before .before .cut-of .ensures) (given .2)
 
 loop-less : tie.Need-loop-less Inv-loop μ-loop
 loop-less c = omega (arith, c .before .before .before .before .before .before .before .before .before .before .before .before .before .if1 .taken, c .before .before .before .before .before .before .before .before .before .before .try-line .ensures .0 .onward)
@@ -59,10 +64,12 @@ loop-again : tie.Need-loop-again Inv-loop μ-loop
 loop-again c =
     let given = c .before .before .before .before .before .before .before .before .before .before .before .before .before .before .before .before .before .before .before .pre in
     let turn = c .before .before .before .before .before .before .before .before .before .before .before .before .before .before .before .loop .inv in
-    let tried = c .before .before .before .before .before .before .before .before .before .before .try-line in (
-      rw (c .before .grown .ensures) (holding-on (turn .0 .running) (given .0 .0) (tried .ensures .0) (c .before .before .before .before .before .before .cut-of .ensures) (turn .0 .held) (turn .1 ∙ given .1 .0)
-          (tried .ensures .1) (c .before .before .before .before .mend .ensures) (tried .kept .0)),
-      c .before .before .before .before .mend .kept .0 ∙ tried .kept .0 ∙ turn .1,
+    let tried = c .before .before .before .before .before .before .before .before .before .before .try-line in
+    let made = c .before .before .before .before .before .before .cut-of .ensures in
+    let mended = c .before .before .before .before .mend in (
+      rw (c .before .grown .ensures) (holding-on (turn .0 .running) (given .0 .0) (tried .ensures .0) made (turn .0 .held) (turn .1 ∙ given .1 .0)
+          (tried .ensures .1) (mended .ensures) (tried .kept .0)),
+      mended .kept .0 ∙ tried .kept .0 ∙ turn .1,
     )
 
 same-length : tie.Need-same-length Inv-loop μ-loop

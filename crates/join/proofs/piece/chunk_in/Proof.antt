@@ -51,7 +51,8 @@ add-t17 c = search needs
 returns-2 : tie.Need-returns-2
 returns-2 c =
     let start = c .before .before .before .before .before .before .before in
-    let found = found-plain _ _ (start .pre .0) (start .pre .1) (c .before .before .before .before .wide .ensures .0) (c .before .before .if2 .taken) (c .before .type-of .ensures) (c .number-at2 .ensures .0) in
+    let map = c .before .before .before .before .wide .ensures .0 in
+    let found = found-plain _ _ (start .pre .0) (start .pre .1) map (c .before .before .if2 .taken) (c .before .type-of .ensures) (c .number-at2 .ensures .0) in
     (found, found-fits _ _ _ (λ i. omega (arith, c .before .before .before .before .before .before .shared-slice-known .given i)) found)
 
 add-start-3 : tie.Need-add-start-3
@@ -70,7 +71,9 @@ add-number-at-4 : tie.Need-add-number-at-4
 add-number-at-4 c = search needs
 
 number-at-requires-4 : tie.Need-number-at-requires-4
-number-at-requires-4 c κs = omega (arith, indented-inside _ _ (c .before .before .before .before .before .before .before .pre .0) (c .before .before .before .before .before .before .before .pre .1) (c .before .before .before .before .wide .ensures .0) (c .before .before .if2 .left))
+number-at-requires-4 c κs =
+    let start = c .before .before .before .before .before .before .before in
+    omega (arith, indented-inside _ _ (start .pre .0) (start .pre .1) (c .before .before .before .before .wide .ensures .0) (c .before .before .if2 .left))
 
 add-t24 : tie.Need-add-t24
 add-t24 c = search needs
@@ -78,8 +81,9 @@ add-t24 c = search needs
 returns-3 : tie.Need-returns-3
 returns-3 c =
     let start = c .before .before .before .before .before .before .before .before in
-    let found = found-indented _ _ (start .pre .0) (start .pre .1) (c .before .before .before .before .before .wide .ensures .0) (c .before .before .before .if2 .left) (c .before .before .type-of2 .ensures)
-    (c .before .number-at3 .ensures .0) (c .number-at4 .ensures .0) in
+    let map = c .before .before .before .before .before .wide .ensures .0 in
+    let ty = c .before .before .type-of2 .ensures in
+    let found = found-indented _ _ (start .pre .0) (start .pre .1) map (c .before .before .before .if2 .left) ty (c .before .number-at3 .ensures .0) (c .number-at4 .ensures .0) in
     (found, found-fits _ _ _ (λ i. omega (arith, c .before .before .before .before .before .before .before .shared-slice-known .given i)) found)
 
 pub chunk-in-spec : {M : Type 1} → statement M
