@@ -9,7 +9,7 @@ use Rattle.answers.specs.declared.Refusal.{Refusal}
 use Rattle.text.proofs.Choices.{by-test}
 use Rattle.chunks.specs.declared.stored.ChunkType.{ChunkType}
 use Rattle.printing.specs.Events.{Events, nothing, push, space, clear, trim, stop, _▹_}
-use Rattle.printing.specs.Running.{Run, going, ended, run, spaced, cleared, trimmed, noRoom, settled, finished, outcome, placeOf, Shown}
+use Rattle.printing.specs.Running.{Run, going, ended, run, spaced, cleared, trimmed, noRoom, settled, finished, outcome, placeOf, Shown, Prints}
 use Rattle.printing.specs.declared.Context.{Context}
 use Rattle.printing.specs.declared.CodeFormatter.{CodeFormatter}
 use Rattle.printing.specs.declared.Printed.{Printed}
@@ -179,3 +179,37 @@ finish {answer} {room} {events} {before} {at} {end} {state} all answered place =
     (λ full.
     let same : answer ≡ Refused (noRoom state) = rw full at answered in
     record { state = rw (same, all .ran, full); next = rw same })
+
+-- ---- what goes on from an answer
+
+-- an answer is shown, and what goes on from it
+infixr 50 _thence_
+pub _thence_ : {answer last : Printed} {room left : List ℕ} {first next : Events} {before : Run} {end behind : ℕ}
+    → Shown answer room first before end → Shown last left next (outcome answer room) behind → Shown last left (first ▹ next) before behind
+unfolding run
+_thence_ {first = first} {next = next} {before = before} one other =
+    record { state = other .state ∙ ap (λ (x : Run). settled (run next x)) (one .state) ∙ run-settled next (run first before); next = other .next }
+
+-- what is shown of events is shown of others that run alike
+pub alike : {answer : Printed} {room : List ℕ} {events others : Events} {before : Run} {end : ℕ} → ((x : Run) → run events x ≡ run others x)
+    → Shown answer room events before end → Shown answer room others before end
+alike {before = before} same shown = record { state = shown .state ∙ ap settled (same before); next = shown .next }
+
+-- what was refused stays refused
+pub refused-before : {before : Printed} {room : List ℕ} {events : ℕ → Events} {end : ℕ → ℕ} {why : Refusal} → before ≡ Refused why
+    → Prints before room before room events end
+refused-before {room = room} {events} {end} {why} is = record {
+  from = λ at here. record {
+    state = ap (λ (a : Printed). outcome a room) is ∙ sym (ap (λ (a : Printed). settled (run (events at) (outcome a room))) is ∙ ap settled (run-ended (events at) room why));
+    next = ap (λ (a : Printed). placeOf a (end at)) is;
+  };
+}
+
+-- what was done goes on
+pub done-before : {answer before : Printed} {room left : List ℕ} {events : ℕ → Events} {end : ℕ → ℕ} {state : CodeFormatter} {place : ℕ} → before ≡ Done state place
+    → Shown answer left (events place) (going room state) (end place) → Prints answer left before room events end
+done-before {answer} {before} {room} {left} {events} {end} {state} {place} is shown = record {
+  from = λ at here.
+      let same : place ≡ at = sym (ap (λ (a : Printed). placeOf a at) is) ∙ here in
+      rw (← same, is) shown;
+}

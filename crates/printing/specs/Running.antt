@@ -123,3 +123,7 @@ placeOf (Refused why) end = end
 pub record Shown (answer : Printed) (room : List ℕ) (events : Events) (before : Run) (end : ℕ) : Type 0 where
   pub state : outcome answer room ≡ settled (run events before)
   pub next : placeOf answer end ≡ end
+
+-- what a printer shows that goes on from an answer: at the place of that answer, whichever it is, it shows the events there, and the place behind them
+pub record Prints (answer : Printed) (left : List ℕ) (before : Printed) (room : List ℕ) (events : ℕ → Events) (end : ℕ → ℕ) : Type 0 where
+  pub from : (at : ℕ) → placeOf before at ≡ at → Shown answer left (events at) (outcome before room) (end at)

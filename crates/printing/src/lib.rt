@@ -6,10 +6,12 @@ use chunks::append::Appended;
 use chunks::stored::ChunkType;
 use options::FormattingOptions;
 ghost use mathlib.Core.Path.{_≡_};
-ghost use mathlib.Core.List.{[], _++_};
+ghost use mathlib.Core.List.{List, [], _++_};
+ghost use Prim.Native.Nat.{ℕ};
 ghost use lib.ListN.{length};
 ghost use Rattle.text.specs.Lines.{isEmpty, isNewline};
-ghost use Rattle.printing.specs.Running.{withSpace, atStart, spaced, cleared, trimmed, grown, filled, behind, pushed, pushedRoom, finished};
+ghost use Rattle.printing.specs.Events as Events;
+ghost use Rattle.printing.specs.Running.{withSpace, atStart, spaced, cleared, trimmed, grown, filled, behind, pushed, pushedRoom, finished, Prints};
 
 // What stays the same down a subtree.
 pub struct Context {
@@ -157,6 +159,73 @@ impl CodeFormatter {
             reason: Reason::WorkRoom,
             place: self.full,
         })
+    }
+}
+
+// The same from an answer on: what was refused stays refused, and nothing more is done.
+impl Printed {
+    // Pushes a text of code.
+    pub fn push(self, room: &mut [u8], context: Context, text: &[u8]) -> Self
+        ensures { λ r. ⌜ Prints r (now (room .exit)) self (now (room .entry)) (λ at. Events.push ChunkType.Code context (now (text .entry))) (λ at. at) ⌝ }
+    {
+        let Printed::Done(state, at) = self else {
+            return self;
+        };
+        let next = state.push(room, context, text);
+        next.finish(at)
+    }
+
+    // A space goes before the next text.
+    pub fn spc_if_next(self) -> Self
+        ensures { λ r. ⌜ ((room : List ℕ) → Prints r room self room (λ at. Events.space) (λ at. at)) ⌝ }
+    {
+        let Printed::Done(state, at) = self else {
+            return self;
+        };
+        let next = state.spc_if_next();
+        next.finish(at)
+    }
+
+    // No space goes before the next text.
+    pub fn clear_spc_if_next(self) -> Self
+        ensures { λ r. ⌜ ((room : List ℕ) → Prints r room self room (λ at. Events.clear) (λ at. at)) ⌝ }
+    {
+        let Printed::Done(state, at) = self else {
+            return self;
+        };
+        let next = state.clear_spc_if_next();
+        next.finish(at)
+    }
+
+    // Drops the newline chunks at the end.
+    pub fn trim_newlines(self) -> Self
+        ensures { λ r. ⌜ ((room : List ℕ) → Prints r room self room (λ at. Events.trim) (λ at. at)) ⌝ }
+    {
+        let Printed::Done(state, at) = self else {
+            return self;
+        };
+        let next = state.trim_newlines();
+        next.finish(at)
+    }
+
+    // Nothing more is done.
+    pub fn settled(self) -> Self
+        ensures { λ r. ⌜ ((room : List ℕ) → Prints r room self room (λ at. Events.nothing) (λ at. at)) ⌝ }
+    {
+        let Printed::Done(state, at) = self else {
+            return self;
+        };
+        state.finish(at)
+    }
+
+    // Goes on from another place.
+    pub fn moved_to(self, place: usize) -> Self
+        ensures { λ r. ⌜ ((room : List ℕ) → Prints r room self room (λ at. Events.nothing) (λ at. place)) ⌝ }
+    {
+        let Printed::Done(state, _) = self else {
+            return self;
+        };
+        state.finish(place)
     }
 }
 
