@@ -19,7 +19,7 @@ use Rattle.tree.specs.declared.grammar.Class.{Class}
 use Rattle.tree.proofs.OwnBytes.{leafNumber}
 
 -- the number of a kind: the first byte of its stored form
-pub kindNumber : Kind → ℕ
+unfoldable pub kindNumber : Kind → ℕ
 kindNumber kind = getD (storedWith [] (built kind [] [])) 0 0
 
 -- the stored forms of so many trees from a place of a list on

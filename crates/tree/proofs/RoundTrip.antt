@@ -13,7 +13,7 @@ use borrow.Author.Tests.{ltb-true, ltb-false, leb-false, eqb-true, eqb-false}
 use Rattle.answers.specs.declared.Checked.the-variants.{Passed}
 use Rattle.text.specs.Numbers.{twoBytes, numberAt}
 use Rattle.text.specs.Ink.{flat}
-use Rattle.text.proofs.Choices.{by-test, true-false, and-true-right}
+use Rattle.text.proofs.Choices.{by-test, true-false, and-true-left, and-true-right}
 use Rattle.tree.specs.Grammar.{Slot, must, may, kindOf, rule, fields}
 use Rattle.tree.specs.Tree.{Tree, Trivium, chain, built}
 use Rattle.tree.specs.Own.{isList, fieldsFit, textFits, elseFits, triviaFits, mapFits, triviaEnd, triviaRead, ownOf, readOwn}
@@ -152,14 +152,14 @@ form-bit [] forms some = absurd (omega arith)
 form-bit (byte ∷ form) forms some = refl
 
 -- there are as many trees as parts
-trees-counted : (reader : Reader) (parts : List Due) (at : ℕ) → length (readParts reader parts at .trees) ≡ length parts
+pub trees-counted : (reader : Reader) (parts : List Due) (at : ℕ) → length (readParts reader parts at .trees) ≡ length parts
 unfolding readParts
 trees-counted reader [] at = refl
 trees-counted reader (nothing ∷ parts) at = rw (trees-counted reader parts at)
 trees-counted reader (due class ∷ parts) at = rw (trees-counted reader parts (reader class at .end))
 
 -- there are as many fields as slots
-fields-counted : (slots : List Slot) (bits : ℕ) → length (fieldsDue slots bits) ≡ length slots
+pub fields-counted : (slots : List Slot) (bits : ℕ) → length (fieldsDue slots bits) ≡ length slots
 unfolding fieldsDue
 fields-counted [] bits = refl
 fields-counted (slot ∷ slots) bits = rw (fields-counted slots (bits / 2))
@@ -205,7 +205,7 @@ module _ (bytes : List ℕ) (reader : Reader) (below : (class : Class) (at : ℕ
 -- ---- a record
 
 -- without items a node or leaf has only its fields
-no-items : (items : Items) → itemsDue items 0 ≡ []
+pub no-items : (items : Items) → itemsDue items 0 ≡ []
 no-items NoList = refl
 no-items (ListOf class) = refl
 
@@ -229,11 +229,13 @@ leaf-fits rule number kind map fits leaf =
     (λ q. rw leaf at (and-true-right (triviaFits rule number map) _ (rw q at fits)))
 
 -- one that fits a node's record fits its fields
-node-fits : (rule : Rule) (number : ℕ) (kind : Kind) (map : ℕ) → mapFits rule number kind map ≡ true → eqb number 24 ≡ false → leafNumber number ≡ false
-    → fieldsFit (fields kind (rule .value)) (map / 2) ≡ true
+pub node-fits : (rule : Rule) (number : ℕ) (kind : Kind) (map : ℕ) → mapFits rule number kind map ≡ true → eqb number 24 ≡ false → leafNumber number ≡ false
+    → (elseFits number (map / 2) ≡ true) × (fieldsFit (fields kind (rule .value)) (map / 2) ≡ true)
 unfolding mapFits
 node-fits rule number kind map fits list leaf =
-    and-true-right (elseFits number (map / 2)) _ (rw leaf at (and-true-right (triviaFits rule number map) _ (rw list at fits)))
+    let both : (elseFits number (map / 2) && fieldsFit (fields kind (rule .value)) (map / 2)) ≡ true =
+    rw leaf at (and-true-right (triviaFits rule number map) _ (rw list at fits)) in
+    (and-true-left (elseFits number (map / 2)) _ both, and-true-right (elseFits number (map / 2)) _ both)
 
 module _ (bytes : List ℕ) (small : (i : ℕ) → getD bytes i 0 < 256) (reader : Reader) (below : (class : Class) (at : ℕ) → Laid bytes at (reader class at))
     (at : ℕ) (class : Class) where
@@ -311,7 +313,7 @@ module _ (bytes : List ℕ) (small : (i : ℕ) → getD bytes i 0 < 256) (reader
       rw only-fields (λ passed.
       let parts = parts-stand bytes reader below (fieldsDue slots (flags / 2)) end (head .0 .inside) passed in
       let bits = fields-bits bytes reader below slots (flags / 2) end
-      (node-fits (rule class) number kind flags (headed .fits) list leaf) passed in
+      (node-fits (rule class) number kind flags (headed .fits) list leaf .1) passed in
       let byte : triviaBit items + 2 * partBits (map stored trees) ≡ flags = omega (arith, head .1, bits) in
       (rw (as-node, is, ← counted, forms-all trees, byte) (both-stand (head .0) parts), omega (arith, parts .onward)))
 
