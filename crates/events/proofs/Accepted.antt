@@ -120,7 +120,7 @@ held-length room events fine {chunks} {pending} is =
 -- ---- a file that passed
 
 -- its length
-length-passed : (limit : ℕ) (bytes : List ℕ) → lengthChecked limit bytes ≡ Passed → length bytes ≤ limit
+pub length-passed : (limit : ℕ) (bytes : List ℕ) → lengthChecked limit bytes ≡ Passed → length bytes ≤ limit
 length-passed limit bytes e =
     by-choice (eqb (length bytes) 0) _ _ Passed e
     (λ q f. failed-passed f)

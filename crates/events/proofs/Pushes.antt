@@ -2,7 +2,7 @@
 --   file-push : .. EveryPush P (eventsOf (record { options = options; indent = 0 }) (readFile levels bytes .tree))
 use mathlib.Core.Path.{_≡_, refl}
 use mathlib.Core.List.{List, [], _∷_, _++_, map}
-use mathlib.Core.Bool.{Bool, true, false, cond, not, _&&_}
+use mathlib.Core.Bool.{Bool, true, false, cond, not, _&&_, _||_}
 use Prim.Native.Nat.{ℕ, zero, suc, _+_, _-_, _*_, _≤_}
 use Prim.Native.String.{String}
 use native.Mathlib.Omega.{arith}
@@ -10,6 +10,8 @@ use lib.ListN.{length, getD, length-map}
 use lib.Dec.{eqb, leb}
 use borrow.Author.Tests.{leb-true, le-leb}
 use Rattle.answers.specs.declared.Refusal.{Refusal}
+use Rattle.answers.specs.declared.Checked.{Checked}
+use Rattle.answers.specs.declared.Checked.the-variants.{Passed, Failed}
 use Rattle.options.specs.Casings.{casedByte, cased}
 use Rattle.options.specs.declared.Casing.{Casing}
 use Rattle.options.specs.declared.Casing.the-variants.{Uppercase, Lowercase}
@@ -33,7 +35,8 @@ use Rattle.printing.specs.declared.Context.{Context}
 use Rattle.events.specs.Printed.{Style, plain, mnemonic, register, operator, dataSize, encoding, variableType, numberType, modifier, ascii}
 use Rattle.events.specs.Printed.{mnemonics, registers, operators, dataSizes, encodings, variableTypes, numberTypes, modifiers, printed}
 use Rattle.events.specs.Views.{ownTrivia, headTrivia, tokenNumber, stands, hasBlock, indexOf}
-use Rattle.events.specs.Trees.{word, triviumEvents, triviaEvents, onlyNewline, leadEvents, listTrivia, afterSame, afterOther, Before, first}
+use Rattle.events.specs.Refusals.{firstRefusal, ownRefusal, headRefusal}
+use Rattle.events.specs.Trees.{stopAt, skipping, word, triviumEvents, triviaEvents, onlyNewline, leadEvents, listTrivia, afterSame, afterOther, Before, first}
 use Rattle.events.specs.Trees.{behind, breakBefore, Closing, fileEnd, blockEnd, Place, leaf, labelled, arguments, imports, inString, tokens}
 use Rattle.events.specs.Trees.{closingEvents, endEvents, itemEvents, leafEvents, valueShown, opening, elseEvents, operandEvents, eventsIn}
 use Rattle.events.specs.Trees.{eventsOf}
@@ -138,7 +141,7 @@ inside options n = record { options = options; indent = n }
 -- of the trivia that close a token list the same holds
 abbrev ClosingTexts : (List ℕ → Type 0) → Closing → Type 0
 ClosingTexts Q fileEnd = Unit
-ClosingTexts Q (blockEnd trivia) = EveryTrivia Q trivia
+ClosingTexts Q (blockEnd rparen) = EveryTrivia Q (ownTrivia rparen)
 
 abbrev PlaceTexts : (List ℕ → Type 0) → Place → Type 0
 PlaceTexts Q (leaf style) = Unit
@@ -163,6 +166,15 @@ module _ (Q P : List ℕ → Type 0)
     -- what is chosen either way
     chosen : (test : Bool) (some others : Events) → EveryPush P some → EveryPush P others → EveryPush P (cond test some others)
     chosen test some others s o = cond-both (EveryPush P) test some others (λ t. s) (λ t. o)
+
+    -- a refusal that a reading may have found
+    stop-push : (found : Checked) → EveryPush P (stopAt found)
+    stop-push Passed = none
+    stop-push (Failed why) = stops
+
+    -- a field that is skipped
+    skip-push : (tree : Tree) → EveryPush P (skipping tree)
+    skip-push tree = stop-push (firstRefusal tree)
 
     -- ---- trivia
 
@@ -203,7 +215,8 @@ module _ (Q P : List ℕ → Type 0)
     closing-push : (n : ℕ) → n ≤ 4096 → (drops : Bool) (before : Before) (closing : Closing) → ClosingTexts Q closing
         → EveryPush P (closingEvents (inside options n) drops before closing)
     closing-push n low drops before fileEnd closed = none
-    closing-push n low drops before (blockEnd trivia) closed = list-push n low drops trivia closed and break-push n low before 7 false
+    closing-push n low drops before (blockEnd rparen) closed =
+        stop-push (ownRefusal rparen) and list-push n low drops (ownTrivia rparen) closed and break-push n low before 7 false
 
     -- the end of a list
     end-push : (n : ℕ) → n ≤ 4096 → (place : Place) → PlaceTexts Q place → EveryPush P (endEvents (inside options n) place)
@@ -225,7 +238,7 @@ module _ (Q P : List ℕ → Type 0)
     item-push n low imports closed item texts bare whole b w rest r = w and r imports tt
     item-push n low inString closed item texts bare whole b w rest r = b and r inString tt
     item-push n low (tokens drops before closing) closed item texts bare whole b w rest r =
-        list-push n low drops (headTrivia item) (head-trivia Q item texts) and break-push n low before (tokenNumber item) (hasBlock item)
+        stop-push (headRefusal item) and list-push n low drops (headTrivia item) (head-trivia Q item texts) and break-push n low before (tokenNumber item) (hasBlock item)
         and b and r (tokens false (behind (tokenNumber item)) closing) closed
 
     -- ---- leaves, and what surrounds blocks and operands
@@ -287,14 +300,14 @@ module _ (Q P : List ℕ → Type 0)
         and events-push n (leaf plain) true value tt (texts .2) (omega arith)
     events-push n place shown (Data values size) closed texts room =
         let low : n ≤ 4096 = omega arith in
-        events-push n (leaf dataSize) false size tt (texts .1) (omega arith) and one n 32 low refl
+        skip-push values and events-push n (leaf dataSize) false size tt (texts .1) (omega arith) and one n 32 low refl
         and events-push n arguments true values tt (texts .0) (omega arith)
     events-push n place shown (Definition tag id value) closed texts room =
         let low : n ≤ 4096 = omega arith in
         events-push n (leaf plain) false tag tt (texts .0) (omega arith) and one n 32 low refl
         and events-push n (leaf plain) true id tt (texts .1) (omega arith) and one n 32 low refl
         and events-push n (leaf plain) true value tt (texts .2) (omega arith)
-    events-push n place shown (Eof unit) closed texts room = none
+    events-push n place shown (Eof unit) closed texts room = skip-push unit
     events-push n place shown (Error text) closed texts room = events-push n (leaf plain) false text tt texts room
     events-push n place shown (Expression expression) closed texts room = events-push n (leaf plain) true expression tt texts room
     events-push n place shown (If tagIf value then tagElse otherwise) closed texts room =
@@ -319,7 +332,7 @@ module _ (Q P : List ℕ → Type 0)
         events-push n (leaf mnemonic) false mnemonic′ tt (texts .0) (omega arith) and spaces
         and events-push n (leaf plain) true operand tt (texts .1) (omega arith) and clears
     events-push n place shown (Label id colon block) closed texts room =
-        events-push n labelled false id tt (texts .0) (omega arith) and events-push n (leaf plain) true block tt (texts .2) (omega arith)
+        events-push n labelled false id tt (texts .0) (omega arith) and skip-push colon and events-push n (leaf plain) true block tt (texts .2) (omega arith)
     events-push n place shown (Loop tag expr block) closed texts room =
         let low : n ≤ 4096 = omega arith in
         events-push n (leaf plain) false tag tt (texts .0) (omega arith) and one n 32 low refl
@@ -370,15 +383,16 @@ module _ (Q P : List ℕ → Type 0)
     events-push n place shown (Block lparen inner rparen) closed texts room =
         let low : n ≤ 4096 = omega arith in
         opening-push n low (options .braces .position) _ (events-push n (leaf plain) false lparen tt (texts .0) (omega arith))
-        and events-push (n + options .whitespace .indent) (tokens true first (blockEnd (ownTrivia rparen))) true inner (own-trivia Q rparen (texts .2)) (texts .1) (omega arith)
+        and events-push (n + options .whitespace .indent) (tokens true first (blockEnd rparen)) true inner (own-trivia Q rparen (texts .2)) (texts .1) (omega arith)
         and trims and one n 10 low refl and events-push n (leaf plain) false rparen tt (texts .2) (omega arith)
     events-push n place shown (BinaryExpression op lhs rhs) closed texts room =
         let low : n ≤ 4096 = omega arith in
-        events-push n (leaf plain) true lhs tt (texts .1) (omega arith) and one n 32 low refl
+        skip-push op and events-push n (leaf plain) true lhs tt (texts .1) (omega arith) and one n 32 low refl
         and events-push n (leaf operator) true op tt (texts .0) (omega arith) and one n 32 low refl
         and events-push n (leaf plain) true rhs tt (texts .2) (omega arith)
     events-push n place shown (Factor factor tagNot tagNeg) closed texts room =
-        events-push n (leaf plain) true tagNot tt (texts .1) (omega arith) and events-push n (leaf plain) true tagNeg tt (texts .2) (omega arith)
+        chosen (stands tagNot || stands tagNeg) _ _ (skip-push factor) none
+        and events-push n (leaf plain) true tagNot tt (texts .1) (omega arith) and events-push n (leaf plain) true tagNeg tt (texts .2) (omega arith)
         and events-push n (leaf plain) true factor tt (texts .0) (omega arith)
     events-push n place shown (CurrentProgramCounter star) closed texts room = events-push n (leaf plain) true star tt texts room
     events-push n place shown (ExprParens lparen inner rparen) closed texts room =
@@ -388,7 +402,8 @@ module _ (Q P : List ℕ → Type 0)
         events-push n (leaf plain) true name tt (texts .0) (omega arith) and events-push n (leaf plain) true lparen tt (texts .1) (omega arith)
         and events-push n arguments true args tt (texts .2) (omega arith) and events-push n (leaf plain) true rparen tt (texts .3) (omega arith)
     events-push n place shown (IdentifierValue path modifier′) closed texts room =
-        events-push n (leaf modifier) true modifier′ tt (texts .1) (omega arith) and events-push n (leaf plain) true path tt (texts .0) (omega arith)
+        chosen (stands modifier′) _ _ (skip-push path) none
+        and events-push n (leaf modifier) true modifier′ tt (texts .1) (omega arith) and events-push n (leaf plain) true path tt (texts .0) (omega arith)
     events-push n place shown (Number ty value) closed texts room =
         events-push n (leaf numberType) true ty tt (texts .0) (omega arith) and events-push n (leaf plain) true value tt (texts .1) (omega arith)
     events-push n place shown (StringFactor string) closed texts room = events-push n (leaf plain) true string tt texts room
@@ -397,8 +412,9 @@ module _ (Q P : List ℕ → Type 0)
         events-push n (leaf plain) true lquote tt (texts .0) (omega arith) and events-push n inString true items tt (texts .1) (omega arith)
         and one n 34 low refl
     events-push n place shown (Operand expr lchar rchar mode suffix) closed texts room =
-        events-push n (leaf plain) true lchar tt (texts .1) (omega arith) and events-push n (leaf plain) true expr tt (texts .0) (omega arith)
-        and operand-push (indexOf mode) _ _ (events-push n (leaf plain) true rchar tt (texts .2) (omega arith)) (events-push n (leaf plain) true suffix tt (texts .4) (omega arith))
+        chosen (stands lchar) _ _ (skip-push expr) none
+        and events-push n (leaf plain) true lchar tt (texts .1) (omega arith) and events-push n (leaf plain) true expr tt (texts .0) (omega arith)
+        and skip-push rchar and skip-push mode and operand-push (indexOf mode) _ _ (events-push n (leaf plain) true rchar tt (texts .2) (omega arith)) (events-push n (leaf plain) true suffix tt (texts .4) (omega arith))
     events-push n place shown (RegisterSuffix comma register′) closed texts room =
         events-push n (leaf plain) true comma tt (texts .0) (omega arith) and spaces
         and events-push n (leaf register) true register′ tt (texts .1) (omega arith) and clears

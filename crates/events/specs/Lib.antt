@@ -1,3 +1,4 @@
 pub mod Printed
 pub mod Views
+pub mod Refusals
 pub mod Trees

@@ -4,6 +4,8 @@ use mathlib.Core.List.{List, [], _∷_, _++_}
 use mathlib.Core.Bool.{Bool, true, false, cond, not, _&&_, _||_}
 use lib.ListN.{getD}
 use lib.Dec.{eqb}
+use Rattle.answers.specs.declared.Checked.{Checked}
+use Rattle.answers.specs.declared.Checked.the-variants.{Passed, Failed}
 use Rattle.options.specs.declared.BracePosition.{BracePosition}
 use Rattle.options.specs.declared.BracePosition.the-variants.{SameLine, NewLine}
 use Rattle.chunks.specs.declared.stored.ChunkType.the-variants as chunk
@@ -17,6 +19,7 @@ use Rattle.printing.specs.Events.{Events, nothing, push, space, clear, trim, st
 use Rattle.printing.specs.declared.Context.{Context}
 use Rattle.events.specs.Printed.{Style, plain, mnemonic, register, operator, dataSize, encoding, variableType, numberType, modifier, printed}
 use Rattle.events.specs.Views.{ownTrivia, headTrivia, tokenNumber, stands, hasBlock, indexOf}
+use Rattle.events.specs.Refusals.{firstRefusal, ownRefusal, headRefusal}
 
 -- ---- plain pushes
 
@@ -29,6 +32,16 @@ blank context = word context (32 ∷ [])
 
 abbrev pub newline : Context → Events
 newline context = word context (10 ∷ [])
+
+-- ---- "A reading that finds a refusal ends the walk there."; what was accepted has none
+
+abbrev pub stopAt : Checked → Events
+stopAt Passed = nothing
+stopAt (Failed why) = stop why
+
+-- a field that is not printed, or not yet, is skipped on the way to the next
+abbrev pub skipping : Tree → Events
+skipping tree = stopAt (firstRefusal tree)
 
 -- ---- trivia: `Formattable for &Vec<Trivia>`
 
@@ -93,7 +106,7 @@ breakBefore context (behind previous) number block = cond (breaks previous numbe
 -- the end of a token list: the file's, or a block's, whose `}` stands for an added `Eof` with its trivia
 pub data Closing : Type 0 where
   fileEnd : Closing
-  blockEnd : List Trivium → Closing
+  blockEnd : Tree → Closing
 
 -- how a tree prints by where it stands
 pub data Place : Type 0 where
@@ -106,7 +119,8 @@ pub data Place : Type 0 where
 
 abbrev pub closingEvents : Context → Bool → Before → Closing → Events
 closingEvents context drops before fileEnd = nothing
-closingEvents context drops before (blockEnd trivia) = listTrivia context drops trivia ▹ breakBefore context before 7 false
+closingEvents context drops before (blockEnd rparen) =
+    stopAt (ownRefusal rparen) ▹ listTrivia context drops (ownTrivia rparen) ▹ breakBefore context before 7 false
 
 -- the end of a list
 abbrev pub endEvents : Context → Place → Events
@@ -125,7 +139,7 @@ itemEvents context arguments item bare whole rest = whole ▹ rest arguments
 itemEvents context imports item bare whole rest = whole ▹ rest imports
 itemEvents context inString item bare whole rest = bare ▹ rest inString
 itemEvents context (tokens drops before closing) item bare whole rest =
-    listTrivia context drops (headTrivia item) ▹ breakBefore context before (tokenNumber item) (hasBlock item)
+    stopAt (headRefusal item) ▹ listTrivia context drops (headTrivia item) ▹ breakBefore context before (tokenNumber item) (hasBlock item)
     ▹ bare ▹ rest (tokens false (behind (tokenNumber item)) closing)
 
 -- a leaf's text where it stands; a label is one chunk with its colon
@@ -179,9 +193,9 @@ eventsIn c place shown (Assert tag value message) = eventsIn c (leaf plain) fals
 eventsIn c place shown (Braces block) = eventsIn c (leaf plain) true block
 eventsIn c place shown (Config block) = eventsIn c (leaf plain) true block
 eventsIn c place shown (ConfigPair key eq value) = eventsIn c (leaf plain) false key ▹ blank c ▹ eventsIn c (leaf plain) true eq ▹ blank c ▹ eventsIn c (leaf plain) true value
-eventsIn c place shown (Data values size) = eventsIn c (leaf dataSize) false size ▹ blank c ▹ eventsIn c arguments true values
+eventsIn c place shown (Data values size) = skipping values ▹ eventsIn c (leaf dataSize) false size ▹ blank c ▹ eventsIn c arguments true values
 eventsIn c place shown (Definition tag id value) = eventsIn c (leaf plain) false tag ▹ blank c ▹ eventsIn c (leaf plain) true id ▹ blank c ▹ eventsIn c (leaf plain) true value
-eventsIn c place shown (Eof unit) = nothing
+eventsIn c place shown (Eof unit) = skipping unit
 eventsIn c place shown (Error text) = eventsIn c (leaf plain) false text
 eventsIn c place shown (Expression expression) = eventsIn c (leaf plain) true expression
 eventsIn c place shown (If tagIf value then tagElse otherwise) =
@@ -192,7 +206,7 @@ eventsIn c place shown (Import tag args source filename block) =
     ▹ eventsIn c (leaf plain) true filename ▹ space ▹ eventsIn c (leaf plain) true block
 eventsIn c place shown (File tag filename) = eventsIn c (leaf plain) false tag ▹ blank c ▹ eventsIn c (leaf plain) true filename
 eventsIn c place shown (Instruction mnemonic′ operand) = eventsIn c (leaf mnemonic) false mnemonic′ ▹ space ▹ eventsIn c (leaf plain) true operand ▹ clear
-eventsIn c place shown (Label id colon block) = eventsIn c labelled false id ▹ eventsIn c (leaf plain) true block
+eventsIn c place shown (Label id colon block) = eventsIn c labelled false id ▹ skipping colon ▹ eventsIn c (leaf plain) true block
 eventsIn c place shown (Loop tag expr block) = eventsIn c (leaf plain) false tag ▹ blank c ▹ eventsIn c (leaf plain) true expr ▹ blank c ▹ eventsIn c (leaf plain) true block
 eventsIn c place shown (MacroDefinition tag id lparen args rparen block) =
     eventsIn c (leaf plain) false tag ▹ blank c ▹ eventsIn c (leaf plain) true id ▹ eventsIn c (leaf plain) true lparen
@@ -214,20 +228,23 @@ eventsIn c place shown (Leaf text) = leafEvents c place text
 eventsIn c place shown (PathItem text) = word c (123 ∷ []) ▹ word c text ▹ word c (125 ∷ [])
 eventsIn c place shown (Block lparen inner rparen) =
     opening c (c .options .braces .position) (eventsIn c (leaf plain) false lparen)
-    ▹ eventsIn (deeper c) (tokens true first (blockEnd (ownTrivia rparen))) true inner ▹ trim ▹ newline c ▹ eventsIn c (leaf plain) false rparen
-eventsIn c place shown (BinaryExpression op lhs rhs) = eventsIn c (leaf plain) true lhs ▹ blank c ▹ eventsIn c (leaf operator) true op ▹ blank c ▹ eventsIn c (leaf plain) true rhs
-eventsIn c place shown (Factor factor tagNot tagNeg) = eventsIn c (leaf plain) true tagNot ▹ eventsIn c (leaf plain) true tagNeg ▹ eventsIn c (leaf plain) true factor
+    ▹ eventsIn (deeper c) (tokens true first (blockEnd rparen)) true inner ▹ trim ▹ newline c ▹ eventsIn c (leaf plain) false rparen
+eventsIn c place shown (BinaryExpression op lhs rhs) = skipping op ▹ eventsIn c (leaf plain) true lhs ▹ blank c ▹ eventsIn c (leaf operator) true op ▹ blank c ▹ eventsIn c (leaf plain) true rhs
+eventsIn c place shown (Factor factor tagNot tagNeg) =
+    cond (stands tagNot || stands tagNeg) (skipping factor) nothing
+    ▹ eventsIn c (leaf plain) true tagNot ▹ eventsIn c (leaf plain) true tagNeg ▹ eventsIn c (leaf plain) true factor
 eventsIn c place shown (CurrentProgramCounter star) = eventsIn c (leaf plain) true star
 eventsIn c place shown (ExprParens lparen inner rparen) = eventsIn c (leaf plain) true lparen ▹ eventsIn c (leaf plain) true inner ▹ eventsIn c (leaf plain) true rparen
 eventsIn c place shown (FunctionCall name lparen args rparen) =
     eventsIn c (leaf plain) true name ▹ eventsIn c (leaf plain) true lparen ▹ eventsIn c arguments true args ▹ eventsIn c (leaf plain) true rparen
-eventsIn c place shown (IdentifierValue path modifier′) = eventsIn c (leaf modifier) true modifier′ ▹ eventsIn c (leaf plain) true path
+eventsIn c place shown (IdentifierValue path modifier′) =
+    cond (stands modifier′) (skipping path) nothing ▹ eventsIn c (leaf modifier) true modifier′ ▹ eventsIn c (leaf plain) true path
 eventsIn c place shown (Number ty value) = eventsIn c (leaf numberType) true ty ▹ eventsIn c (leaf plain) true value
 eventsIn c place shown (StringFactor string) = eventsIn c (leaf plain) true string
 eventsIn c place shown (InterpolatedString lquote items) = eventsIn c (leaf plain) true lquote ▹ eventsIn c inString true items ▹ word c (34 ∷ [])
 eventsIn c place shown (Operand expr lchar rchar mode suffix) =
-    eventsIn c (leaf plain) true lchar ▹ eventsIn c (leaf plain) true expr
-    ▹ operandEvents (indexOf mode) (eventsIn c (leaf plain) true rchar) (eventsIn c (leaf plain) true suffix)
+    cond (stands lchar) (skipping expr) nothing ▹ eventsIn c (leaf plain) true lchar ▹ eventsIn c (leaf plain) true expr
+    ▹ skipping rchar ▹ skipping mode ▹ operandEvents (indexOf mode) (eventsIn c (leaf plain) true rchar) (eventsIn c (leaf plain) true suffix)
 eventsIn c place shown (RegisterSuffix comma register′) = eventsIn c (leaf plain) true comma ▹ space ▹ eventsIn c (leaf register) true register′ ▹ clear
 eventsIn c place shown (ImportAs tag path) = eventsIn c (leaf plain) true tag ▹ blank c ▹ eventsIn c (leaf plain) true path
 eventsIn c place shown (ImportAll star alias) = eventsIn c (leaf plain) true star ▹ space ▹ eventsIn c (leaf plain) true alias ▹ clear

@@ -1,7 +1,8 @@
 -- What a record's surroundings read of it: its trivia, its head's trivia, its kind's number, whether it has a block, whether it stands at all.
-use Prim.Native.Nat.{ℕ}
+use Prim.Native.Nat.{ℕ, zero, suc, _/_, _%_}
 use mathlib.Core.List.{List, []}
-use mathlib.Core.Bool.{Bool, true, false}
+use mathlib.Core.Bool.{Bool, true, false, cond}
+use lib.Dec.{eqb}
 use Rattle.tree.specs.Tree.{Tree, Trivium, absent, refused, node, nil, cons, Align, Assert, Braces, Config, ConfigPair, Data, Definition, Eof, Error}
 use Rattle.tree.specs.Tree.{Expression, If, Import, File, Instruction, Label, Loop, MacroDefinition, MacroInvocation, ProgramCounterDefinition}
 use Rattle.tree.specs.Tree.{Segment, Test, Text, Trace, VariableDefinition, Vec, Leaf, PathItem, Block, BinaryExpression, Factor}
@@ -262,6 +263,15 @@ hasBlock (ImportAs tag path) = false
 hasBlock (ImportAll star alias) = false
 hasBlock (SpecificImportArg path alias) = false
 hasBlock (ArgItem value comma) = false
+
+-- a bit of a map's fields, the first field's first
+unfoldable pub bitAt : ℕ → ℕ → Bool
+bitAt zero bits = eqb (bits % 2) 1
+bitAt (suc place) bits = bitAt place (bits / 2)
+
+-- the bit of that block, by the kind's number: the fifth field of an `Import` (11), the third of a `Label` (14)
+abbrev pub blockBit : ℕ → ℕ → Bool
+blockBit number bits = cond (eqb number 11) (bitAt 4 bits) (cond (eqb number 14) (bitAt 2 bits) false)
 
 -- the index that an enum's leaf holds
 unfoldable pub indexOf : Tree → List ℕ

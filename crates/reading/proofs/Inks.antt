@@ -205,8 +205,8 @@ ink-in c place class listed (Block lparen inner rparen) suits shaped free led =
     let parts = harmless-four (mark openingBrace (atOpeningBrace listed lparen)) (placesIn false lparen) (placesIn false inner) (placesIn false rparen) free in
     ink-Block c place (no-end place class 27 suits (shaped .0) refl) lparen inner rparen (field c (leaf plain) refl OpenBrace lparen refl (shaped .1)
     (ink-in c (leaf plain) OpenBrace false lparen (alone plain OpenBrace refl) (shaped .1) (parts .1)))
-    (ink-inner c inner (ownTrivia rparen) (shaped .2)
-    (ink-in (deeper c) (tokens true first (blockEnd (ownTrivia rparen))) Tokens false inner (tokenList true first (blockEnd (ownTrivia rparen))) (shaped .2) (parts .2)))
+    (ink-inner c inner rparen (shaped .2)
+    (ink-in (deeper c) (tokens true first (blockEnd rparen)) Tokens false inner (tokenList true first (blockEnd rparen)) (shaped .2) (parts .2)))
     (field c (leaf plain) refl CloseBrace rparen refl (shaped .3) (ink-in c (leaf plain) CloseBrace false rparen (alone plain CloseBrace refl) (shaped .3) (parts .3)))
 ink-in c place class listed (BinaryExpression op lhs rhs) suits shaped free led =
     let parts = harmless-three (placesIn false op) (placesIn false lhs) (placesIn false rhs) free in

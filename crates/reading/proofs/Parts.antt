@@ -34,7 +34,7 @@ use Rattle.events.specs.Trees.{tokens, endEvents, itemEvents, leafEvents, deepe
 use Rattle.reading.specs.Order.{comments, shownAs, closingOrder, orderIn}
 use Rattle.reading.specs.Places.{atValueHead, atClosingCharacter, placesIn}
 use Rattle.reading.proofs.Shape.{Allowed, TriviaAllowed, Given, Shaped}
-use Rattle.reading.proofs.Trivia.{ink-trivia, ink-listed, ink-break}
+use Rattle.reading.proofs.Trivia.{ink-trivia, ink-listed, ink-break, ink-stop}
 use Rattle.reading.proofs.Heads.{harmless, own-before, stem, stem-none, headless, headless-clear, block-clear, token-stem, value-clear, own-clear, import-clear}
 
 -- ---- where a tree stands
@@ -67,7 +67,7 @@ styleOf (tokens drops before closing) = plain
 -- the trivia at the end of a list there
 abbrev pub endOf : Closing → List Trivium
 endOf fileEnd = []
-endOf (blockEnd trivia) = trivia
+endOf (blockEnd rparen) = ownTrivia rparen
 
 abbrev pub endTrivia : Place → List Trivium
 endTrivia (leaf style) = []
@@ -144,7 +144,7 @@ no-end place class number pathList allowed other = refl
 no-end place class number onePath allowed other = refl
 no-end place class number stringList allowed other = refl
 no-end place class number (tokenList drops before fileEnd) allowed other = refl
-no-end place class number (tokenList drops before (blockEnd trivia)) allowed other =
+no-end place class number (tokenList drops before (blockEnd rparen)) allowed other =
     let within : (leb 24 number && leb number 24) ≡ true = rw other at allowed in
     let above : 24 ≤ number = leb-true 24 number (and-true-left (leb 24 number) (leb number 24) within) in
     let below : number ≤ 24 = leb-true number 24 (and-true-right (leb 24 number) (leb number 24) within) in
@@ -162,7 +162,7 @@ ink-end context place class pathList = refl
 ink-end context place class onePath = refl
 ink-end context place class stringList = refl
 ink-end context place class (tokenList drops before fileEnd) = refl
-ink-end context place class (tokenList drops before (blockEnd trivia)) = simp (ink-listed, ink-break, append-nil)
+ink-end context place class (tokenList drops before (blockEnd rparen)) = simp (ink-stop, ink-listed, ink-break, append-nil)
 
 -- ---- a record and its trivia
 
@@ -272,7 +272,7 @@ ink-items context place class item items (tokenList drops before closing) shaped
     (one (leaf plain) BareToken (alone plain BareToken refl) (shaped .1) (inl refl) ∙ append-nil (inks (orderAt context (leaf plain) item))) in
     let others : inkOf (eventsIn context next true items) ≡ inks (orderAt context next items) ++ inks (comments (endOf closing)) =
     rw (headless-clear Tokens items refl (shaped .2)) at (rest next (tokenList false (behind (tokenNumber item)) closing) (inl refl)) in
-    simp (ink-listed, ink-break, others, inks-append, ← token, append-assoc)
+    simp (ink-stop, ink-listed, ink-break, others, inks-append, ← token, append-assoc)
 
 -- ---- arguments
 
@@ -476,7 +476,7 @@ unfolding inks
 ink-list context place class tree headed shaped inked = let none = headless-clear class tree headed shaped in rw none at (inked (inr none))
 
 -- the tokens of a block and the comments of its closing brace
-pub ink-inner : (context : Context) (tree : Tree) (trivia : List Trivium) → Shaped Tokens tree
-    → (Led Tokens tree → Inked (deeper context) (tokens true first (blockEnd trivia)) tree)
-    → inkOf (eventsIn (deeper context) (tokens true first (blockEnd trivia)) true tree) ≡ inks (orderAt context (leaf plain) tree) ++ inks (comments trivia)
-ink-inner context tree trivia shaped inked = ink-list (deeper context) (tokens true first (blockEnd trivia)) Tokens tree refl shaped inked
+pub ink-inner : (context : Context) (tree rparen : Tree) → Shaped Tokens tree
+    → (Led Tokens tree → Inked (deeper context) (tokens true first (blockEnd rparen)) tree)
+    → inkOf (eventsIn (deeper context) (tokens true first (blockEnd rparen)) true tree) ≡ inks (orderAt context (leaf plain) tree) ++ inks (comments (ownTrivia rparen))
+ink-inner context tree rparen shaped inked = ink-list (deeper context) (tokens true first (blockEnd rparen)) Tokens tree refl shaped inked

@@ -1,8 +1,8 @@
 -- A tree that was read without refusal keeps the grammar.
 use mathlib.Core.Path.{_≡_, refl, sym, ap, _∙_}
 use mathlib.Core.Logic.{inl, inr}
-use mathlib.Core.List.{List, [], _∷_, map, append-nil}
-use mathlib.Core.Bool.{Bool, true, false, _&&_, _||_, or-true}
+use mathlib.Core.List.{List, [], _∷_, append-nil}
+use mathlib.Core.Bool.{true, false, _||_, or-true}
 use Prim.Native.Nat.{ℕ, zero, suc, _+_, _/_, _%_, _≤_}
 use native.Mathlib.Omega.{arith}
 use lib.ListN.{length, getD}
@@ -12,99 +12,29 @@ use borrow.Author.Tests.{eqb-true, ne-eqb}
 use Rattle.answers.specs.declared.Checked.the-variants.{Passed}
 use Rattle.text.specs.Numbers.{numberAt}
 use Rattle.text.proofs.Choices.{by-test, true-false, and-true-left, and-true-right}
-use Rattle.tree.specs.Grammar.{Slot, must, may, kinds, kindOf, rule, fields}
+use Rattle.tree.specs.Grammar.{Slot, must, may, kindOf, rule, fields}
 use Rattle.tree.specs.Own.{isList, fieldsFit, elseFits, triviaFits, mapFits, ownOf, readOwn}
 use Rattle.tree.specs.Reading.{triviaFrom, fieldsDue, itemsDue, partsDue, Reading, Reader, readParts, recordOf, read}
 use Rattle.tree.specs.Tree.{Tree, absent, nil, Vec, chain, built}
 use Rattle.tree.specs.declared.grammar.Kind.{Kind}
 use Rattle.tree.specs.declared.grammar.Kind.the-variants as variant
-use Rattle.tree.specs.declared.grammar.KindRead.the-variants.{Known, Unknown}
+use Rattle.tree.specs.declared.grammar.KindRead.the-variants.{Known}
 use Rattle.tree.specs.declared.grammar.Class.{Class}
 use Rattle.tree.specs.declared.grammar.Items.{Items}
 use Rattle.tree.specs.declared.grammar.Items.the-variants.{NoList, ListOf}
-use Rattle.tree.specs.declared.grammar.Rule.{Rule}
 use Rattle.tree.specs.declared.own.Own.{Own}
 use Rattle.tree.specs.declared.own.OwnRead.the-variants.{Record}
 use Rattle.tree.specs.declared.own.TriviaSpan.{TriviaSpan}
 use Rattle.tree.proofs.Cases.{failed-passed, both-passed}
 use Rattle.tree.proofs.KindLayout.{leaf-stored}
 use Rattle.tree.proofs.OwnBytes.{Headed, leafNumber, trivia-cases, own-cases}
+use Rattle.tree.proofs.RoundTrip.{no-items, node-fits}
 use Rattle.tree.proofs.Readings.{every-reading}
 use Rattle.events.specs.Views.{tokenNumber, stands}
+use Rattle.events.proofs.OwnParts.{token-number, leaf-other}
 use Rattle.reading.proofs.Shape.{Allowed, TriviaAllowed, noTrivia, itemIn, Given, Shaped}
 
 -- ---- a tree of a kind
-
--- the number of a kind
-unfoldable numberOf : Kind → ℕ
-numberOf kind = tokenNumber (built kind [] [])
-
--- whether kinds stand in the order of their numbers, from a number on
-abbrev inOrder : ℕ → List Kind → Bool
-inOrder from [] = true
-inOrder from (kind ∷ others) = eqb (numberOf kind) from && inOrder (suc from) others
-
--- the number of a kind that stands in order is its place
-number-in-order : (from : ℕ) (those : List Kind) (number : ℕ) (kind : Kind) → inOrder from those ≡ true → getD (map Known those) number Unknown ≡ Known kind
-    → numberOf kind ≡ from + number
-number-in-order from [] number kind ordered e = let z : _≡_ {A = ℕ} 0 1 = cc in absurd (omega arith)
-number-in-order from (here ∷ others) zero kind ordered e =
-    let same : numberOf kind ≡ numberOf here = cc in
-    omega (arith, eqb-true (numberOf here) from (and-true-left (eqb (numberOf here) from) (inOrder (suc from) others) ordered))
-number-in-order from (here ∷ others) (suc number) kind ordered e =
-    omega (arith, number-in-order (suc from) others number kind (and-true-right (eqb (numberOf here) from) (inOrder (suc from) others) ordered) e)
-
--- the byte of a kind is its number
-kind-number : (number : ℕ) (kind : Kind) → kindOf number ≡ Known kind → numberOf kind ≡ number
-unfolding numberOf tokenNumber built
-kind-number number kind e = omega (arith, number-in-order 0 kinds number kind refl e)
-
--- a tree of a kind has its number
-number-built : (kind : Kind) (text : List ℕ) (trees : List Tree) → tokenNumber (built kind text trees) ≡ numberOf kind
-unfolding tokenNumber built numberOf
-number-built variant.Align text trees = refl
-number-built variant.Assert text trees = refl
-number-built variant.Braces text trees = refl
-number-built variant.Config text trees = refl
-number-built variant.ConfigPair text trees = refl
-number-built variant.Data text trees = refl
-number-built variant.Definition text trees = refl
-number-built variant.Eof text trees = refl
-number-built variant.Error text trees = refl
-number-built variant.Expression text trees = refl
-number-built variant.If text trees = refl
-number-built variant.Import text trees = refl
-number-built variant.File text trees = refl
-number-built variant.Instruction text trees = refl
-number-built variant.Label text trees = refl
-number-built variant.Loop text trees = refl
-number-built variant.MacroDefinition text trees = refl
-number-built variant.MacroInvocation text trees = refl
-number-built variant.ProgramCounterDefinition text trees = refl
-number-built variant.Segment text trees = refl
-number-built variant.Test text trees = refl
-number-built variant.Text text trees = refl
-number-built variant.Trace text trees = refl
-number-built variant.VariableDefinition text trees = refl
-number-built variant.Vec text trees = refl
-number-built variant.Leaf text trees = refl
-number-built variant.PathItem text trees = refl
-number-built variant.Block text trees = refl
-number-built variant.BinaryExpression text trees = refl
-number-built variant.Factor text trees = refl
-number-built variant.CurrentProgramCounter text trees = refl
-number-built variant.ExprParens text trees = refl
-number-built variant.FunctionCall text trees = refl
-number-built variant.IdentifierValue text trees = refl
-number-built variant.Number text trees = refl
-number-built variant.StringFactor text trees = refl
-number-built variant.InterpolatedString text trees = refl
-number-built variant.Operand text trees = refl
-number-built variant.RegisterSuffix text trees = refl
-number-built variant.ImportAs text trees = refl
-number-built variant.ImportAll text trees = refl
-number-built variant.SpecificImportArg text trees = refl
-number-built variant.ArgItem text trees = refl
 
 -- a field by its slot, and whether it stands by its bit
 abbrev SlotShaped : Slot → Tree → Type 0
@@ -255,32 +185,12 @@ module _ (reader : Reader) (below : (class : Class) (at : ℕ) → Reads class (
 
 -- ---- a record
 
--- a map that fits a node's record fits its fields
-node-fits : (rule : Rule) (number : ℕ) (kind : Kind) (map : ℕ) → mapFits rule number kind map ≡ true → eqb number 24 ≡ false → leafNumber number ≡ false
-    → (elseFits number (map / 2) ≡ true) × (fieldsFit (fields kind (rule .value)) (map / 2) ≡ true)
-unfolding mapFits
-node-fits rule number kind map fits list leaf =
-    let both : (elseFits number (map / 2) && fieldsFit (fields kind (rule .value)) (map / 2)) ≡ true =
-    rw leaf at (and-true-right (triviaFits rule number map) _ (rw list at fits)) in
-    (and-true-left (elseFits number (map / 2)) _ both, and-true-right (elseFits number (map / 2)) _ both)
-
--- a leaf is neither an `If` nor a list
+-- a leaf is no `If`
 leaf-else : (number bits : ℕ) → leafNumber number ≡ true → elseFits number bits ≡ true
 leaf-else number bits leaf =
     by-test (eqb number 25)
     (λ q. rw (eqb-true number 25 q))
     (λ q. let is : number ≡ 26 = eqb-true number 26 (rw q at leaf) in rw is)
-
-leaf-other : (number : ℕ) → leafNumber number ≡ true → eqb number 24 ≡ false
-leaf-other number leaf =
-    by-test (eqb number 25)
-    (λ q. rw (eqb-true number 25 q))
-    (λ q. let is : number ≡ 26 = eqb-true number 26 (rw q at leaf) in rw is)
-
--- without a count there are no items
-no-items : (items : Items) → itemsDue items 0 ≡ []
-no-items NoList = refl
-no-items (ListOf class) = refl
 
 module _ (bytes : List ℕ) (reader : Reader) (below : (class : Class) (at : ℕ) → Reads class (reader class at)) (at : ℕ) (class : Class) where
   abbrev OwnReads : Own → Type 0
@@ -311,7 +221,7 @@ module _ (bytes : List ℕ) (reader : Reader) (below : (class : Class) (at : ℕ
       rw only-fields (λ passed.
       let trees : List Tree = readParts reader (fieldsDue slots (flags / 2)) end .trees in
       let tree : Tree = built kind (slice text end bytes) trees in
-      let is : tokenNumber tree ≡ number = number-built kind (slice text end bytes) trees ∙ kind-number number kind (headed .kindIs) in
+      let is : tokenNumber tree ≡ number = token-number number kind (slice text end bytes) trees (headed .kindIs) in
       let shaped : Shaped class tree =
       by-test (leafNumber number)
       (λ leaf.

@@ -18,6 +18,7 @@ use Rattle.events.specs.Trees.{oneOf, first, blockEnd, Place, leaf, arguments, 
 use Rattle.reading.specs.Order.{comments, orderIn}
 use Rattle.reading.specs.Places.{atClosingCharacter}
 use Rattle.reading.proofs.Shape.{Shaped}
+use Rattle.reading.proofs.Trivia.{ink-stop, ink-skip}
 use Rattle.reading.proofs.Heads.{own-before, stem, block-stem}
 use Rattle.reading.proofs.Parts.{endTrivia, orderAt, Inked, Kept, headed, ink-opening, ink-otherwise, ink-closing, ink-id}
 
@@ -57,7 +58,7 @@ module _ (c : Context) (place : Place) (none : comments (endTrivia place) ≡ []
   pub ink-Data : (values size : Tree) → Kept c (leaf dataSize) size → Kept c arguments values → Inked c place (Data values size)
   unfolding eventsIn orderIn inkOf inks ink blank comments stem oneOf tokenNumber headTrivia
   ink-Data values size size-kept values-kept =
-      simp (none, ink-laws, headed c (leaf dataSize) refl size size-kept, values-kept)
+      simp (none, ink-laws, ink-stop, headed c (leaf dataSize) refl size size-kept, values-kept)
 
   pub ink-Definition : (tag id value : Tree)
       → Kept c (leaf plain) tag → Kept c (leaf plain) id → Kept c (leaf plain) value
@@ -68,7 +69,7 @@ module _ (c : Context) (place : Place) (none : comments (endTrivia place) ≡ []
 
   pub ink-Eof : (unit : Tree) → Inked c place (Eof unit)
   unfolding eventsIn orderIn inkOf inks ink blank comments stem oneOf tokenNumber headTrivia
-  ink-Eof unit = simp (none, ink-laws)
+  ink-Eof unit = simp (none, ink-laws, ink-stop)
 
   pub ink-Error : (text : Tree) → Kept c (leaf plain) text → Inked c place (Error text)
   unfolding eventsIn orderIn inkOf inks ink blank comments stem oneOf tokenNumber headTrivia
@@ -107,7 +108,7 @@ module _ (c : Context) (place : Place) (none : comments (endTrivia place) ≡ []
 
   pub ink-Label : (id colon block : Tree) → Shaped Word id → comments (ownTrivia colon) ≡ [] → Kept c (leaf plain) block → Inked c place (Label id colon block)
   unfolding eventsIn orderIn inkOf inks ink blank comments stem oneOf tokenNumber headTrivia
-  ink-Label id colon block shaped bare-colon block-kept = simp (none, ink-laws, ink-id c id shaped, bare-colon, block-kept)
+  ink-Label id colon block shaped bare-colon block-kept = simp (none, ink-laws, ink-stop, ink-id c id shaped, bare-colon, block-kept)
 
   pub ink-Loop : (tag expr block : Tree)
       → Kept c (leaf plain) tag → Kept c (leaf plain) expr → Kept c (leaf plain) block
@@ -175,7 +176,7 @@ module _ (c : Context) (place : Place) (none : comments (endTrivia place) ≡ []
   ink-PathItem text = simp (none, ink-laws)
 
   pub ink-Block : (lparen inner rparen : Tree) → Kept c (leaf plain) lparen
-      → inkOf (eventsIn (deeper c) (tokens true first (blockEnd (ownTrivia rparen))) true inner) ≡ inks (orderAt c (leaf plain) inner) ++ inks (comments (ownTrivia rparen))
+      → inkOf (eventsIn (deeper c) (tokens true first (blockEnd rparen)) true inner) ≡ inks (orderAt c (leaf plain) inner) ++ inks (comments (ownTrivia rparen))
       → Kept c (leaf plain) rparen → Inked c place (Block lparen inner rparen)
   unfolding eventsIn orderIn inkOf inks ink blank comments stem oneOf tokenNumber headTrivia
   ink-Block lparen inner rparen lparen-kept inner-kept rparen-kept =
@@ -186,14 +187,14 @@ module _ (c : Context) (place : Place) (none : comments (endTrivia place) ≡ []
       → Inked c place (BinaryExpression op lhs rhs)
   unfolding eventsIn orderIn inkOf inks ink blank comments stem oneOf tokenNumber headTrivia
   ink-BinaryExpression op lhs rhs lhs-kept op-kept rhs-kept =
-      simp (none, ink-laws, lhs-kept, op-kept, rhs-kept)
+      simp (none, ink-laws, ink-stop, lhs-kept, op-kept, rhs-kept)
 
   pub ink-Factor : (factor tagNot tagNeg : Tree)
       → Kept c (leaf plain) tagNot → Kept c (leaf plain) tagNeg → Kept c (leaf plain) factor
       → Inked c place (Factor factor tagNot tagNeg)
   unfolding eventsIn orderIn inkOf inks ink blank comments stem oneOf tokenNumber headTrivia
   ink-Factor factor tagNot tagNeg tagNot-kept tagNeg-kept factor-kept =
-      simp (none, ink-laws, tagNot-kept, tagNeg-kept, factor-kept)
+      simp (none, ink-laws, ink-skip, tagNot-kept, tagNeg-kept, factor-kept)
 
   pub ink-CurrentProgramCounter : (star : Tree) → Kept c (leaf plain) star → Inked c place (CurrentProgramCounter star)
   unfolding eventsIn orderIn inkOf inks ink blank comments stem oneOf tokenNumber headTrivia
@@ -219,7 +220,7 @@ module _ (c : Context) (place : Place) (none : comments (endTrivia place) ≡ []
       → Inked c place (IdentifierValue path modifier′)
   unfolding eventsIn orderIn inkOf inks ink blank comments stem oneOf tokenNumber headTrivia
   ink-IdentifierValue path modifier′ modifier-kept path-kept =
-      simp (none, ink-laws, modifier-kept, path-kept)
+      simp (none, ink-laws, ink-skip, modifier-kept, path-kept)
 
   pub ink-Number : (ty value : Tree) → Kept c (leaf numberType) ty → Kept c (leaf plain) value → Inked c place (Number ty value)
   unfolding eventsIn orderIn inkOf inks ink blank comments stem oneOf tokenNumber headTrivia
@@ -243,7 +244,7 @@ module _ (c : Context) (place : Place) (none : comments (endTrivia place) ≡ []
       → Inked c place (Operand expr lchar rchar mode suffix)
   unfolding eventsIn orderIn inkOf inks ink blank comments stem oneOf tokenNumber headTrivia
   ink-Operand expr lchar rchar mode suffix unused expr-kept lchar-kept rchar-kept suffix-kept =
-      simp (none, ink-laws, expr-kept, lchar-kept, ink-closing c (indexOf mode) rchar suffix unused rchar-kept suffix-kept)
+      simp (none, ink-laws, ink-stop, ink-skip, expr-kept, lchar-kept, ink-closing c (indexOf mode) rchar suffix unused rchar-kept suffix-kept)
 
   pub ink-RegisterSuffix : (comma register′ : Tree)
       → Kept c (leaf plain) comma → Kept c (leaf register) register′

@@ -6,13 +6,17 @@ use Prim.Native.Nat.{ℕ}
 use native.Mathlib.Omega.{arith}
 use lib.Dec.{eqb}
 use borrow.Author.Tests.{eqb-true, eqb-false, le-leb, lt-leb}
+use Rattle.answers.specs.declared.Checked.{Checked}
+use Rattle.answers.specs.declared.Checked.the-variants.{Passed, Failed}
 use Rattle.text.specs.Ink.{blank, ink, inks}
 use Rattle.text.specs.Lines.{isEmpty, isNewline}
 use Rattle.text.proofs.Choices.{by-test, true-false}
-use Rattle.tree.specs.Tree.{Trivium}
+use Rattle.tree.specs.Tree.{Tree, Trivium}
+use Rattle.printing.specs.Events.{nothing}
 use Rattle.printing.specs.Holding.{inkOf}
 use Rattle.printing.specs.declared.Context.{Context}
-use Rattle.events.specs.Trees.{triviumEvents, triviaEvents, onlyNewline, leadEvents, listTrivia, Before, first, behind, afterSame, afterOther, breakBefore}
+use Rattle.events.specs.Refusals.{firstRefusal}
+use Rattle.events.specs.Trees.{stopAt, skipping, triviumEvents, triviaEvents, onlyNewline, leadEvents, listTrivia, Before, first, behind, afterSame, afterOther, breakBefore}
 use Rattle.reading.specs.Order.{isComment, comments}
 use Rattle.reading.specs.Places.{hasComment}
 
@@ -71,6 +75,18 @@ unfolding inkOf ink blank
 ink-break context first number block = refl
 ink-break context (behind previous) number block =
     by-test (not (eqb number 8) && cond (eqb previous number) (afterSame number block) (afterOther previous number block)) (λ q. rw q) (λ q. rw q)
+
+-- nor has a refusal that a reading may have found
+pub ink-stop : (found : Checked) → inkOf (stopAt found) ≡ []
+unfolding inkOf
+ink-stop Passed = refl
+ink-stop (Failed why) = refl
+
+-- nor a field that may be skipped
+pub ink-skip : (test : Bool) (tree : Tree) → inkOf (cond test (skipping tree) nothing) ≡ []
+unfolding inkOf
+ink-skip true tree = ink-stop (firstRefusal tree)
+ink-skip false tree = refl
 
 -- trivia without a comment give nothing
 pub no-comments : (items : List Trivium) → hasComment items ≡ false → comments items ≡ []
