@@ -10,24 +10,24 @@ use tree::own;
 use tree::own::Own;
 use tree::own::OwnRead;
 ghost use mathlib.Core.Path.{_≡_};
-ghost use mathlib.Core.Bool.{cond};
+ghost use mathlib.Core.Bool.{true, cond};
 ghost use Prim.Native.Nat.{_≤_};
 ghost use lib.ListN.{length};
 ghost use lib.Seq.{slice};
-ghost use Rattle.tree.specs.Tree.{absent};
 ghost use Rattle.tree.specs.Own.{readOwn};
 ghost use Rattle.tree.specs.Reading.{read};
 ghost use Rattle.printing.specs.Events.{nothing, _▹_};
-ghost use Rattle.printing.specs.Running.{going, run, Shown};
+ghost use Rattle.printing.specs.Running.{going, run, Shown, Prints};
 ghost use Rattle.events.specs.Printed.{printed};
 ghost use Rattle.events.specs.Trees as Trees;
 ghost use Rattle.events.specs.Trees.{word, triviaEvents, eventsIn};
 ghost use Rattle.leaves.specs.Items.{itemsAt};
 ghost use Rattle.leaves.specs.Texts.{styleOf};
 ghost use Rattle.leaves.specs.Leaves.{LeafClass, ownEvents, ownEnd};
+ghost use Rattle.leaves.specs.Records.{PrintsRecord, PrintsField};
 
 // The chunks of trivia that may be shown or not.
-fn shown_trivia(
+pub(crate) fn shown_trivia(
     tree: &[u8],
     at: usize,
     count: usize,
@@ -74,7 +74,7 @@ fn format_own(
 
 // A leaf of a class at a place, where so many levels are left. Of a record of any other class its trivia and its text, if it has one, are printed too, and the
 // place is the one behind its own bytes.
-pub fn format_leaf(
+fn leaf_at(
     tree: &[u8],
     at: usize,
     class: Class,
@@ -98,24 +98,45 @@ pub fn format_leaf(
     format_own(tree, own, style, shown, context, room, state)
 }
 
-// A leaf that may stand or not: where it does not, nothing is printed.
-pub fn format_optional_leaf(
+// A leaf of a class where the last answer ended.
+pub fn format_leaf(
     tree: &[u8],
-    at: usize,
-    class: Class,
+    room: &mut [u8],
+    context: Context,
     levels: usize,
-    stands: bool,
+    class: Class,
     style: Style,
     shown: bool,
-    context: Context,
-    room: &mut [u8],
-    state: CodeFormatter,
+    last: Printed,
 ) -> Printed
-    ensures { λ r. ⌜ Shown r (now (room .exit)) (cond stands (ownEvents context (styleOf style) shown (now (tree .entry)) (readOwn (now (tree .entry)) at class levels)) nothing) (going (now (room .entry)) state) (cond stands (ownEnd at (readOwn (now (tree .entry)) at class levels)) at) ⌝ }
-    ensures { λ r. ⌜ (LeafClass class → Shown r (now (room .exit)) (eventsIn context (Trees.leaf (styleOf style)) shown (cond stands (read levels (now (tree .entry)) class at .tree) absent)) (going (now (room .entry)) state) (cond stands (read levels (now (tree .entry)) class at .end) at)) ⌝ }
+    ensures { λ r. ⌜ Prints r (now (room .exit)) last (now (room .entry)) (λ at. ownEvents context (styleOf style) shown (now (tree .entry)) (readOwn (now (tree .entry)) at class levels)) (λ at. ownEnd at (readOwn (now (tree .entry)) at class levels)) ⌝ }
+    ensures { λ r. ⌜ (LeafClass class → PrintsRecord r (now (room .exit)) last (now (room .entry)) context (Trees.leaf (styleOf style)) shown levels (now (tree .entry)) class) ⌝ }
 {
+    let Printed::Done(state, at) = last else {
+        return last;
+    };
+    leaf_at(tree, at, class, levels, style, shown, context, room, state)
+}
+
+// A leaf that may stand or not, with its trivia: where it does not, nothing is printed.
+pub fn format_optional_leaf(
+    tree: &[u8],
+    room: &mut [u8],
+    context: Context,
+    levels: usize,
+    class: Class,
+    style: Style,
+    stands: bool,
+    last: Printed,
+) -> Printed
+    ensures { λ r. ⌜ Prints r (now (room .exit)) last (now (room .entry)) (λ at. cond stands (ownEvents context (styleOf style) true (now (tree .entry)) (readOwn (now (tree .entry)) at class levels)) nothing) (λ at. cond stands (ownEnd at (readOwn (now (tree .entry)) at class levels)) at) ⌝ }
+    ensures { λ r. ⌜ (LeafClass class → PrintsField r (now (room .exit)) last (now (room .entry)) context (Trees.leaf (styleOf style)) true levels (now (tree .entry)) class stands) ⌝ }
+{
+    let Printed::Done(state, at) = last else {
+        return last;
+    };
     if stands {
-        return format_leaf(tree, at, class, levels, style, shown, context, room, state);
+        return leaf_at(tree, at, class, levels, style, true, context, room, state);
     }
     state.finish(at)
 }

@@ -1,56 +1,30 @@
--- A full state is refused first, then own bytes that are; own bytes that were read are printed by `format_own`.
-use Rattle.leaves.proofs.Leaves.{own-text, full-refused, own-and-leaf, own-shown, refusal-shown}
+-- A refusal stays, and a state goes on with the leaf at its place.
+use Rattle.printing.proofs.Running.{refused-before, done-before}
 use borrow.Author.Needs.{needs}
 use Rattle.leaves.proofs.leaf.format_leaf.Statement.{statement}
 use Rattle.leaves.proofs.leaf.format_leaf.Tie as tie
 
-finish-requires : tie.Need-finish-requires
-finish-requires c κs = search needs
-
-returns : tie.Need-returns
-returns c = own-and-leaf _ _ _ _ _ _ _ (full-refused _ (c .finish .ensures) (c .before .if1 .taken))
-
-read-own-requires : tie.Need-read-own-requires
-read-own-requires c κs = search needs
-
-enum-known-found : tie.Need-enum-known-found
-enum-known-found c = search needs
+enum-known-last : tie.Need-enum-known-last
+enum-known-last c = search needs
 
 enum-told : tie.Need-enum-told
 enum-told c = search needs
 
-refusal-of-requires : tie.Need-refusal-of-requires
-refusal-of-requires c κs = search needs
+returns : tie.Need-returns
+returns c = (refused-before (c .enum-told .given .1), λ leaves. refused-before (c .enum-told .given .1))
 
-returns-2 : tie.Need-returns-2
-returns-2 c =
-    let read = c .before .before .before in
-    own-and-leaf _ _ _ _ _ _ _
-    (refusal-shown _ _ _ _ _ _ _ (read .read-own .ensures .0) _ _ (c .refusal-of .ensures) (c .before .enum-told .given .1) (read .before .if1 .left))
-
-format-own-requires : tie.Need-format-own-requires
-format-own-requires c κs = own-text _ _ _ (c .before .before .before .before .read-own .ensures .1) (c .before .before .found .given .1)
+leaf-at-requires : tie.Need-leaf-at-requires
+leaf-at-requires c κs = search needs
 
 same-length : tie.Need-same-length
 same-length c = search needs
 
-returns-3 : tie.Need-returns-3
-returns-3 c =
-    let found = c .before .before .before .before .before in
-    let read = found .before .before .read-own .ensures in
-    own-and-leaf _ _ _ _ _ _ _ (own-shown _ _ _ _ _ _ _ (read .0) _ (read .1) (found .found .given .1) (c .before .before .format-own .ensures))
+returns-2 : tie.Need-returns-2
+returns-2 c =
+    let done = c .before .before in
+    let is = done .before .before .before .last .given .1 in
+    (done-before is (done .leaf-at .ensures .0), λ leaves. done-before is (done .leaf-at .ensures .1 leaves))
 
 pub format-leaf-spec : {M : Type 1} → statement M
 format-leaf-spec =
-    tie.close
-    (tie.spec
-    finish-requires
-    returns
-    read-own-requires
-    enum-known-found
-    enum-told
-    refusal-of-requires
-    returns-2
-    format-own-requires
-    same-length
-    returns-3)
+    tie.close (tie.spec enum-known-last enum-told returns leaf-at-requires same-length returns-2)
