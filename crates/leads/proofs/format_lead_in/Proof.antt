@@ -1,0 +1,104 @@
+-- A refusal stays; what is met on the way ends the walk; else the trivia are run, then the newline.
+use Rattle.printing.proofs.Running.{refused-before, done-before}
+use Rattle.leads.specs.Leads.{beforeOf}
+use mathlib.Core.Path.{ap}
+use Prim.Native.Nat.{ℕ, _/_}
+use Rattle.leaves.proofs.Leaves.{full-refused}
+use Rattle.leads.proofs.Leads.{lead-stopped, lead-shown}
+use borrow.Author.Needs.{needs}
+use Rattle.leads.proofs.format_lead_in.Statement.{statement}
+use Rattle.leads.proofs.format_lead_in.Tie as tie
+
+enum-known-last : tie.Need-enum-known-last
+enum-known-last c = search needs
+
+enum-told : tie.Need-enum-told
+enum-told c = search needs
+
+returns : tie.Need-returns
+returns c = refused-before (c .enum-told .given .1)
+
+finish-requires : tie.Need-finish-requires
+finish-requires c κs = search needs
+
+returns-2 : tie.Need-returns-2
+returns-2 c = done-before (c .before .before .before .before .last .given .1) (full-refused _ (c .finish .ensures) (c .before .if1 .taken))
+
+head-of-requires : tie.Need-head-of-requires
+head-of-requires c κs = search needs
+
+enum-known-head : tie.Need-enum-known-head
+enum-known-head c = search needs
+
+enum-told-2 : tie.Need-enum-told-2
+enum-told-2 c = search needs
+
+refusal-of-requires : tie.Need-refusal-of-requires
+refusal-of-requires c κs = search needs
+
+returns-3 : tie.Need-returns-3
+returns-3 c =
+    let start = c .before .before .before .before .before .before .before .before .before .before .before in
+    let read = c .before .before .before in
+    done-before (read .before .before .before .before .last .given .1)
+    (lead-stopped _ _ _ (start .args .context) (start .args .drops) (beforeOf (start .args .stood)) _ _
+    (read .head-of .ensures .0) (c .before .enum-told2 .given .1) (c .refusal-of .ensures) (read .before .if1 .left))
+
+byte-at-requires : tie.Need-byte-at-requires
+byte-at-requires c κs = search needs
+
+byte-behind-requires : tie.Need-byte-behind-requires
+byte-behind-requires c κs = search needs
+
+has-block-requires : tie.Need-has-block-requires
+has-block-requires c κs = search needs
+
+list-trivia-requires : tie.Need-list-trivia-requires
+list-trivia-requires c κs = search needs
+
+break-before-requires : tie.Need-break-before-requires
+break-before-requires c κs = search needs
+
+finish-requires-2 : tie.Need-finish-requires-2
+finish-requires-2 c κs = search needs
+
+same-length : tie.Need-same-length
+same-length c = search needs
+
+returns-4 : tie.Need-returns-4
+returns-4 c =
+    let broken = c .before .before .before in
+    let listed = broken .before .before .before .before in
+    let block = listed .before .before in
+    let behind = block .before in
+    let byte = behind .before in
+    let head = byte .before .before in
+    let read = head .before .before in
+    let start = read .before .before .before .before .before .before .before .before in
+    done-before (read .before .before .before .before .last .given .1)
+    (lead-shown _ _ _ (start .args .context) (start .args .drops) (beforeOf (start .args .stood)) _ _ _ _ _ _ _ _
+    (read .head-of .ensures .0) (head .head .given .1) (read .head-of .ensures .1 _ (head .head .given .1)) (byte .byte-at .ensures) (ap (λ (map : ℕ). map / 2) (behind .byte-behind .ensures)) (block .has-block .ensures)
+    (listed .list-trivia .ensures) (broken .break-before .ensures) (c .finish2 .ensures))
+
+pub format-lead-in-spec : {M : Type 1} → statement M
+format-lead-in-spec =
+    tie.close
+    (tie.spec
+    enum-known-last
+    enum-told
+    returns
+    finish-requires
+    returns-2
+    head-of-requires
+    enum-known-head
+    enum-told-2
+    refusal-of-requires
+    returns-3
+    byte-at-requires
+    byte-behind-requires
+    has-block-requires
+    list-trivia-requires
+    break-before-requires
+    finish-requires-2
+    same-length
+    returns-4)

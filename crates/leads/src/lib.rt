@@ -1,0 +1,258 @@
+// What stands before a token of a list, and behind the last: trivia of its head, and the newline rule of `format_tokens`.
+use answers::Reason;
+use answers::Refusal;
+use leaves::record;
+use leaves::trivia;
+use printing::CodeFormatter;
+use printing::Context;
+use printing::Printed;
+use text::numbers;
+use tree::grammar::Class;
+use tree::own;
+use tree::own::Own;
+use tree::own::OwnRead;
+use tree::parts;
+use tree::parts::HeadRead;
+ghost use mathlib.Core.Path.{_≡_};
+ghost use mathlib.Core.List.{[], _∷_};
+ghost use Prim.Native.Nat.{_+_};
+ghost use lib.ListN.{getD};
+ghost use Rattle.tree.specs.Reading.{triviaOf, read};
+ghost use Rattle.tree.specs.declared.own.Own.{Own};
+ghost use Rattle.tree.specs.declared.own.OwnRead.the-variants as OwnRead;
+ghost use Rattle.tree.specs.declared.grammar.Class.the-variants as class;
+ghost use Rattle.printing.specs.Running.{going, run, Prints};
+ghost use Rattle.events.specs.Views.{blockBit};
+ghost use Rattle.events.specs.Trees as Trees;
+ghost use Rattle.events.specs.Trees.{listTrivia, breakBefore};
+ghost use Rattle.leaves.specs.Items.{itemsAt};
+ghost use Rattle.leads.specs.Leads.{beforeOf, headRefusalOf, headOwn, leadIn};
+
+// What stood before a token in its list: whether it is the first, and the number of the kind of the one before.
+pub struct Before {
+    pub first: bool,
+    pub previous: usize,
+}
+
+// Whether a number is one of two.
+fn one_of(number: usize, one: usize, other: usize) -> bool
+    ensures { λ r. ⌜ r ≡ Trees.oneOf number (one ∷ other ∷ []) ⌝ }
+{
+    if number == one {
+        return true;
+    }
+    number == other
+}
+
+// Whether a newline stands between two tokens of the same kind.
+fn after_same(number: usize, block: bool) -> bool
+    ensures { λ r. ⌜ r ≡ Trees.afterSame number block ⌝ }
+{
+    match number {
+        2 => true,
+        6 => true,
+        10 => true,
+        15 => true,
+        19 => true,
+        11 => block,
+        14 => block,
+        _ => false,
+    }
+}
+
+// Whether two kinds belong together, so that no newline stands between them.
+fn grouped(previous: usize, number: usize) -> bool
+    ensures { λ r. ⌜ r ≡ Trees.grouped previous number ⌝ }
+{
+    match number {
+        1 => one_of(previous, 1, 22),
+        22 => one_of(previous, 1, 22),
+        5 => one_of(previous, 5, 21),
+        21 => one_of(previous, 5, 21),
+        13 => one_of(previous, 13, 17),
+        17 => one_of(previous, 13, 17),
+        _ => false,
+    }
+}
+
+// Whether a newline stands between tokens of two kinds.
+fn after_other(previous: usize, number: usize, block: bool) -> bool
+    ensures { λ r. ⌜ r ≡ Trees.afterOther previous number block ⌝ }
+{
+    if number == 14 {
+        if block {
+            return true;
+        }
+        return one_of(previous, 2, 10);
+    }
+    !grouped(previous, number)
+}
+
+// Whether a newline stands before a token; none before an `Error`.
+fn breaks(previous: usize, number: usize, block: bool) -> bool
+    ensures { λ r. ⌜ r ≡ Trees.breaks previous number block ⌝ }
+{
+    if number == 8 {
+        return false;
+    }
+    if previous == number {
+        return after_same(number, block);
+    }
+    after_other(previous, number, block)
+}
+
+// The newline before a token, if one stands there.
+fn break_before(
+    room: &mut [u8],
+    context: Context,
+    stood: Before,
+    number: usize,
+    block: bool,
+    state: CodeFormatter,
+) -> CodeFormatter
+    ensures { λ r. ⌜ run (breakBefore context (beforeOf stood) number block) (going (now (room .entry)) state) ≡ going (now (room .exit)) r ⌝ }
+{
+    if stood.first {
+        return state;
+    }
+    if breaks(stood.previous, number, block) {
+        return state.push(room, context, b"\n");
+    }
+    state
+}
+
+// Whether a token is an `Import` or a `Label` with a block.
+fn has_block(number: usize, bits: usize) -> bool
+    ensures { λ r. ⌜ r ≡ blockBit number bits ⌝ }
+{
+    if number == 11 {
+        return record::stands(bits, 4);
+    }
+    if number == 14 {
+        return record::stands(bits, 2);
+    }
+    false
+}
+
+// The trivia of a record in a list, without the newlines first in it where these are dropped.
+fn list_trivia(
+    tree: &[u8],
+    room: &mut [u8],
+    context: Context,
+    own: Own,
+    drops: bool,
+    state: CodeFormatter,
+) -> CodeFormatter
+    ensures { λ r. ⌜ run (listTrivia context drops (itemsAt (now (tree .entry)) (own .trivia) (own .«trivia_count»))) (going (now (room .entry)) state) ≡ going (now (room .exit)) r ⌝ }
+{
+    if drops {
+        return trivia::format_lead(tree, own.trivia, own.trivia_count, context, room, state);
+    }
+    trivia::format_trivia(tree, own.trivia, own.trivia_count, context, room, state)
+}
+
+// The refusal on the way to a head; a head that was found has none, and its place stands for one.
+fn refused_head(found: HeadRead) -> Refusal
+    ensures { λ r. ⌜ r ≡ headRefusalOf found ⌝ }
+{
+    match found {
+        HeadRead::NoHead(refusal) => refusal,
+        HeadRead::Found(head) => Refusal {
+            reason: Reason::TreeLayout,
+            place: head.place,
+        },
+    }
+}
+
+// The own bytes of a token's head.
+fn head_of(tree: &[u8], levels: usize, at: usize) -> OwnRead
+    ensures { λ r. ⌜ r ≡ headOwn levels (now (tree .entry)) at ⌝ }
+    ensures { λ r. ⌜ ((own : Own) → r ≡ OwnRead.Record own → itemsAt (now (tree .entry)) (own .trivia) (own .«trivia_count») ≡ triviaOf (now (tree .entry)) own) ⌝ }
+{
+    let found = parts::head_place(tree, at, Class::BareToken, levels);
+    let HeadRead::Found(head) = found else {
+        return OwnRead::Refused(refused_head(found));
+    };
+    let class = head.class;
+    own::read_own(tree, head.place, class, head.levels)
+}
+
+// The byte at a place; 0 past the end.
+pub fn byte_at(tree: &[u8], at: usize) -> usize
+    ensures { λ r. ⌜ r ≡ getD (now (tree .entry)) at 0 ⌝ }
+{
+    if tree.len() <= at {
+        return 0;
+    }
+    numbers::wide(tree[at])
+}
+
+// The byte behind a place; 0 past the end.
+fn byte_behind(tree: &[u8], at: usize) -> usize
+    ensures { λ r. ⌜ r ≡ getD (now (tree .entry)) (at + 1) 0 ⌝ }
+{
+    if tree.len() <= at {
+        return 0;
+    }
+    if tree.len() - at < 2 {
+        return 0;
+    }
+    numbers::wide(tree[at + 1])
+}
+
+// What stands before a token: the trivia of its head, then a newline by the rule.
+pub fn format_lead_in(
+    tree: &[u8],
+    room: &mut [u8],
+    context: Context,
+    levels: usize,
+    drops: bool,
+    stood: Before,
+    last: Printed,
+) -> Printed
+    ensures { λ r. ⌜ Prints r (now (room .exit)) last (now (room .entry)) (λ at. leadIn context drops (beforeOf stood) (read levels (now (tree .entry)) class.BareToken at .tree)) (λ at. at) ⌝ }
+{
+    let Printed::Done(state, at) = last else {
+        return last;
+    };
+    if state.full != 0 {
+        return state.finish(at);
+    }
+    let head = head_of(tree, levels, at);
+    let OwnRead::Record(own) = head else {
+        return Printed::Refused(own::refusal_of(head));
+    };
+    let number = byte_at(tree, at);
+    let bits = byte_behind(tree, at) / 2;
+    let block = has_block(number, bits);
+    let shown = list_trivia(tree, room, context, own, drops, state);
+    let next = break_before(room, context, stood, number, block, shown);
+    next.finish(at)
+}
+
+// What stands behind the last token of a block: the trivia of its `}`, and a newline as before an end.
+pub fn format_lead_out(
+    tree: &[u8],
+    room: &mut [u8],
+    context: Context,
+    levels: usize,
+    drops: bool,
+    stood: Before,
+    last: Printed,
+) -> Printed
+    ensures { λ r. ⌜ Prints r (now (room .exit)) last (now (room .entry)) (λ at. Trees.closingEvents context drops (beforeOf stood) (Trees.blockEnd (read levels (now (tree .entry)) class.CloseBrace at .tree))) (λ at. at) ⌝ }
+{
+    let Printed::Done(state, at) = last else {
+        return last;
+    };
+    if state.full != 0 {
+        return state.finish(at);
+    }
+    let found = own::read_own(tree, at, Class::CloseBrace, levels);
+    let OwnRead::Record(own) = found else {
+        return Printed::Refused(own::refusal_of(found));
+    };
+    let shown = list_trivia(tree, room, context, own, drops, state);
+    let next = break_before(room, context, stood, 7, false, shown);
+    next.finish(at)
+}
