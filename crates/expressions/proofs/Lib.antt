@@ -1,0 +1,4 @@
+pub mod Cycle
+pub mod Operands
+pub mod Stands
+pub mod StringItems

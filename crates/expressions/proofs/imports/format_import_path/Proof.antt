@@ -1,0 +1,95 @@
+-- A record that was opened is printed field by field.
+use mathlib.Core.Path.{refl}
+use Rattle.tree.specs.Tree.{built}
+use Rattle.printing.proofs.Running.{_thence_}
+use Rattle.events.specs.Views.{bitAt}
+use Rattle.events.specs.Trees.{leaf, eventsIn}
+use Rattle.leaves.specs.Records.{fieldTrees, fieldsEnd}
+use Rattle.events.specs.Printed.{plain}
+use Rattle.leaves.proofs.Fielded.{opened-levels, opened-one, opened-kind, shown-closed}
+use Rattle.tree.specs.Stored.{storedWith}
+use Rattle.tree.specs.declared.grammar.Kind.the-variants as variant
+use Rattle.tree.proofs.KindLayout.{kindNumber}
+use Rattle.leaves.proofs.Classes.{word-leaf}
+use borrow.Author.Needs.{needs}
+use Rattle.expressions.proofs.imports.format_import_path.Statement.{statement}
+use Rattle.expressions.proofs.imports.format_import_path.Tie as tie
+
+open-requires : tie.Need-open-requires
+open-requires c κs = search needs
+
+enum-known-opened : tie.Need-enum-known-opened
+enum-known-opened c = search needs
+
+enum-told : tie.Need-enum-told
+enum-told c = search needs
+
+closed-requires : tie.Need-closed-requires
+closed-requires c κs = search needs
+
+same-length : tie.Need-same-length
+same-length c = search needs
+
+returns : tie.Need-returns
+returns c =
+    let at-enum-told = c .before in
+    let at-open = at-enum-told .before .before .before .before in
+    shown-closed (at-open .«open» .ensures) (leaf plain) (at-enum-told .enum-told .given .1) (c .closed .ensures)
+
+sub-inner : tie.Need-sub-inner
+sub-inner c =
+    let at-opened = c .before in
+    let at-open = at-opened .before .before .before .before in
+    opened-levels (at-open .«open» .ensures) (at-opened .opened .given .1)
+
+stands-requires : tie.Need-stands-requires
+stands-requires c κs = search needs
+
+format-leaf-requires : tie.Need-format-leaf-requires
+format-leaf-requires c κs = search needs
+
+spc-if-next-requires : tie.Need-spc-if-next-requires
+spc-if-next-requires c κs = search needs
+
+format-import-as-requires : tie.Need-format-import-as-requires
+format-import-as-requires c κs = search needs
+
+same-length-2 : tie.Need-same-length-2
+same-length-2 c = search needs
+
+returns-2 : tie.Need-returns-2
+unfolding built fieldTrees fieldsEnd eventsIn bitAt kindNumber storedWith
+returns-2 c =
+    let at-format-import-as = c .before .before in
+    let at-spc-if-next = at-format-import-as .before in
+    let at-format-leaf = at-spc-if-next .before .before .before .before in
+    let at-stands = at-format-leaf .before .before in
+    let at-opened = at-stands .before .before .before in
+    let at-open = at-opened .before .before .before .before in
+    let opens = at-open .«open» .ensures in
+    let is = at-opened .opened .given .1 in
+    opened-kind opens is (leaf plain) variant.SpecificImportArg (opened-one opens is 41 variant.SpecificImportArg refl refl refl refl) refl (record {
+      from = λ at here.
+          let path = at-format-leaf .format-leaf .ensures .1 word-leaf .from at here in
+          let gap = at-spc-if-next .spc-if-next .ensures _ .from _ (path .next) in
+          let alias = at-format-import-as .format-import-as .ensures .from _ (gap .next) in
+          rw (← (at-stands .stands .ensures)) (path thence gap thence alias);
+    })
+
+pub format-import-path-spec : {M : Type 1} → statement M
+format-import-path-spec =
+    tie.close
+    (tie.spec
+    open-requires
+    enum-known-opened
+    enum-told
+    closed-requires
+    same-length
+    returns
+    sub-inner
+    stands-requires
+    format-leaf-requires
+    spc-if-next-requires
+    format-import-as-requires
+    same-length-2
+    returns-2)
