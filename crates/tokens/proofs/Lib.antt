@@ -1,0 +1,4 @@
+pub mod Cycle
+pub mod FrontParts
+pub mod PlainTokens
+pub mod Whole

@@ -1,0 +1,58 @@
+-- Not part of any promise of this crate: what stands inside tokens, by the number of their kind.
+use Prim.Native.Nat.{ℕ, _+_, _*_, _≤_}
+use mathlib.Core.Path.{_≡_}
+use mathlib.Core.List.{[], _∷_}
+use mathlib.Core.Bool.{Bool, true, false, cond}
+use lib.Dec.{eqb}
+use Rattle.options.specs.declared.BracePosition.{BracePosition}
+use Rattle.options.specs.declared.BracePosition.the-variants.{SameLine, NewLine}
+use Rattle.tree.specs.Reading.{Reader}
+use Rattle.tree.specs.declared.grammar.Class.{Class}
+use Rattle.tree.specs.declared.grammar.Class.the-variants.{Word, BareToken, LocatedToken, BlockRecord}
+use Rattle.printing.specs.Events.{Events, nothing, _▹_}
+use Rattle.printing.specs.declared.Context.{Context}
+use Rattle.events.specs.Printed.{plain}
+use Rattle.events.specs.Views.{bitAt}
+use Rattle.events.specs.Trees.{blank, newline, oneOf, leaf, elseEvents, eventsIn}
+use Rattle.tokens.specs.declared.walk.Inner.{Inner}
+use Rattle.tokens.specs.declared.walk.Inner.the-variants.{Nothing, Block, Token, Branches}
+
+abbrev pub tokenClass : Bool → Class
+tokenClass located = cond located LocatedToken BareToken
+
+abbrev pub innerOf : ℕ → ℕ → Inner
+innerOf number bits =
+    cond (eqb number 4) (Token true true)
+    (cond (eqb number 6) (Token (bitAt 2 bits) false)
+    (cond (eqb number 10) Branches
+    (cond (eqb number 11) (Block (bitAt 4 bits))
+    (cond (oneOf number (14 ∷ 19 ∷ [])) (Block (bitAt 2 bits))
+    (cond (oneOf number (2 ∷ 3 ∷ 15 ∷ 16 ∷ 20 ∷ [])) (Block true) Nothing)))))
+
+-- "`tag_else` and `else_` stand together or not at all"
+abbrev pub Ends : ℕ → ℕ → Type 0
+Ends number bits = number ≡ 10 → bitAt 3 bits ≡ bitAt 4 bits
+
+-- a block is at most 64 further in, and at every level there is room for one more
+abbrev pub Narrow : Context → ℕ → Type 0
+Narrow context levels = (context .options .whitespace .indent ≤ 64) × (context .indent + 64 * levels ≤ 4096)
+
+-- what stands between the branches of an `If`
+abbrev pub elseFront : Context → BracePosition → Events → Events
+elseFront context SameLine tag = blank context ▹ tag ▹ blank context
+elseFront context NewLine tag = newline context ▹ tag
+
+-- the branches
+abbrev pub behindThen : Reader → ℕ → ℕ
+behindThen reader at = reader BlockRecord at .end
+
+abbrev pub branchEvents : Context → Bool → Reader → ℕ → Events
+branchEvents context other reader at =
+    eventsIn context (leaf plain) true (reader BlockRecord at .tree)
+    ▹ cond other
+    (elseEvents context (context .options .braces .position) (eventsIn context (leaf plain) true (reader Word (behindThen reader at) .tree))
+    (eventsIn context (leaf plain) true (reader BlockRecord (reader Word (behindThen reader at) .end) .tree)))
+    nothing
+
+abbrev pub branchesEnd : Bool → Reader → ℕ → ℕ
+branchesEnd other reader at = cond other (reader BlockRecord (reader Word (behindThen reader at) .end) .end) (behindThen reader at)

@@ -1,0 +1,4 @@
+pub mod Fronts
+pub mod Inner
+pub mod Tokens
+pub mod Chunks

@@ -1,0 +1,291 @@
+// What tokens print before the block or the token inside them.
+use crate::plain;
+use chunks::stored::ChunkType;
+use expressions::expression;
+use expressions::expression::Arguments;
+use expressions::strings;
+use leaves::leaf;
+use leaves::record;
+use leaves::record::Opened;
+use leaves::texts::Style;
+use printing::Context;
+use printing::Printed;
+use tree::grammar::Class;
+ghost use mathlib.Core.Bool.{false};
+ghost use Rattle.tree.specs.declared.grammar.Class.the-variants as class;
+ghost use Rattle.events.specs.Trees as Trees;
+ghost use Rattle.leaves.specs.Records.{PrintsRecord};
+ghost use Rattle.tokens.specs.Fronts.{PrintsFront};
+
+// A key and its sign.
+fn config_pair_front(
+    tree: &[u8],
+    room: &mut [u8],
+    context: Context,
+    levels: usize,
+    last: Printed,
+) -> Printed
+    ensures { λ r. ⌜ PrintsFront r (now (room .exit)) last (now (room .entry)) context 4 levels (now (tree .entry)) ⌝ }
+{
+    let key = leaf::format_leaf(
+        tree,
+        room,
+        context,
+        levels,
+        Class::Word,
+        Style::Plain,
+        false,
+        last,
+    );
+    let gap = key.push(room, context, b" ");
+    let eq = leaf::format_leaf(
+        tree,
+        room,
+        context,
+        levels,
+        Class::Char,
+        Style::Plain,
+        true,
+        gap,
+    );
+    eq.push(room, context, b" ")
+}
+
+// A tag and a name.
+fn definition_front(
+    tree: &[u8],
+    room: &mut [u8],
+    context: Context,
+    levels: usize,
+    last: Printed,
+) -> Printed
+    ensures { λ r. ⌜ PrintsFront r (now (room .exit)) last (now (room .entry)) context 6 levels (now (tree .entry)) ⌝ }
+{
+    let tag = leaf::format_leaf(
+        tree,
+        room,
+        context,
+        levels,
+        Class::Word,
+        Style::Plain,
+        false,
+        last,
+    );
+    let gap = tag.push(room, context, b" ");
+    let id = leaf::format_leaf(
+        tree,
+        room,
+        context,
+        levels,
+        Class::Word,
+        Style::Plain,
+        true,
+        gap,
+    );
+    id.push(room, context, b" ")
+}
+
+// What is imported, and from where; the space stays pending where there is no block.
+fn import_front(
+    tree: &[u8],
+    room: &mut [u8],
+    context: Context,
+    levels: usize,
+    last: Printed,
+) -> Printed
+    ensures { λ r. ⌜ PrintsFront r (now (room .exit)) last (now (room .entry)) context 11 levels (now (tree .entry)) ⌝ }
+{
+    let tag = leaf::format_leaf(
+        tree,
+        room,
+        context,
+        levels,
+        Class::Word,
+        Style::Plain,
+        false,
+        last,
+    );
+    let behind = tag.push(room, context, b" ");
+    let args = expression::format_arguments(
+        tree,
+        room,
+        context,
+        levels,
+        Arguments::Imports,
+        behind,
+    );
+    let gap = args.push(room, context, b" ");
+    let source = leaf::format_leaf(
+        tree,
+        room,
+        context,
+        levels,
+        Class::Word,
+        Style::Plain,
+        true,
+        gap,
+    );
+    let space = source.push(room, context, b" ");
+    let filename = strings::format_string(tree, room, context, levels, true, space);
+    filename.spc_if_next()
+}
+
+// A label with its colon, in one chunk; its trivia are printed by the list.
+fn format_label(
+    tree: &[u8],
+    room: &mut [u8],
+    context: Context,
+    levels: usize,
+    last: Printed,
+) -> Printed
+    ensures { λ r. ⌜ PrintsRecord r (now (room .exit)) last (now (room .entry)) context Trees.labelled false levels (now (tree .entry)) class.Word ⌝ }
+{
+    let opened = record::open(tree, room, context, levels, Class::Word, true, false, last);
+    let Opened::Record(own, state) = opened else {
+        return record::closed(opened);
+    };
+    let start = own.text;
+    let end = own.end;
+    let next = state.push_type(room, context, ChunkType::Label, &tree[start..end], b":");
+    next.finish(end)
+}
+
+// The colon is skipped: it has been printed.
+fn label_front(
+    tree: &[u8],
+    room: &mut [u8],
+    context: Context,
+    levels: usize,
+    last: Printed,
+) -> Printed
+    ensures { λ r. ⌜ PrintsFront r (now (room .exit)) last (now (room .entry)) context 14 levels (now (tree .entry)) ⌝ }
+{
+    let id = format_label(tree, room, context, levels, last);
+    record::skip(tree, levels, Class::Colon, true, id)
+}
+
+// A macro with its arguments.
+fn macro_definition_front(
+    tree: &[u8],
+    room: &mut [u8],
+    context: Context,
+    levels: usize,
+    last: Printed,
+) -> Printed
+    ensures { λ r. ⌜ PrintsFront r (now (room .exit)) last (now (room .entry)) context 16 levels (now (tree .entry)) ⌝ }
+{
+    let tag = leaf::format_leaf(
+        tree,
+        room,
+        context,
+        levels,
+        Class::Word,
+        Style::Plain,
+        false,
+        last,
+    );
+    let gap = tag.push(room, context, b" ");
+    let id = leaf::format_leaf(
+        tree,
+        room,
+        context,
+        levels,
+        Class::Word,
+        Style::Plain,
+        true,
+        gap,
+    );
+    let lparen = leaf::format_leaf(
+        tree,
+        room,
+        context,
+        levels,
+        Class::Char,
+        Style::Plain,
+        true,
+        id,
+    );
+    let args = expression::format_arguments(
+        tree,
+        room,
+        context,
+        levels,
+        Arguments::Identifiers,
+        lparen,
+    );
+    let rparen = leaf::format_leaf(
+        tree,
+        room,
+        context,
+        levels,
+        Class::Char,
+        Style::Plain,
+        true,
+        args,
+    );
+    rparen.spc_if_next()
+}
+
+// A tag and an expression.
+fn tagged_front(
+    tree: &[u8],
+    room: &mut [u8],
+    context: Context,
+    levels: usize,
+    last: Printed,
+) -> Printed
+    ensures { λ r. ⌜ PrintsFront r (now (room .exit)) last (now (room .entry)) context 15 levels (now (tree .entry)) ⌝ }
+{
+    let value = plain::format_tagged(tree, room, context, levels, last);
+    value.push(room, context, b" ")
+}
+
+// A tag and a test's name.
+fn test_front(
+    tree: &[u8],
+    room: &mut [u8],
+    context: Context,
+    levels: usize,
+    last: Printed,
+) -> Printed
+    ensures { λ r. ⌜ PrintsFront r (now (room .exit)) last (now (room .entry)) context 20 levels (now (tree .entry)) ⌝ }
+{
+    let tag = leaf::format_leaf(
+        tree,
+        room,
+        context,
+        levels,
+        Class::Word,
+        Style::Plain,
+        false,
+        last,
+    );
+    let gap = tag.spc_if_next();
+    let id = expression::format_expression(tree, room, context, levels, true, gap);
+    id.spc_if_next()
+}
+
+// What a token prints before the block or the token inside it, by the number of its kind; nothing before that of a brace or a configuration.
+pub(crate) fn format_token_front(
+    tree: &[u8],
+    room: &mut [u8],
+    context: Context,
+    levels: usize,
+    number: usize,
+    last: Printed,
+) -> Printed
+    ensures { λ r. ⌜ PrintsFront r (now (room .exit)) last (now (room .entry)) context number levels (now (tree .entry)) ⌝ }
+{
+    match number {
+        4 => config_pair_front(tree, room, context, levels, last),
+        6 => definition_front(tree, room, context, levels, last),
+        10 => tagged_front(tree, room, context, levels, last),
+        11 => import_front(tree, room, context, levels, last),
+        14 => label_front(tree, room, context, levels, last),
+        15 => tagged_front(tree, room, context, levels, last),
+        16 => macro_definition_front(tree, room, context, levels, last),
+        19 => tagged_front(tree, room, context, levels, last),
+        20 => test_front(tree, room, context, levels, last),
+        _ => last.settled(),
+    }
+}

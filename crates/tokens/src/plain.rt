@@ -1,0 +1,415 @@
+// Tokens without a block or a token inside: the arms of `format_token`.
+use expressions::expression;
+use expressions::expression::Arguments;
+use expressions::operand;
+use expressions::strings;
+use leaves::leaf;
+use leaves::record;
+use leaves::texts::Style;
+use printing::Context;
+use printing::Printed;
+use tree::grammar::Class;
+ghost use mathlib.Core.Path.{_≡_};
+ghost use mathlib.Core.Bool.{true, false};
+ghost use Rattle.tree.specs.Grammar.{kindOf};
+ghost use Rattle.tree.specs.declared.grammar.Class.the-variants as class;
+ghost use Rattle.tree.specs.declared.grammar.Kind.{Kind};
+ghost use Rattle.tree.specs.declared.grammar.KindRead.the-variants.{Known};
+ghost use Rattle.tree.specs.declared.grammar.Kind.the-variants as kind;
+ghost use Rattle.events.specs.Printed.{plain};
+ghost use Rattle.events.specs.Trees as Trees;
+ghost use Rattle.leaves.specs.Records.{PrintsKind};
+ghost use Rattle.tokens.specs.Fronts.{isPlain};
+
+// A tag and an expression.
+pub(crate) fn format_tagged(
+    tree: &[u8],
+    room: &mut [u8],
+    context: Context,
+    levels: usize,
+    last: Printed,
+) -> Printed
+    ensures { λ r. ⌜ PrintsKind r (now (room .exit)) last (now (room .entry)) context (Trees.leaf plain) kind.Align class.LocatedExpression 0 levels (now (tree .entry)) ⌝ }
+{
+    let tag = leaf::format_leaf(
+        tree,
+        room,
+        context,
+        levels,
+        Class::Word,
+        Style::Plain,
+        false,
+        last,
+    );
+    let gap = tag.push(room, context, b" ");
+    expression::format_expression(tree, room, context, levels, true, gap)
+}
+
+// The space stays pending where there is no message.
+fn format_assert(
+    tree: &[u8],
+    room: &mut [u8],
+    context: Context,
+    levels: usize,
+    bits: usize,
+    last: Printed,
+) -> Printed
+    ensures { λ r. ⌜ PrintsKind r (now (room .exit)) last (now (room .entry)) context (Trees.leaf plain) kind.Assert class.LocatedExpression bits levels (now (tree .entry)) ⌝ }
+{
+    let value = format_tagged(tree, room, context, levels, last);
+    let gap = value.spc_if_next();
+    strings::format_string(tree, room, context, levels, record::stands(bits, 2), gap)
+}
+
+// The values are stored before the size and printed behind it.
+fn format_data(
+    tree: &[u8],
+    room: &mut [u8],
+    context: Context,
+    levels: usize,
+    last: Printed,
+) -> Printed
+    ensures { λ r. ⌜ PrintsKind r (now (room .exit)) last (now (room .entry)) context (Trees.leaf plain) kind.Data class.LocatedExpression 0 levels (now (tree .entry)) ⌝ }
+{
+    let Printed::Done(_, values) = last else {
+        return last;
+    };
+    let skipped = record::skip(tree, levels, Class::ExpressionArguments, true, last);
+    let size = leaf::format_leaf(
+        tree,
+        room,
+        context,
+        levels,
+        Class::DataSize,
+        Style::DataSize,
+        false,
+        skipped,
+    );
+    let Printed::Done(_, end) = size else {
+        return size;
+    };
+    let gap = size.push(room, context, b" ");
+    let printed = expression::format_arguments(
+        tree,
+        room,
+        context,
+        levels,
+        Arguments::Expressions,
+        gap.moved_to(values),
+    );
+    printed.moved_to(end)
+}
+
+// A tag and a file's name.
+fn format_file(
+    tree: &[u8],
+    room: &mut [u8],
+    context: Context,
+    levels: usize,
+    last: Printed,
+) -> Printed
+    ensures { λ r. ⌜ PrintsKind r (now (room .exit)) last (now (room .entry)) context (Trees.leaf plain) kind.File class.LocatedExpression 0 levels (now (tree .entry)) ⌝ }
+{
+    let tag = leaf::format_leaf(
+        tree,
+        room,
+        context,
+        levels,
+        Class::Word,
+        Style::Plain,
+        false,
+        last,
+    );
+    let gap = tag.push(room, context, b" ");
+    strings::format_string(tree, room, context, levels, true, gap)
+}
+
+// A mnemonic, with an operand or without.
+fn format_instruction(
+    tree: &[u8],
+    room: &mut [u8],
+    context: Context,
+    levels: usize,
+    bits: usize,
+    last: Printed,
+) -> Printed
+    ensures { λ r. ⌜ PrintsKind r (now (room .exit)) last (now (room .entry)) context (Trees.leaf plain) kind.Instruction class.LocatedExpression bits levels (now (tree .entry)) ⌝ }
+{
+    let mnemonic = leaf::format_leaf(
+        tree,
+        room,
+        context,
+        levels,
+        Class::Mnemonic,
+        Style::Mnemonic,
+        false,
+        last,
+    );
+    let gap = mnemonic.spc_if_next();
+    let operand = operand::format_operand(
+        tree,
+        room,
+        context,
+        levels,
+        record::stands(bits, 1),
+        gap,
+    );
+    operand.clear_spc_if_next()
+}
+
+// A macro's name with its arguments.
+fn format_macro_invocation(
+    tree: &[u8],
+    room: &mut [u8],
+    context: Context,
+    levels: usize,
+    last: Printed,
+) -> Printed
+    ensures { λ r. ⌜ PrintsKind r (now (room .exit)) last (now (room .entry)) context (Trees.leaf plain) kind.MacroInvocation class.LocatedExpression 0 levels (now (tree .entry)) ⌝ }
+{
+    let id = leaf::format_leaf(
+        tree,
+        room,
+        context,
+        levels,
+        Class::Word,
+        Style::Plain,
+        false,
+        last,
+    );
+    let lparen = leaf::format_leaf(
+        tree,
+        room,
+        context,
+        levels,
+        Class::Char,
+        Style::Plain,
+        true,
+        id,
+    );
+    let args = expression::format_arguments(
+        tree,
+        room,
+        context,
+        levels,
+        Arguments::Expressions,
+        lparen,
+    );
+    leaf::format_leaf(
+        tree,
+        room,
+        context,
+        levels,
+        Class::Char,
+        Style::Plain,
+        true,
+        args,
+    )
+}
+
+// `* = ..`
+fn format_program_counter_definition(
+    tree: &[u8],
+    room: &mut [u8],
+    context: Context,
+    levels: usize,
+    last: Printed,
+) -> Printed
+    ensures { λ r. ⌜ PrintsKind r (now (room .exit)) last (now (room .entry)) context (Trees.leaf plain) kind.ProgramCounterDefinition class.LocatedExpression 0 levels (now (tree .entry)) ⌝ }
+{
+    let star = leaf::format_leaf(
+        tree,
+        room,
+        context,
+        levels,
+        Class::Char,
+        Style::Plain,
+        false,
+        last,
+    );
+    let gap = star.push(room, context, b" ");
+    let eq = leaf::format_leaf(
+        tree,
+        room,
+        context,
+        levels,
+        Class::Char,
+        Style::Plain,
+        true,
+        gap,
+    );
+    let space = eq.push(room, context, b" ");
+    expression::format_expression(tree, room, context, levels, true, space)
+}
+
+// The space stays pending where nothing is printed behind it.
+fn format_text(
+    tree: &[u8],
+    room: &mut [u8],
+    context: Context,
+    levels: usize,
+    bits: usize,
+    last: Printed,
+) -> Printed
+    ensures { λ r. ⌜ PrintsKind r (now (room .exit)) last (now (room .entry)) context (Trees.leaf plain) kind.Text class.LocatedExpression bits levels (now (tree .entry)) ⌝ }
+{
+    let tag = leaf::format_leaf(
+        tree,
+        room,
+        context,
+        levels,
+        Class::Word,
+        Style::Plain,
+        false,
+        last,
+    );
+    let gap = tag.spc_if_next();
+    let encoding = leaf::format_optional_leaf(
+        tree,
+        room,
+        context,
+        levels,
+        Class::TextEncoding,
+        Style::Encoding,
+        record::stands(bits, 1),
+        gap,
+    );
+    let pending = encoding.spc_if_next();
+    expression::format_expression(tree, room, context, levels, true, pending)
+}
+
+// A tag with what is traced.
+fn format_trace(
+    tree: &[u8],
+    room: &mut [u8],
+    context: Context,
+    levels: usize,
+    bits: usize,
+    last: Printed,
+) -> Printed
+    ensures { λ r. ⌜ PrintsKind r (now (room .exit)) last (now (room .entry)) context (Trees.leaf plain) kind.Trace class.LocatedExpression bits levels (now (tree .entry)) ⌝ }
+{
+    let tag = leaf::format_leaf(
+        tree,
+        room,
+        context,
+        levels,
+        Class::Word,
+        Style::Plain,
+        false,
+        last,
+    );
+    let gap = tag.spc_if_next();
+    let lparen = leaf::format_optional_leaf(
+        tree,
+        room,
+        context,
+        levels,
+        Class::Char,
+        Style::Plain,
+        record::stands(bits, 1),
+        gap,
+    );
+    let args = expression::format_arguments(
+        tree,
+        room,
+        context,
+        levels,
+        Arguments::Expressions,
+        lparen,
+    );
+    leaf::format_optional_leaf(
+        tree,
+        room,
+        context,
+        levels,
+        Class::Char,
+        Style::Plain,
+        record::stands(bits, 3),
+        args,
+    )
+}
+
+// `.const` or `.var`, a name and a value.
+fn format_variable_definition(
+    tree: &[u8],
+    room: &mut [u8],
+    context: Context,
+    levels: usize,
+    last: Printed,
+) -> Printed
+    ensures { λ r. ⌜ PrintsKind r (now (room .exit)) last (now (room .entry)) context (Trees.leaf plain) kind.VariableDefinition class.LocatedExpression 0 levels (now (tree .entry)) ⌝ }
+{
+    let ty = leaf::format_leaf(
+        tree,
+        room,
+        context,
+        levels,
+        Class::VariableType,
+        Style::VariableType,
+        false,
+        last,
+    );
+    let gap = ty.push(room, context, b" ");
+    let id = leaf::format_leaf(
+        tree,
+        room,
+        context,
+        levels,
+        Class::Word,
+        Style::Plain,
+        true,
+        gap,
+    );
+    let space = id.push(room, context, b" ");
+    let eq = leaf::format_leaf(
+        tree,
+        room,
+        context,
+        levels,
+        Class::Char,
+        Style::Plain,
+        true,
+        space,
+    );
+    let behind = eq.push(room, context, b" ");
+    expression::format_expression(tree, room, context, levels, true, behind)
+}
+
+// A token by the number of its kind, of those without a block or a token inside; of an end only its unit is skipped.
+pub(crate) fn format_plain_token(
+    tree: &[u8],
+    room: &mut [u8],
+    context: Context,
+    levels: usize,
+    number: usize,
+    bits: usize,
+    last: Printed,
+) -> Printed
+    ensures { λ r. ⌜ (isPlain number ≡ true → (kind : Kind) → kindOf number ≡ Known kind → PrintsKind r (now (room .exit)) last (now (room .entry)) context (Trees.leaf plain) kind class.LocatedExpression bits levels (now (tree .entry))) ⌝ }
+{
+    match number {
+        0 => format_tagged(tree, room, context, levels, last),
+        1 => format_assert(tree, room, context, levels, bits, last),
+        5 => format_data(tree, room, context, levels, last),
+        8 => leaf::format_leaf(
+            tree,
+            room,
+            context,
+            levels,
+            Class::Word,
+            Style::Plain,
+            false,
+            last,
+        ),
+        9 => expression::format_expression(tree, room, context, levels, false, last),
+        12 => format_file(tree, room, context, levels, last),
+        13 => format_instruction(tree, room, context, levels, bits, last),
+        17 => format_macro_invocation(tree, room, context, levels, last),
+        18 => format_program_counter_definition(tree, room, context, levels, last),
+        21 => format_text(tree, room, context, levels, bits, last),
+        22 => format_trace(tree, room, context, levels, bits, last),
+        23 => format_variable_definition(tree, room, context, levels, last),
+        _ => record::skip(tree, levels, Class::Unit, true, last),
+    }
+}

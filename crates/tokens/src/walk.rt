@@ -1,0 +1,349 @@
+// The walk: a token opens a block, a block opens a token list, and a list returns to tokens.
+use crate::fronts;
+use crate::plain;
+use leads::Before;
+use leaves::leaf;
+use leaves::record;
+use leaves::record::Opened;
+use leaves::texts::Style;
+use options::BracePosition;
+use printing::Context;
+use printing::Printed;
+use tree::grammar::Class;
+ghost use mathlib.Core.Path.{_≡_};
+ghost use mathlib.Core.Bool.{true, false};
+ghost use Prim.Native.Nat.{_-_, _<_, _≤_};
+ghost use Rattle.tree.specs.Grammar.{kindOf};
+ghost use Rattle.tree.specs.Reading.{read};
+ghost use Rattle.tree.specs.declared.grammar.Class.the-variants as class;
+ghost use Rattle.tree.specs.declared.grammar.Kind.{Kind};
+ghost use Rattle.tree.specs.declared.grammar.KindRead.the-variants.{Known};
+ghost use Rattle.printing.specs.Running.{Prints};
+ghost use Rattle.events.specs.Printed.{plain};
+ghost use Rattle.events.specs.Trees as Trees;
+ghost use Rattle.events.specs.Trees.{eventsIn};
+ghost use Rattle.leaves.specs.Records.{PrintsField, PrintsKind};
+ghost use Rattle.leaves.specs.Lists.{itemsEnd};
+ghost use Rattle.tokens.specs.Inner.{tokenClass, innerOf, Ends, Narrow, elseFront, branchEvents, branchesEnd};
+ghost use Rattle.tokens.specs.Tokens.{PrintsTokens, eachEvents};
+
+// What stands inside a token.
+pub enum Inner {
+    Nothing,
+    Block(bool),
+    Token(bool, bool),
+    Branches,
+}
+
+// What stands inside a token, by the number of its kind: a block, a token, two branches, or nothing of these.
+fn inner_of(number: usize, bits: usize) -> Inner
+    ensures { λ r. ⌜ r ≡ innerOf number bits ⌝ }
+{
+    match number {
+        4 => Inner::Token(true, true),
+        6 => Inner::Token(record::stands(bits, 2), false),
+        10 => Inner::Branches,
+        11 => Inner::Block(record::stands(bits, 4)),
+        14 => Inner::Block(record::stands(bits, 2)),
+        19 => Inner::Block(record::stands(bits, 2)),
+        2 => Inner::Block(true),
+        3 => Inner::Block(true),
+        15 => Inner::Block(true),
+        16 => Inner::Block(true),
+        20 => Inner::Block(true),
+        _ => Inner::Nothing,
+    }
+}
+
+fn token_class(located: bool) -> Class
+    ensures { λ r. ⌜ r ≡ tokenClass located ⌝ }
+{
+    if located {
+        return Class::LocatedToken;
+    }
+    Class::BareToken
+}
+
+// The context inside a block.
+fn deeper(context: Context) -> Context
+    requires { ⌜ (context .options .whitespace .indent ≤ 64) × (context .indent ≤ 4096) ⌝ }
+    ensures { λ r. ⌜ r ≡ Trees.deeper context ⌝ }
+{
+    let options = context.options;
+    let whitespace = options.whitespace;
+    let indent = whitespace.indent;
+    Context {
+        options: options,
+        indent: context.indent + indent,
+    }
+}
+
+// The opening brace, on the same line or on a new one.
+fn open_block(
+    tree: &[u8],
+    room: &mut [u8],
+    context: Context,
+    levels: usize,
+    last: Printed,
+) -> Printed
+    ensures { λ r. ⌜ Prints r (now (room .exit)) last (now (room .entry)) (λ at. Trees.opening context (context .options .braces .position) (eventsIn context (Trees.leaf plain) false (read levels (now (tree .entry)) class.OpenBrace at .tree))) (λ at. read levels (now (tree .entry)) class.OpenBrace at .end) ⌝ }
+{
+    let options = context.options;
+    let braces = options.braces;
+    let position = braces.position;
+    match position {
+        BracePosition::SameLine => {
+            let lparen = leaf::format_leaf(
+                tree,
+                room,
+                context,
+                levels,
+                Class::OpenBrace,
+                Style::Plain,
+                false,
+                last,
+            );
+            lparen.push(room, context, b"\n")
+        }
+        BracePosition::NewLine => {
+            let line = last.push(room, context, b"\n");
+            let lparen = leaf::format_leaf(
+                tree,
+                room,
+                context,
+                levels,
+                Class::OpenBrace,
+                Style::Plain,
+                false,
+                line,
+            );
+            lparen.push(room, context, b"\n")
+        }
+    }
+}
+
+// What stands between the branches of an `If`.
+fn format_else(
+    tree: &[u8],
+    room: &mut [u8],
+    context: Context,
+    levels: usize,
+    last: Printed,
+) -> Printed
+    ensures { λ r. ⌜ Prints r (now (room .exit)) last (now (room .entry)) (λ at. elseFront context (context .options .braces .position) (eventsIn context (Trees.leaf plain) true (read levels (now (tree .entry)) class.Word at .tree))) (λ at. read levels (now (tree .entry)) class.Word at .end) ⌝ }
+{
+    let options = context.options;
+    let braces = options.braces;
+    let position = braces.position;
+    match position {
+        BracePosition::SameLine => {
+            let gap = last.push(room, context, b" ");
+            let tag = leaf::format_leaf(
+                tree,
+                room,
+                context,
+                levels,
+                Class::Word,
+                Style::Plain,
+                true,
+                gap,
+            );
+            tag.push(room, context, b" ")
+        }
+        BracePosition::NewLine => {
+            let line = last.push(room, context, b"\n");
+            leaf::format_leaf(
+                tree,
+                room,
+                context,
+                levels,
+                Class::Word,
+                Style::Plain,
+                true,
+                line,
+            )
+        }
+    }
+}
+
+// A token, by its kind: what it prints before the block or the token inside it, and that.
+fn format_token(
+    tree: &[u8],
+    room: &mut [u8],
+    context: Context,
+    levels: usize,
+    stands: bool,
+    located: bool,
+    shown: bool,
+    last: Printed,
+) -> Printed
+    requires { ⌜ Narrow context levels ⌝ }
+    ensures { λ r. ⌜ PrintsField r (now (room .exit)) last (now (room .entry)) context (Trees.leaf plain) shown levels (now (tree .entry)) (tokenClass located) stands ⌝ }
+{
+    let Printed::Done(_, at) = last else {
+        return last;
+    };
+    let class = token_class(located);
+    let opened = record::open(tree, room, context, levels, class, stands, shown, last);
+    let Opened::Record(own, state) = opened else {
+        return record::closed(opened);
+    };
+    let number = leads::byte_at(tree, at);
+    let start = Printed::Done(state, own.end);
+    format_inner(tree, room, context, levels - 1, number, own.map / 2, start)
+}
+
+// A token whose own bytes were read: what it prints before the block or the token inside it, and that.
+fn format_inner(
+    tree: &[u8],
+    room: &mut [u8],
+    context: Context,
+    levels: usize,
+    number: usize,
+    bits: usize,
+    last: Printed,
+) -> Printed
+    requires { ⌜ Narrow context levels ⌝ }
+    requires { ⌜ Ends number bits ⌝ }
+    ensures { λ r. ⌜ (number ≤ 23 → (kind : Kind) → kindOf number ≡ Known kind → PrintsKind r (now (room .exit)) last (now (room .entry)) context (Trees.leaf plain) kind class.LocatedExpression bits levels (now (tree .entry))) ⌝ }
+{
+    let inner = inner_of(number, bits);
+    if let Inner::Nothing = inner {
+        return plain::format_plain_token(tree, room, context, levels, number, bits, last);
+    }
+    let front = fronts::format_token_front(tree, room, context, levels, number, last);
+    match inner {
+        Inner::Block(stands) => format_block(tree, room, context, levels, stands, front),
+        Inner::Token(stands, located) => {
+            format_token(tree, room, context, levels, stands, located, true, front)
+        }
+        Inner::Branches => {
+            format_branches(tree, room, context, levels, record::stands(bits, 3), front)
+        }
+        Inner::Nothing => front,
+    }
+}
+
+// The branches of an `If`.
+fn format_branches(
+    tree: &[u8],
+    room: &mut [u8],
+    context: Context,
+    levels: usize,
+    other: bool,
+    last: Printed,
+) -> Printed
+    requires { ⌜ Narrow context levels ⌝ }
+    ensures { λ r. ⌜ Prints r (now (room .exit)) last (now (room .entry)) (λ at. branchEvents context other (read levels (now (tree .entry))) at) (λ at. branchesEnd other (read levels (now (tree .entry))) at) ⌝ }
+{
+    let then = format_block(tree, room, context, levels, true, last);
+    if !other {
+        return then;
+    }
+    let tag = format_else(tree, room, context, levels, then);
+    format_block(tree, room, context, levels, true, tag)
+}
+
+// A block that may stand or not: its list has exactly one newline behind it, and stands further in.
+fn format_block(
+    tree: &[u8],
+    room: &mut [u8],
+    context: Context,
+    levels: usize,
+    stands: bool,
+    last: Printed,
+) -> Printed
+    requires { ⌜ Narrow context levels ⌝ }
+    ensures { λ r. ⌜ PrintsField r (now (room .exit)) last (now (room .entry)) context (Trees.leaf plain) true levels (now (tree .entry)) class.BlockRecord stands ⌝ }
+{
+    let opened = record::open(
+        tree,
+        room,
+        context,
+        levels,
+        Class::BlockRecord,
+        stands,
+        true,
+        last,
+    );
+    let Opened::Record(own, state) = opened else {
+        return record::closed(opened);
+    };
+    let start = Printed::Done(state, own.end);
+    let lparen = open_block(tree, room, context, levels - 1, start);
+    let inner = format_tokens(tree, room, deeper(context), levels - 1, true, lparen);
+    let trimmed = inner.trim_newlines();
+    let line = trimmed.push(room, context, b"\n");
+    leaf::format_leaf(
+        tree,
+        room,
+        context,
+        levels - 1,
+        Class::CloseBrace,
+        Style::Plain,
+        false,
+        line,
+    )
+}
+
+// A token list: the file's, or that of a block, whose first newlines are dropped and whose `}` stands for an end.
+pub(crate) fn format_tokens(
+    tree: &[u8],
+    room: &mut [u8],
+    context: Context,
+    levels: usize,
+    block: bool,
+    last: Printed,
+) -> Printed
+    requires { ⌜ Narrow context levels ⌝ }
+    ensures { λ r. ⌜ PrintsTokens r (now (room .exit)) last (now (room .entry)) context block levels (now (tree .entry)) ⌝ }
+{
+    let opened = record::open(tree, room, context, levels, Class::Tokens, true, true, last);
+    let Opened::Record(own, state) = opened else {
+        return record::closed(opened);
+    };
+    let start = Printed::Done(state, own.end);
+    format_each_token(tree, room, context, levels, block, own.count, start)
+}
+
+// So many tokens, and the end of their list; `levels` are those of the list.
+fn format_each_token(
+    tree: &[u8],
+    room: &mut [u8],
+    context: Context,
+    levels: usize,
+    block: bool,
+    count: usize,
+    last: Printed,
+) -> Printed
+    requires { ⌜ Narrow context levels ⌝ }
+    requires { ⌜ 0 < levels ⌝ }
+    ensures { λ r. ⌜ Prints r (now (room .exit)) last (now (room .entry)) (λ at. eachEvents context block levels (now (tree .entry)) count at) (λ at. itemsEnd (read (levels - 1) (now (tree .entry))) class.BareToken count at) ⌝ }
+{
+    let mut answer = last;
+    let mut before = Before {
+        first: true,
+        previous: 0,
+    };
+    let mut left = count;
+    while 0 < left {
+        let Printed::Done(_, at) = answer else {
+            return answer;
+        };
+        let drops = block && before.first;
+        let lead = leads::format_lead_in(tree, room, context, levels - 1, drops, before, answer);
+        let Printed::Done(_, _) = lead else {
+            return lead;
+        };
+        answer = format_token(tree, room, context, levels - 1, true, false, false, lead);
+        before = Before {
+            first: false,
+            previous: leads::byte_at(tree, at),
+        };
+        left -= 1;
+    }
+    if block {
+        return leads::format_lead_out(tree, room, context, levels, before.first, before, answer);
+    }
+    answer.settled()
+}
