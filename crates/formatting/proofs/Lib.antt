@@ -1,0 +1,2 @@
+pub mod Lessons
+pub mod Samples

@@ -1,0 +1,2 @@
+pub mod Formatting
+pub mod Demands

@@ -1,0 +1,34 @@
+// The tree call: a stored tree becomes a lesson in columns.
+use answers::Answer;
+use text::stores;
+ghost use mathlib.Core.Path.{_≡_};
+ghost use lib.ListN.{length};
+ghost use Rattle.answers.specs.Texts.{answerIn, bufferAfter};
+ghost use Rattle.text.specs.Stores.{zeros};
+ghost use Rattle.formatting.specs.Formatting.{formatted};
+ghost use Rattle.formatting.specs.Demands.{Lesson};
+
+// The call with a work room that is left as the walk leaves it.
+fn format_in(tree: &[u8], options: &[u8], work: &mut [u8], text: &mut [u8]) -> Answer
+    ensures { λ r. ⌜ r ≡ answerIn (formatted (now (tree .entry)) (now (options .entry)) (length (now (work .entry)))) (length (now (text .entry))) ⌝ }
+    ensures { λ _. ⌜ now (text .exit) ≡ bufferAfter (formatted (now (tree .entry)) (now (options .entry)) (length (now (work .entry)))) (now (text .entry)) ⌝ }
+    ensures { λ _. ⌜ Lesson (now (tree .entry)) (now (options .entry)) (formatted (now (tree .entry)) (now (options .entry)) (length (now (work .entry)))) ⌝ }
+{
+    let walked = tokens::chunks(tree, options, work);
+    let Answer::Accepted(used) = walked else {
+        return walked;
+    };
+    join::join_chunks(&work[..used], options, text)
+}
+
+// The text of a stored tree under stored options, at the text buffer's start; or refusal 1, 2, 3, 4, 5, 7, 8 or 9. The work room is all zeros afterwards.
+pub fn format(tree: &[u8], options: &[u8], work: &mut [u8], text: &mut [u8]) -> Answer
+    ensures { λ r. ⌜ r ≡ answerIn (formatted (now (tree .entry)) (now (options .entry)) (length (now (work .entry)))) (length (now (text .entry))) ⌝ }
+    ensures { λ _. ⌜ now (text .exit) ≡ bufferAfter (formatted (now (tree .entry)) (now (options .entry)) (length (now (work .entry)))) (now (text .entry)) ⌝ }
+    ensures { λ _. ⌜ now (work .exit) ≡ zeros (length (now (work .entry))) ⌝ }
+    ensures { λ _. ⌜ Lesson (now (tree .entry)) (now (options .entry)) (formatted (now (tree .entry)) (now (options .entry)) (length (now (work .entry)))) ⌝ }
+{
+    let answer = format_in(tree, options, work, text);
+    stores::clear(work);
+    answer
+}
