@@ -1,7 +1,7 @@
 """Compares a built `replay` with the Rust on chunk lists, and with two readers on trees, that no file holds.
 
-    python3 compare.py REPLAY ORACLE [--random N] [--small] [--limits] [--trees N] [--small-trees] [--streams]
-                       [--seed S]
+    python3 compare.py REPLAY ORACLE [--random N] [--small] [--limits] [--trees N] [--small-trees] [--walks N]
+                       [--formats N] [--parsed FOLDER] [--streams] [--seed S]
 
 Chunk lists, for the column setter:
 --random N      N random lists, some of them damaged, with buffers of any fit
@@ -11,7 +11,12 @@ Trees, for their check:
 --trees N       N random trees, two of three damaged, some of them about as deep as a tree may be
 --small-trees   one token of up to seven bytes of eight; one leaf of up to eight of six; every kind and map byte at
                 a place of each type
-Both:
+Trees, for the walk to chunks:
+--walks N       N random trees, each under options and in work rooms of any fit
+For the tree call:
+--formats N     N random trees, each under options and in rooms and buffers of any fit
+--parsed FOLDER every tree in a folder, as the Rust's parser made them (`oracle parse`), under options in turn
+All:
 --streams       cut and overlong cases and wrong commands, which end a run of `replay`
 If no part is named: 20,000 random lists and as many random trees.
 
@@ -21,9 +26,11 @@ number of cases by answer, and every difference with its input. The exit status 
 """
 
 import argparse
+from pathlib import Path
 
 import compare_lists
 import compare_trees
+import compare_walks
 from model import encode_chunks
 from streams import MOST, ask_rust, check_case, check_due, four, join_case, join_due, run, stored_answer, stored_case
 from tally import Tally
@@ -45,7 +52,7 @@ def compare_streams(tally, oracle):
         runs.append((whole[:cut], b"".join(answer for answer, end in zip(answers, ends) if end <= cut)))
     # Options, payload, work room and text buffer, each one byte too long.
     tail = four(0) + four(0)
-    for command in (b"J", b"K"):
+    for command in (b"J", b"K", b"C", b"F"):
         for overlong in (
             command + four(17) + bytes(17) + four(0) + tail,
             command + four(1) + b"\0" + four(MOST + 1) + bytes(MOST + 1) + tail,
@@ -53,7 +60,7 @@ def compare_streams(tally, oracle):
             command + four(1) + b"\0" + four(0) + four(0) + four(MOST + 1),
         ):
             runs.append((stored[0] + overlong + stored[1], answers[0]))
-    for other in set(range(256)) - set(b"JK"):
+    for other in set(range(256)) - set(b"JKCF"):
         runs.append((stored[0] + bytes([other]) + stored[1][1:] + stored[2], answers[0]))
     for stream, due in runs:
         got = run([tally.replay], stream)
@@ -72,11 +79,16 @@ def main():
     parser.add_argument("--limits", action="store_true")
     parser.add_argument("--trees", type=int, default=0)
     parser.add_argument("--small-trees", action="store_true")
+    parser.add_argument("--walks", type=int, default=0)
+    parser.add_argument("--formats", type=int, default=0)
+    parser.add_argument("--parsed", type=Path)
     parser.add_argument("--streams", action="store_true")
     parser.add_argument("--seed", type=int, default=1)
     given = parser.parse_args()
     tally = Tally(given.replay)
-    if not (given.random or given.small or given.limits or given.trees or given.small_trees or given.streams):
+    parts = (given.random, given.small, given.limits, given.trees, given.small_trees, given.walks)
+    parts += (given.formats, given.parsed, given.streams)
+    if not any(parts):
         given.random = given.trees = 20000
     if given.random:
         compare_lists.compare_random(tally, given.oracle, given.random, given.seed)
@@ -88,6 +100,14 @@ def main():
         compare_trees.compare_random(tally, given.oracle, given.trees, given.seed)
     if given.small_trees:
         compare_trees.compare_small(tally, given.oracle)
+    if given.walks:
+        compare_walks.compare_random(tally, given.oracle, given.walks, given.seed)
+    if given.formats:
+        compare_walks.compare_random_formats(tally, given.oracle, given.formats, given.seed)
+    if given.parsed:
+        trees = [path.read_bytes() for path in sorted(given.parsed.iterdir())]
+        part = f"tree calls on {len(trees)} parsed sources, each under six options"
+        compare_walks.compare_formats(tally, given.oracle, [tree for tree in trees for _ in range(7)], part)
     if given.streams:
         compare_streams(tally, given.oracle)
     print(f"{tally.differences} differences")

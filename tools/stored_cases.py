@@ -3,7 +3,7 @@
     python3 stored_cases.py ORACLE FOLDER [--seed S] [--random N]
 
 writes FOLDER/stdin and FOLDER/stdout: first the chunk lists of list_cases.py for the column setter, then
-the trees of tree_cases.py for the tree's check. The texts come from the Rust, through the program
+the trees of tree_cases.py for the tree's check, then these for the walk and for the tree call. The texts and chunks come from the Rust, through the program
 ORACLE, the refusals from the model of document 01 (model/model.py). Where both speak they must agree:
 the model has the texts too, and the oracle a reader of its own for the refusals. The same seed gives
 the same files.
@@ -14,12 +14,13 @@ from collections import Counter
 from pathlib import Path
 
 from streams import MOST, Answer, Case, ask_reader, ask_rust, check_case, check_due, four, join_case, join_due
-from streams import stored_answer, stored_case
+from streams import ask_format, ask_walk, format_due, stored_answer, stored_case, walk_due
 
 import model as m  # after streams, which finds the model's folder
 from list_cases import PLAIN, all_lists
 from model import encode_chunks
 from tree_cases import SAMPLE, all_trees, not_covered, refusal_of
+from walk_cases import format_cases, options_of, walk_cases
 
 
 def answered_lists(oracle, lists):
@@ -54,6 +55,44 @@ def answered_trees(oracle, trees):
         yield case, check_due(told)
 
 
+def walk_told(case):
+    """The answer that the model gives for a case of the walk."""
+    try:
+        options = m.parse_options(case.options)
+        chunks = m.print_chunks(m.check_tree(case.payload), options, case.work).chunks
+    except m.Refusal as refusal:
+        return Answer(refusal.number, refusal.place, 0, b"")
+    stored = encode_chunks(chunks)
+    return Answer(0, len(stored), 0, stored)
+
+
+def answered_walks(oracle, trees, most):
+    """Cases of the walk for trees, with the answers that are due, of up to so many bytes in all."""
+    asked = [(options_of(number), tree) for number, tree in enumerate(trees)]
+    for number, ((options, tree), given) in enumerate(zip(asked, ask_walk(oracle, asked))):
+        for case in walk_cases(options, tree, given[1], number % 12 == 0):
+            due = walk_due(given, case.work)
+            told = walk_told(case)
+            if told != due:
+                raise SystemExit(f"the model and the Rust differ: {case} model {told} Rust {due}")
+            most -= len(due.text) + 6
+            if most < 0:
+                return
+            yield case, due
+
+
+def answered_formats(oracle, trees):
+    """Cases of the tree call for trees, with the answers that are due."""
+    asked = [(options_of(number), tree) for number, tree in enumerate(trees)]
+    for number, ((options, tree), given) in enumerate(zip(asked, ask_format(oracle, asked))):
+        for case in format_cases(options, tree, given, number % 12 == 0):
+            due = format_due(given, case.work, case.room)
+            told = m.format_call(tree, options, case.work, case.room)
+            if Answer(told.number, told.value, 0, told.text) != due:
+                raise SystemExit(f"the model and the Rust differ: {case} model {told} Rust {due}")
+            yield case, due
+
+
 def last_case():
     """A case whose buffer is one byte too long ends the run; the whole case behind it is not answered."""
     whole = stored_case(join_case(b"\0", encode_chunks(PLAIN), 100))
@@ -77,12 +116,22 @@ def main():
     left = not_covered(case.payload for case, answer in trees if answer.number == 0)
     if left:
         raise SystemExit(f"no accepted tree has {sorted(map(str, left))}")
-    stdin = b"".join(stored_case(case) for case, _ in lists + trees) + last_case()
-    stdout = b"".join(stored_answer(answer) for _, answer in lists + trees)
+    # Every accepted tree, and one of twenty that are not.
+    taken = [case.payload for at, (case, answer) in enumerate(trees) if answer.number == 0 or at % 20 == 0]
+    walks = list(answered_walks(given.oracle, [tree for tree in taken if len(tree) < 4000], 600000))
+    # Every accepted tree, and two of three that are not.
+    short = [case.payload for at, (case, answer) in enumerate(trees) if len(case.payload) < 1000 and (answer.number == 0 or at % 3)]
+    formats = list(answered_formats(given.oracle, short))
+    made = lists + trees + walks + formats
+    stdin = b"".join(stored_case(case) for case, _ in made) + last_case()
+    stdout = b"".join(stored_answer(answer) for _, answer in made)
     (given.folder / "stdin").write_bytes(stdin)
     (given.folder / "stdout").write_bytes(stdout)
     print_counts("chunk lists", lists)
     print_counts("trees", trees)
+    print_counts("walks", walks)
+    print_counts("tree calls", formats)
+    print(len({case.payload for case, _ in formats}), "trees through the whole call")
     rules = Counter(refusal_of(case.payload).why for case, answer in trees if answer.number == 5)
     print("answer 5 by the rule that is broken:", ", ".join(f"{why} {count}" for why, count in sorted(rules.items())))
     print(f"stdin {len(stdin)} bytes, stdout {len(stdout)} bytes")

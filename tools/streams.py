@@ -11,10 +11,10 @@ sys.path.append(str(Path(__file__).parent / "model"))
 # The longest payload and buffer that `replay` takes.
 MOST = 1114112
 
-# `room` is the length of the text buffer that is lent.
-Case = namedtuple("Case", "command options payload room")
+# `room` is the length of the text buffer that is lent, `work` that of the work room.
+Case = namedtuple("Case", "command options payload room work", defaults=[0])
 
-# `text` is empty where the number is not 0, and for the command K.
+# `text` is empty where the number is not 0, and for the command K; it is the chunks for the command C.
 Answer = namedtuple("Answer", "number value flag text")
 
 
@@ -32,10 +32,20 @@ def check_case(tree):
     return Case(b"K", b"", tree, 0)
 
 
+def walk_case(options, tree, work):
+    """A case of the walk from a tree to chunks."""
+    return Case(b"C", options, tree, 0, work)
+
+
+def format_case(options, tree, work, room):
+    """A case of the tree call."""
+    return Case(b"F", options, tree, room, work)
+
+
 def stored_case(case):
-    """A case as `replay` reads it; the work room's length is 0."""
+    """A case as `replay` reads it."""
     parts = [case.command, four(len(case.options)), case.options, four(len(case.payload)), case.payload]
-    return b"".join(parts + [four(0), four(case.room)])
+    return b"".join(parts + [four(case.work), four(case.room)])
 
 
 def stored_answer(answer):
@@ -94,6 +104,49 @@ def ask_reader(oracle, trees):
     Of the commands that read a tree, `p` does the least behind the reader; what it gives is not used."""
     given = ask_oracle(oracle, b"p", [(b"\0", tree) for tree in trees])
     return [answer if isinstance(answer, tuple) else None for answer in given]
+
+
+def ask_walk(oracle, trees):
+    """For each (options, tree) the chunks that the Rust holds, or the number and place of a refusal; and the work
+    rooms that the pushes need, each more than every one before."""
+    rooms = ask_oracle(oracle, b"w", trees)
+    return list(zip(ask_oracle(oracle, b"c", trees), [needs(room) for room in rooms]))
+
+
+def needs(room):
+    """The four-byte numbers of an answer of the oracle, none of a refusal."""
+    if isinstance(room, tuple):
+        return []
+    return [int.from_bytes(room[at : at + 4], "little") for at in range(0, len(room), 4)]
+
+
+def walk_due(given, work):
+    """The answer that is due for what `ask_walk` gave and a work room of `work` bytes."""
+    chunks, rooms = given
+    if isinstance(chunks, tuple):
+        return Answer(chunks[0], chunks[1], 0, b"")
+    for need in rooms:
+        if work < need:
+            return Answer(8, need, 0, b"")
+    return Answer(0, len(chunks), 0, chunks)
+
+
+def ask_format(oracle, trees):
+    """For each (options, tree) the text of the Rust, or the number and place of a refusal; and the work rooms that
+    the pushes need."""
+    rooms = ask_oracle(oracle, b"w", trees)
+    return list(zip(ask_oracle(oracle, b"f", trees), [needs(room) for room in rooms]))
+
+
+def format_due(given, work, room):
+    """The answer that is due for what `ask_format` gave, a work room of `work` and a text buffer of `room` bytes."""
+    text, rooms = given
+    if isinstance(text, tuple):
+        return Answer(text[0], text[1], 0, b"")
+    for need in rooms:
+        if work < need:
+            return Answer(8, need, 0, b"")
+    return join_due(text, room)
 
 
 def join_due(given, room):

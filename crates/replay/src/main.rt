@@ -101,10 +101,64 @@ fn answer_check(bytes: &[u8], text: &mut [u8]) {
     write_head(checked.answer(), flag_of(text, 0));
 }
 
+// A case of the walk: the chunks in the work room, which holds 90s before.
+fn answer_chunks(options: &[u8], bytes: &[u8], room: &mut [u8], text: &mut [u8]) {
+    stores::fill(text, 0, text.len(), 165);
+    stores::fill(room, 0, room.len(), 90);
+    let answer = tokens::chunks(bytes, options, room);
+    write_head(answer, flag_of(text, 0));
+    if let Answer::Accepted(length) = answer {
+        if length <= room.len() {
+            io::write_all(STDOUT_FILENO, &room[..length]);
+        }
+    }
+}
+
+// The flag of the tree call: 2 more where the work room is not all zeros.
+fn flag_with(work: &[u8], flag: u8) -> u8 {
+    if all_are(work, 0) {
+        return flag;
+    }
+    if flag == 0 {
+        return 2;
+    }
+    3
+}
+
+// A case of the tree call.
+fn answer_format(options: &[u8], bytes: &[u8], work: &mut [u8], text: &mut [u8]) {
+    stores::fill(text, 0, text.len(), 165);
+    stores::fill(work, 0, work.len(), 90);
+    let answer = formatting::format(bytes, options, work, text);
+    match answer {
+        Answer::Accepted(length) => {
+            write_head(answer, flag_with(work, flag_of(text, length)));
+            if length <= text.len() {
+                io::write_all(STDOUT_FILENO, &text[..length]);
+            }
+        }
+        Answer::Refused(_) => write_head(answer, flag_with(work, flag_of(text, 0))),
+    }
+}
+
 // Answers a case by its command; false where there is no such command.
-fn answer_command(command: u8, options: &[u8], payload: &[u8], text: &mut [u8]) -> bool {
+fn answer_command(
+    command: u8,
+    options: &[u8],
+    payload: &[u8],
+    room: &mut [u8],
+    text: &mut [u8],
+) -> bool {
     if command == b'J' {
         answer_join(options, payload, text);
+        return true;
+    }
+    if command == b'C' {
+        answer_chunks(options, payload, room, text);
+        return true;
+    }
+    if command == b'F' {
+        answer_format(options, payload, room, text);
         return true;
     }
     if command == b'K' {
@@ -115,7 +169,7 @@ fn answer_command(command: u8, options: &[u8], payload: &[u8], text: &mut [u8]) 
 }
 
 // One case; false where the input ends, or a case is cut, too long or of no command.
-fn answer_case(options: &mut [u8], payload: &mut [u8], text: &mut [u8]) -> bool {
+fn answer_case(options: &mut [u8], payload: &mut [u8], room: &mut [u8], text: &mut [u8]) -> bool {
     let mut command = [0u8; 1];
     if io::read_full(STDIN_FILENO, &mut command) < 1 {
         return false;
@@ -132,7 +186,7 @@ fn answer_case(options: &mut [u8], payload: &mut [u8], text: &mut [u8]) -> bool 
     let Got::Number(room_length) = third else {
         return false;
     };
-    if 1114112 < room_length {
+    if room.len() < room_length {
         return false;
     }
     let fourth = read_four();
@@ -153,19 +207,26 @@ fn answer_case(options: &mut [u8], payload: &mut [u8], text: &mut [u8]) -> bool 
         first_byte,
         &options[..options_length],
         &payload[..payload_length],
+        &mut room[..room_length],
         &mut text[..text_length],
     )
 }
 
 // Answers every case; the buffers have the longest lengths that a case may have.
-fn answer_all(options: &mut [u8; 16], payload: &mut [u8; 1114112], text: &mut [u8; 1114112]) {
+fn answer_all(
+    options: &mut [u8; 16],
+    payload: &mut [u8; 1114112],
+    room: &mut [u8; 1114112],
+    text: &mut [u8; 1114112],
+) {
     let option_bytes: &mut [u8] = options;
     let payload_bytes: &mut [u8] = payload;
+    let room_bytes: &mut [u8] = room;
     let text_bytes: &mut [u8] = text;
     // More cases than any input has: a program is proved to end.
     let mut left: usize = 18446744073709551615;
     while 0 < left {
-        if !answer_case(option_bytes, payload_bytes, text_bytes) {
+        if !answer_case(option_bytes, payload_bytes, room_bytes, text_bytes) {
             return;
         }
         left -= 1;
@@ -175,6 +236,7 @@ fn answer_all(options: &mut [u8; 16], payload: &mut [u8; 1114112], text: &mut [u
 fn main() {
     let mut options = [0u8; 16];
     let mut payload = [0u8; 1114112];
+    let mut room = [0u8; 1114112];
     let mut text = [0u8; 1114112];
-    answer_all(&mut options, &mut payload, &mut text);
+    answer_all(&mut options, &mut payload, &mut room, &mut text);
 }

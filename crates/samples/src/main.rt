@@ -66,6 +66,29 @@ fn show_join(name: &[u8], chunks: &[u8], options: &[u8], room: usize) {
     }
 }
 
+// The text of a stored tree.
+fn show_tree(name: &[u8], tree: &[u8], options: &[u8], work: &mut [u8], text: &mut [u8]) {
+    let answer = formatting::format(tree, options, work, text);
+    show_answer(name, answer, text);
+}
+
+// The same in a work room and a buffer of up to 64 bytes each.
+fn show_format(name: &[u8], tree: &[u8], options: &[u8], room: usize, length: usize) {
+    let mut work = [0u8; 64];
+    let mut buffer = [0u8; 64];
+    if room <= 64 {
+        if length <= 64 {
+            show_tree(
+                name,
+                tree,
+                options,
+                &mut work[..room],
+                &mut buffer[..length],
+            );
+        }
+    }
+}
+
 fn show_all_options() {
     show_options(b"options of no bytes", b"");
     show_options(b"options, no bit stands", b"\x00");
@@ -166,9 +189,28 @@ fn show_limits() {
     show_join(b"byte 128 in a text", b"\x00\x01\x00\x80", b"\x00", 64);
 }
 
+// The tree call: the sample, and what is refused before and behind the walk.
+fn show_trees() {
+    let nop = b"\x18\x00\x01\x00\x0d\x02\x19\x02\x01\x00\x21";
+    show_format(b"tree: nop", nop, b"\x00", 64, 64);
+    show_format(b"tree: nop in upper case", nop, b"\x01\x00", 64, 64);
+    show_format(b"tree: no tokens", b"\x18\x00\x00\x00", b"\x00", 0, 0);
+    show_format(b"tree of no bytes", b"", b"\x00", 64, 64);
+    show_format(
+        b"tree: no mnemonic 56",
+        b"\x18\x00\x01\x00\x0d\x02\x19\x02\x01\x00\x38",
+        b"\x00",
+        64,
+        64,
+    );
+    show_format(b"tree: nop in a work room of 5", nop, b"\x00", 5, 64);
+    show_format(b"tree: nop in a buffer of 22", nop, b"\x00", 6, 22);
+}
+
 fn main() {
     show_all_options();
     show_labels_and_code();
     show_comments();
     show_limits();
+    show_trees();
 }

@@ -5,11 +5,11 @@ use Rattle.replay.proofs.answer_all.Statement.{statement}
 use Rattle.replay.proofs.answer_all.Tie as tie
 
 abbrev Inv-loop : tie.InvT-loop
-Inv-loop option-bytes₀ payload-bytes₀ text-bytes₀ left₀ option-bytes payload-bytes text-bytes left =
+Inv-loop option-bytes₀ payload-bytes₀ room-bytes₀ text-bytes₀ left₀ option-bytes payload-bytes room-bytes text-bytes left =
     Unit
 
 abbrev μ-loop : tie.MeasureT-loop
-μ-loop option-bytes₀ payload-bytes₀ text-bytes₀ left₀ option-bytes payload-bytes text-bytes left =
+μ-loop option-bytes₀ payload-bytes₀ room-bytes₀ text-bytes₀ left₀ option-bytes payload-bytes room-bytes text-bytes left =
     left
 
 loop-holds : tie.Need-loop-holds Inv-loop μ-loop

@@ -140,6 +140,12 @@ slice-relend-prefix-answer-command c = search needs
 slice-aggregate-answer-command-3 : tie.Need-slice-aggregate-answer-command-3
 slice-aggregate-answer-command-3 c = simp length-take (omega arith)
 
+slice-relend-prefix-answer-command-2 : tie.Need-slice-relend-prefix-answer-command-2
+slice-relend-prefix-answer-command-2 c = search needs
+
+slice-aggregate-answer-command-4 : tie.Need-slice-aggregate-answer-command-4
+slice-aggregate-answer-command-4 c = simp length-take (omega arith)
+
 answer-command-requires : tie.Need-answer-command-requires
 answer-command-requires c κs = search needs
 
@@ -151,6 +157,9 @@ same-length-17 c = search needs
 
 same-length-18 : tie.Need-same-length-18
 same-length-18 c = search needs
+
+same-length-19 : tie.Need-same-length-19
+same-length-19 c = search needs
 
 returns-10 : tie.Need-returns-10
 returns-10 c = search needs
@@ -204,8 +213,11 @@ answer-case-spec =
     slice-aggregate-answer-command-2
     slice-relend-prefix-answer-command
     slice-aggregate-answer-command-3
+    slice-relend-prefix-answer-command-2
+    slice-aggregate-answer-command-4
     answer-command-requires
     same-length-16
     same-length-17
     same-length-18
+    same-length-19
     returns-10)
