@@ -120,15 +120,18 @@ def needs(room):
     return [int.from_bytes(room[at : at + 4], "little") for at in range(0, len(room), 4)]
 
 
+def refused_before(given, rooms, work):
+    """The refusal by the oracle's reader, or by a work room of `work` bytes where the pushes need `rooms`; else None."""
+    if isinstance(given, tuple):
+        return Answer(given[0], given[1], 0, b"")
+    needed = next((need for need in rooms if work < need), None)
+    return needed and Answer(8, needed, 0, b"")
+
+
 def walk_due(given, work):
     """The answer that is due for what `ask_walk` gave and a work room of `work` bytes."""
     chunks, rooms = given
-    if isinstance(chunks, tuple):
-        return Answer(chunks[0], chunks[1], 0, b"")
-    for need in rooms:
-        if work < need:
-            return Answer(8, need, 0, b"")
-    return Answer(0, len(chunks), 0, chunks)
+    return refused_before(chunks, rooms, work) or Answer(0, len(chunks), 0, chunks)
 
 
 def ask_format(oracle, trees):
@@ -141,12 +144,7 @@ def ask_format(oracle, trees):
 def format_due(given, work, room):
     """The answer that is due for what `ask_format` gave, a work room of `work` and a text buffer of `room` bytes."""
     text, rooms = given
-    if isinstance(text, tuple):
-        return Answer(text[0], text[1], 0, b"")
-    for need in rooms:
-        if work < need:
-            return Answer(8, need, 0, b"")
-    return join_due(text, room)
+    return refused_before(text, rooms, work) or join_due(text, room)
 
 
 def join_due(given, room):
