@@ -41,6 +41,12 @@ taggedEvents context reader at =
     eventsIn context (leaf plain) false (reader Word at .tree) ▹ blank context
     ▹ eventsIn context (leaf plain) true (reader LocatedExpression (behindTag reader at) .tree)
 
+-- a tag and a name
+abbrev pub namedEvents : Context → Reader → ℕ → Events
+namedEvents context reader at =
+    eventsIn context (leaf plain) false (reader Word at .tree) ▹ blank context
+    ▹ eventsIn context (leaf plain) true (reader Word (behindTag reader at) .tree)
+
 abbrev pub pairEvents : Context → Reader → ℕ → Events
 pairEvents context reader at =
     eventsIn context (leaf plain) false (reader Word at .tree) ▹ blank context

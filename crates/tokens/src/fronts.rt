@@ -13,9 +13,11 @@ use printing::Printed;
 use tree::grammar::Class;
 ghost use mathlib.Core.Bool.{false};
 ghost use Rattle.tree.specs.declared.grammar.Class.the-variants as class;
+ghost use Rattle.tree.specs.Reading.{read};
+ghost use Rattle.printing.specs.Running.{Prints};
 ghost use Rattle.events.specs.Trees as Trees;
 ghost use Rattle.leaves.specs.Records.{PrintsRecord};
-ghost use Rattle.tokens.specs.Fronts.{PrintsFront};
+ghost use Rattle.tokens.specs.Fronts.{behindName, namedEvents, PrintsFront};
 
 // A key and its sign.
 fn config_pair_front(
@@ -164,15 +166,15 @@ fn label_front(
     record::skip(tree, levels, Class::Colon, true, id)
 }
 
-// A macro with its arguments.
-fn macro_definition_front(
+// A tag and a name.
+fn tag_and_name(
     tree: &[u8],
     room: &mut [u8],
     context: Context,
     levels: usize,
     last: Printed,
 ) -> Printed
-    ensures { λ r. ⌜ PrintsFront r (now (room .exit)) last (now (room .entry)) context 16 levels (now (tree .entry)) ⌝ }
+    ensures { λ r. ⌜ Prints r (now (room .exit)) last (now (room .entry)) (λ at. namedEvents context (read levels (now (tree .entry))) at) (λ at. behindName (read levels (now (tree .entry))) at) ⌝ }
 {
     let tag = leaf::format_leaf(
         tree,
@@ -185,7 +187,7 @@ fn macro_definition_front(
         last,
     );
     let gap = tag.push(room, context, b" ");
-    let id = leaf::format_leaf(
+    leaf::format_leaf(
         tree,
         room,
         context,
@@ -194,7 +196,20 @@ fn macro_definition_front(
         Style::Plain,
         true,
         gap,
-    );
+    )
+}
+
+// A macro with its arguments.
+fn macro_definition_front(
+    tree: &[u8],
+    room: &mut [u8],
+    context: Context,
+    levels: usize,
+    last: Printed,
+) -> Printed
+    ensures { λ r. ⌜ PrintsFront r (now (room .exit)) last (now (room .entry)) context 16 levels (now (tree .entry)) ⌝ }
+{
+    let id = tag_and_name(tree, room, context, levels, last);
     let lparen = leaf::format_leaf(
         tree,
         room,
