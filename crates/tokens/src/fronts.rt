@@ -63,28 +63,8 @@ fn definition_front(
 ) -> Printed
     ensures { λ r. ⌜ PrintsFront r (now (room .exit)) last (now (room .entry)) context 6 levels (now (tree .entry)) ⌝ }
 {
-    let tag = leaf::format_leaf(
-        tree,
-        room,
-        context,
-        levels,
-        Class::Word,
-        Style::Plain,
-        false,
-        last,
-    );
-    let gap = tag.push(room, context, b" ");
-    let id = leaf::format_leaf(
-        tree,
-        room,
-        context,
-        levels,
-        Class::Word,
-        Style::Plain,
-        true,
-        gap,
-    );
-    id.push(room, context, b" ")
+    let name = tag_and_name(tree, room, context, levels, last);
+    name.push(room, context, b" ")
 }
 
 // What is imported, and from where; the space stays pending where there is no block.

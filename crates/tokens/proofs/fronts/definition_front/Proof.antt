@@ -1,12 +1,13 @@
--- The tag, a space, the name and a space are what stands before the value, each going on from the one before.
-use Rattle.printing.proofs.Running.{_thence_}
-use Rattle.leaves.proofs.Classes.{word-leaf}
+-- The tag with the name, and a space behind it, are printed, one going on from the other.
+use mathlib.Core.Path.{refl}
+use Rattle.printing.specs.Running.{run}
+use Rattle.printing.proofs.Running.{_thence_, alike}
 use borrow.Author.Needs.{needs}
 use Rattle.tokens.proofs.fronts.definition_front.Statement.{statement}
 use Rattle.tokens.proofs.fronts.definition_front.Tie as tie
 
-format-leaf-requires : tie.Need-format-leaf-requires
-format-leaf-requires c κs = search needs
+tag-and-name-requires : tie.Need-tag-and-name-requires
+tag-and-name-requires c κs = search needs
 
 slice-aggregate-push : tie.Need-slice-aggregate-push
 slice-aggregate-push c = search needs
@@ -14,42 +15,22 @@ slice-aggregate-push c = search needs
 push-requires : tie.Need-push-requires
 push-requires c κs = search needs
 
-format-leaf-requires-2 : tie.Need-format-leaf-requires-2
-format-leaf-requires-2 c κs = search needs
-
-slice-aggregate-push-2 : tie.Need-slice-aggregate-push-2
-slice-aggregate-push-2 c = search needs
-
-push-requires-2 : tie.Need-push-requires-2
-push-requires-2 c κs = search needs
-
 same-length : tie.Need-same-length
 same-length c = search needs
 
 returns : tie.Need-returns
+unfolding run
 returns c =
-    let at-space = c .before .before in
-    let at-name = at-space .before .before .before .before .before in
-    let at-gap = at-name .before .before .before .before in
-    let at-tag = at-gap .before .before .before .before .before in
+    let at-gap = c .before .before in
+    let at-name = at-gap .before .before .before .before .before in
     record {
       from = λ at here.
-          let tag = at-tag .format-leaf .ensures .1 word-leaf .from at here in
-          let gap = at-gap .push .ensures .from _ (tag .next) in
-          let name = at-name .format-leaf2 .ensures .1 word-leaf .from _ (gap .next) in
-          let space = at-space .push2 .ensures .from _ (name .next) in
-          tag thence gap thence name thence space;
+          let name = at-name .tag-and-name .ensures .from at here in
+          let gap = at-gap .push .ensures .from _ (name .next) in
+          alike (λ x. refl) (name thence gap);
     }
 
 pub definition-front-spec : {M : Type 1} → statement M
 definition-front-spec =
     tie.close
-    (tie.spec
-    format-leaf-requires
-    slice-aggregate-push
-    push-requires
-    format-leaf-requires-2
-    slice-aggregate-push-2
-    push-requires-2
-    same-length
-    returns)
+    (tie.spec tag-and-name-requires slice-aggregate-push push-requires same-length returns)
