@@ -1,7 +1,7 @@
 -- No more blocks stand in each other than there are levels, and every text lies within the bytes.
 --   read-nesting : .. nesting (read levels bytes class at .tree) ≤ levels
 --   texts-inside : .. List·Memᴰ text (read levels bytes class at .texts) → Inside bytes text
-use mathlib.Core.Path.{_≡_}
+use mathlib.Core.Path.{_≡_, refl}
 use mathlib.Core.Logic.{⊎-elim}
 use mathlib.Core.List.{List, [], _∷_, _++_, List·Memᴰ, List·Memᴰ·append-cases, List·Memᴰ·cases-cons, List·Memᴰ·eq-of-singleton, List·Memᴰ·not-nil}
 use Prim.Native.Nat.{ℕ, zero, suc, _+_, _%_, _≤_, _<_}
@@ -103,28 +103,34 @@ read-nesting levels bytes =
 
 -- ---- texts
 
--- a text that is not empty has at least four bytes before it, and lies within the bytes
+-- a text that is not empty has at least four bytes before it, and is a part of the bytes
+abbrev pub Stands : List ℕ → Placed → Type 0
+Stands bytes text =
+    0 < length (text .bytes)
+    → (4 ≤ text .place) × (text .place + length (text .bytes) ≤ length bytes) × ((end : ℕ) × (text .bytes ≡ slice (text .place) end bytes))
+
+-- it lies within the bytes
 abbrev pub Inside : List ℕ → Placed → Type 0
 Inside bytes text = 0 < length (text .bytes) → (4 ≤ text .place) × (text .place + length (text .bytes) ≤ length bytes)
 
 -- an empty part is no text
-empty-text : (bytes : List ℕ) (place at : ℕ) → Inside bytes (record { place = place; bytes = slice at at bytes })
+empty-text : (bytes : List ℕ) (place at : ℕ) → Stands bytes (record { place = place; bytes = slice at at bytes })
 empty-text bytes place at = rw (slice-empty at bytes) (λ some. absurd (omega arith))
 
 module _ (bytes : List ℕ) where
   -- the text of a trivia item
-  item-text : (at : ℕ) → 1 ≤ at → ItemHeld bytes at → Inside bytes (record { place = at + 3; bytes = triviumText bytes at })
+  item-text : (at : ℕ) → 1 ≤ at → ItemHeld bytes at → Stands bytes (record { place = at + 3; bytes = triviumText bytes at })
   item-text at first held =
       let inside : triviumBehind bytes at ≤ length bytes = held .inside in
       by-test (eqb (getD bytes at 0) 1)
       (λ q. rw q (λ some. absurd (omega arith)))
       (λ q.
       let last : at + 3 + numberAt bytes (at + 1) ≤ length bytes = rw q at inside in
-      rw (q, length-slice (at + 3) (at + 3 + numberAt bytes (at + 1)) bytes last) (λ some. (omega arith, omega arith)))
+      rw (q, length-slice (at + 3) (at + 3 + numberAt bytes (at + 1)) bytes last) (λ some. (omega arith, omega arith, (at + 3 + numberAt bytes (at + 1), refl))))
 
   -- those of trivia items
   items-texts : (at count end : ℕ) → 1 ≤ at → triviaEnd bytes at count ≡ Behind end
-      → (text : Placed) → List·Memᴰ text (triviaTexts bytes at count) → Inside bytes text
+      → (text : Placed) → List·Memᴰ text (triviaTexts bytes at count) → Stands bytes text
   unfolding triviaTexts
   items-texts at zero end first e text member = absurd (List·Memᴰ·not-nil member)
   items-texts at (suc count) end first e text member =
@@ -136,14 +142,14 @@ module _ (bytes : List ℕ) where
 
   -- those of trivia, and a text behind them
   own-texts : (at : ℕ) (class : Class) (kind : Kind) (trivia : TriviaSpan) → Headed bytes at class kind trivia
-      → (letters : Placed) → Inside bytes letters
-      → (text : Placed) → List·Memᴰ text (triviaTexts bytes (trivia .first) (trivia .count) ++ (letters ∷ [])) → Inside bytes text
+      → (letters : Placed) → Stands bytes letters
+      → (text : Placed) → List·Memᴰ text (triviaTexts bytes (trivia .first) (trivia .count) ++ (letters ∷ [])) → Stands bytes text
   unfolding triviaTexts
   own-texts at class kind trivia headed letters own text member =
       ⊎-elim
       (λ item.
       trivia-cases bytes (at + 2) (getD bytes (at + 1) 0 % 2)
-      (λ (span : TriviaSpan). List·Memᴰ text (triviaTexts bytes (span .first) (span .count)) → Inside bytes text)
+      (λ (span : TriviaSpan). List·Memᴰ text (triviaTexts bytes (span .first) (span .count)) → Stands bytes text)
       (λ without none. absurd (List·Memᴰ·not-nil none))
       (λ end some room count is. items-texts (at + 2 + 2) (numberAt bytes (at + 2)) end (omega arith) is text)
       trivia (headed .triviaIs) item)
@@ -152,19 +158,19 @@ module _ (bytes : List ℕ) where
 
   -- those of a record's own bytes
   record-texts : (at : ℕ) (class : Class) (levels : ℕ) (own : Own) → readOwn bytes at class levels ≡ Record own
-      → (text : Placed) → List·Memᴰ text (textsOf bytes own) → Inside bytes text
+      → (text : Placed) → List·Memᴰ text (textsOf bytes own) → Stands bytes text
   record-texts at class =
-      own-cases bytes at class (λ (own : Own). (text : Placed) → List·Memᴰ text (textsOf bytes own) → Inside bytes text)
+      own-cases bytes at class (λ (own : Own). (text : Placed) → List·Memᴰ text (textsOf bytes own) → Stands bytes text)
       (λ kind trivia headed number room. own-texts at class kind trivia headed _ (empty-text bytes (trivia .end + 2) (trivia .end + 2)))
       (λ kind trivia end headed leaf stands held.
       let held-trivia = trivia-of headed in
       own-texts at class kind trivia headed _
-      (rw (length-slice (trivia .end + 2) end bytes (held .inside)) (λ some. (omega arith, omega (arith, held .inside)))))
+      (rw (length-slice (trivia .end + 2) end bytes (held .inside)) (λ some. (omega arith, omega (arith, held .inside), (end, refl)))))
       (λ kind trivia headed list leaf. own-texts at class kind trivia headed _ (empty-text bytes (trivia .end) (trivia .end)))
 
   -- those of its parts
-  parts-texts : (reader : Reader) → ((class : Class) (at : ℕ) (text : Placed) → List·Memᴰ text (reader class at .texts) → Inside bytes text)
-      → (parts : List Due) (at : ℕ) (text : Placed) → List·Memᴰ text (readParts reader parts at .texts) → Inside bytes text
+  parts-texts : (reader : Reader) → ((class : Class) (at : ℕ) (text : Placed) → List·Memᴰ text (reader class at .texts) → Stands bytes text)
+      → (parts : List Due) (at : ℕ) (text : Placed) → List·Memᴰ text (readParts reader parts at .texts) → Stands bytes text
   unfolding readParts
   parts-texts reader below [] at text member = absurd (List·Memᴰ·not-nil member)
   parts-texts reader below (nothing ∷ parts) at text member = parts-texts reader below parts at text member
@@ -174,13 +180,17 @@ module _ (bytes : List ℕ) where
       (λ rest. parts-texts reader below parts (reader class at .end) text rest)
       (List·Memᴰ·append-cases (reader class at .texts) member)
 
-  -- every text that is read lies within the bytes, whether the reading passes or not
-  pub texts-inside : (levels : ℕ) (class : Class) (at : ℕ) (text : Placed) → List·Memᴰ text (read levels bytes class at .texts) → Inside bytes text
-  texts-inside =
-      every-reading bytes (λ levels class at reading. (text : Placed) → List·Memᴰ text (reading .texts) → Inside bytes text)
+  -- every text that is read is a part of the bytes, whether the reading passes or not
+  pub texts-stand : (levels : ℕ) (class : Class) (at : ℕ) (text : Placed) → List·Memᴰ text (read levels bytes class at .texts) → Stands bytes text
+  texts-stand =
+      every-reading bytes (λ levels class at reading. (text : Placed) → List·Memᴰ text (reading .texts) → Stands bytes text)
       (λ levels class at reader why text member. absurd (List·Memᴰ·not-nil member))
       (λ levels class at own is below text member.
       ⊎-elim
       (λ own-text. record-texts at class (suc levels) own is text own-text)
       (λ part-text. parts-texts (read levels bytes) below (partsDue class own) (own .end) text part-text)
       (List·Memᴰ·append-cases (textsOf bytes own) member))
+
+  -- so it lies within the bytes
+  pub texts-inside : (levels : ℕ) (class : Class) (at : ℕ) (text : Placed) → List·Memᴰ text (read levels bytes class at .texts) → Inside bytes text
+  texts-inside levels class at text member some = let stands = texts-stand levels class at text member some in (stands .0, stands .1)

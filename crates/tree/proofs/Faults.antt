@@ -1,13 +1,14 @@
 -- Laws of the first byte that no text may hold, while the tree is read: how the place found so far goes on from text to text.
 use mathlib.Core.Path.{_≡_, refl, sym, _∙_}
-use mathlib.Core.List.{List, [], _∷_, _++_}
+use mathlib.Core.List.{List, [], _∷_, _++_, List·Memᴰ, List·Memᴰ·head, List·Memᴰ·tail}
+use mathlib.Core.Bool.{true}
 use Prim.Native.Nat.{ℕ, zero, suc, _+_, _-_, _*_, _≤_, _<_}
 use native.Mathlib.Numerals.{sub-one}
 use native.Mathlib.Omega.{arith}
 use lib.Dec.{ltb, leb}
 use lib.ListN.{length, getD}
 use lib.Seq.{slice, length-slice}
-use borrow.Author.Tests.{le-leb, lt-leb, eq-eqb, ne-eqb}
+use borrow.Author.Tests.{lt-ltb, le-leb, lt-leb, eq-eqb, ne-eqb}
 use Rattle.text.specs.Accepted.{acceptedText, faultAt}
 use Rattle.text.specs.Numbers.{numberAt}
 use Rattle.text.proofs.Accepted.{fault-none, fault-some}
@@ -38,6 +39,22 @@ pub faults-append : (bytes : List ℕ) (fault : ℕ) (first rest : List Placed)
 unfolding faultFrom
 faults-append bytes fault [] rest = refl
 faults-append bytes fault (text ∷ first) rest = faults-append bytes (faultWith bytes fault text) first rest
+
+-- a byte that was found stays the first
+pub fault-stays : (bytes : List ℕ) (fault : ℕ) (texts : List Placed) → fault < length bytes → faultFrom bytes fault texts ≡ fault
+unfolding faultFrom
+fault-stays bytes fault [] h = refl
+fault-stays bytes fault (text ∷ texts) h = simp (lt-ltb _ _ h) (fault-stays bytes fault texts h)
+
+-- texts that are accepted change nothing
+pub faults-accepted : (bytes : List ℕ) (fault : ℕ) (texts : List Placed) → ((text : Placed) → List·Memᴰ text texts → acceptedText (text .bytes) ≡ true)
+    → faultFrom bytes fault texts ≡ fault
+unfolding faultFrom
+faults-accepted bytes fault [] accepted = refl
+faults-accepted bytes fault (text ∷ texts) accepted =
+    let same : faultWith bytes fault text ≡ fault =
+    by-test (ltb fault (length bytes)) (λ t. rw t) (λ t. rw (t, accepted text (List·Memᴰ·head refl))) in
+    rw same (faults-accepted bytes fault texts (λ other member. accepted other (List·Memᴰ·tail member)))
 
 -- a text without bytes changes nothing
 fault-empty : (bytes : List ℕ) (fault place : ℕ) → faultWith bytes fault (record { place = place; bytes = [] }) ≡ fault

@@ -22,18 +22,13 @@ use Rattle.tree.specs.declared.grammar.Class.the-variants.{Tokens}
 use Rattle.tree.specs.declared.check.RecordRead.{RecordRead}
 use Rattle.tree.specs.declared.check.RecordRead.the-variants.{Whole, Refused}
 use Rattle.tree.proofs.Bounds.{Inside, texts-inside}
+use Rattle.tree.proofs.Faults.{fault-stays}
 
 -- ---- the first byte found is that of refusal 7
 
 -- refusal 7 at a place
 abbrev pub notAscii : ℕ → Checked
 notAscii place = Failed (record { reason = NotAscii; place = place })
-
--- a byte that was found stays the first
-fault-stays : (bytes : List ℕ) (fault : ℕ) (texts : List Placed) → fault < length bytes → faultFrom bytes fault texts ≡ fault
-unfolding faultFrom
-fault-stays bytes fault [] h = refl
-fault-stays bytes fault (text ∷ texts) h = simp (lt-ltb _ _ h) (fault-stays bytes fault texts h)
 
 -- where none was found before, the texts are judged by the first that they give
 texts-judged : (bytes : List ℕ) (fault : ℕ) (texts : List Placed) → length bytes ≤ fault → ((text : Placed) → List·Memᴰ text texts → Inside bytes text)

@@ -16,5 +16,6 @@ pub mod OwnReading
 pub mod Planning
 pub mod Faults
 pub mod Records
+pub mod Plain
 pub mod Judging
 pub mod Heads

@@ -22,6 +22,12 @@ use Rattle.tree.specs.declared.own.OwnRead.the-variants.{Record, Refused
 use Rattle.tree.specs.declared.own.Span.{Span}
 use Rattle.tree.specs.declared.own.TriviaSpan.{TriviaSpan}
 use Rattle.tree.specs.declared.own.TriviaRead.{TriviaRead}
+use Rattle.tree.specs.declared.own.TriviaRead.the-variants.{Trivia}
+use Rattle.tree.specs.declared.own.Judged.{Judged}
+use Rattle.tree.specs.declared.own.Judged.the-variants.{Fit}
+use Rattle.tree.specs.declared.own.OwnFound.{OwnFound}
+use Rattle.tree.specs.declared.own.RestRead.{RestRead}
+use Rattle.tree.specs.Walk.{judgedOn, firstBytes, restOn, foundOn}
 use Rattle.tree.proofs.OwnBytes.{own-fits}
 
 -- ---- behind the trivia
@@ -45,46 +51,65 @@ module _ (bytes : List ℕ) (at : ℕ) (text : TextRule) (number : ℕ) (kind : 
     unfolding restOf
     rest-none t = sym (rw (ne-eqb _ _ h, sym e ∙ t))
 
--- ---- a record that has a first byte
+-- ---- a record's first two bytes
 
-module _ (bytes : List ℕ) (at : ℕ) (class : Class) {number : ℕ} (byte : number ≡ getD bytes at 0) {ruled : Rule}
-    (rules : ruled ≡ rule class) {stands : Bool} (may : stands ≡ mayStand ruled number) where
+module _ (bytes : List ℕ) (at : ℕ) (ruled : Rule) (number : ℕ) {stands : Bool} (may : stands ≡ mayStand ruled number) where
   -- by whether the kind may stand
-  own-of : ownAt bytes at class ≡ cond stands (mapOfRecord bytes at ruled number (kindOf number)) (Refused (layout at))
-  unfolding ownAt
-  own-of = sym (rw (may, rules, byte))
+  first-of : firstBytes bytes at ruled number ≡ cond stands (mapOfRecord bytes at ruled number (kindOf number)) (Refused (layout at))
+  unfolding firstBytes
+  first-of = sym (rw may)
 
   -- it may not
-  pub own-alien : not stands ≡ true → Refused (layout at) ≡ ownAt bytes at class
-  own-alien t = sym (own-of ∙ rw (not-true stands t))
+  pub first-alien : not stands ≡ true → Refused (layout at) ≡ firstBytes bytes at ruled number
+  first-alien t = sym (first-of ∙ rw (not-true stands t))
 
   module _ (t : not stands ≡ false) {result : KindRead} (kinds : result ≡ kindOf number) where
     -- by the kind
-    own-map : (read : KindRead) → result ≡ read → ownAt bytes at class ≡ mapOfRecord bytes at ruled number read
-    own-map read told = own-of ∙ rw (not-false stands t) (ap (mapOfRecord bytes at ruled number) (sym kinds ∙ told))
+    first-map : (read : KindRead) → result ≡ read → firstBytes bytes at ruled number ≡ mapOfRecord bytes at ruled number read
+    first-map read told = first-of ∙ rw (not-false stands t) (ap (mapOfRecord bytes at ruled number) (sym kinds ∙ told))
 
     -- it is no kind
-    pub own-unknown : result ≡ Unknown → Refused (layout at) ≡ ownAt bytes at class
-    own-unknown told = sym (own-map Unknown told)
+    pub first-unknown : result ≡ Unknown → Refused (layout at) ≡ firstBytes bytes at ruled number
+    first-unknown told = sym (first-map Unknown told)
 
     module _ (kind : Kind) (told : result ≡ Known kind) where
       -- the map is missing
-      pub own-short : length bytes < at + 2 → Refused (layout at) ≡ ownAt bytes at class
-      own-short h = sym (own-map (Known kind) told ∙ rw (lt-ltb (length bytes) (at + 2) h))
+      pub first-short : length bytes < at + 2 → Refused (layout at) ≡ firstBytes bytes at ruled number
+      first-short h = sym (first-map (Known kind) told ∙ rw (lt-ltb (length bytes) (at + 2) h))
 
       module _ (h : at + 2 ≤ length bytes) {map : ℕ} (mapped : map ≡ getD bytes (at + 1) 0) {fits : Bool} (fit : fits ≡ mapFits ruled number kind map) where
         -- by whether the map fits
-        own-fit : ownAt bytes at class ≡ cond fits (triviaOfRecord bytes at ruled number kind map (triviaRead bytes (at + 2) (map % 2))) (Refused (layout at))
-        own-fit = own-map (Known kind) told ∙ rw (le-ltb (length bytes) (at + 2) h) (sym (rw (fit, mapped)))
+        first-fit : firstBytes bytes at ruled number
+            ≡ cond fits (triviaOfRecord bytes at ruled number kind map (triviaRead bytes (at + 2) (map % 2))) (Refused (layout at))
+        first-fit = first-map (Known kind) told ∙ rw (le-ltb (length bytes) (at + 2) h) (sym (rw (fit, mapped)))
 
         -- it does not
-        pub own-unfit : not fits ≡ true → Refused (layout at) ≡ ownAt bytes at class
-        own-unfit u = sym (own-fit ∙ rw (not-true fits u))
+        pub first-unfit : not fits ≡ true → Refused (layout at) ≡ firstBytes bytes at ruled number
+        first-unfit u = sym (first-fit ∙ rw (not-true fits u))
 
-        -- it does: what stands behind the trivia
-        pub own-rest : not fits ≡ false → {found : TriviaRead} → found ≡ triviaRead bytes (at + 2) (map % 2) → (trivia : TriviaRead) → found ≡ trivia
-            → {answer : OwnRead} → answer ≡ triviaOfRecord bytes at ruled number kind map trivia → answer ≡ ownAt bytes at class
-        own-rest u e trivia read rest = rest ∙ sym (own-fit ∙ rw (not-false fits u) (ap (triviaOfRecord bytes at ruled number kind map) (sym e ∙ read)))
+        -- it does
+        pub first-fits : not fits ≡ false → judgedOn bytes at ruled number (Fit kind map) ≡ firstBytes bytes at ruled number
+        first-fits u = sym (first-fit ∙ rw (not-false fits u))
+
+-- ---- a record that has a first byte
+
+module _ (bytes : List ℕ) (at : ℕ) (class : Class) {number : ℕ} (byte : number ≡ getD bytes at 0) {ruled : Rule} (rules : ruled ≡ rule class)
+    {result : Judged} (judged : judgedOn bytes at ruled number result ≡ firstBytes bytes at ruled number) where
+  -- by what its first two bytes say
+  pub own-judged : (told : Judged) → result ≡ told → judgedOn bytes at ruled number told ≡ ownAt bytes at class
+  unfolding ownAt firstBytes
+  own-judged told e = ap (judgedOn bytes at ruled number) (sym e) ∙ judged ∙ rw (rules, byte)
+
+  module _ (kind : Kind) (map : ℕ) (told : result ≡ Fit kind map) {found : TriviaRead} (e : found ≡ triviaRead bytes (at + 2) (map % 2)) where
+    -- by its trivia
+    pub own-trivia : (trivia : TriviaRead) → found ≡ trivia → triviaOfRecord bytes at ruled number kind map trivia ≡ ownAt bytes at class
+    own-trivia trivia read = ap (triviaOfRecord bytes at ruled number kind map) (sym read ∙ e) ∙ own-judged (Fit kind map) told
+
+    -- by what stands behind them
+    pub own-rest : (trivia : TriviaSpan) → found ≡ Trivia trivia → {rest : RestRead}
+        → ((at : ℕ) (kind : Kind) → restOn at kind map trivia rest ≡ restOf bytes at (ruled .text) number kind map trivia)
+        → (is : RestRead) → rest ≡ is → restOn at kind map trivia is ≡ ownAt bytes at class
+    own-rest trivia read same is behind = ap (restOn at kind map trivia) (sym behind) ∙ same at kind ∙ own-trivia (Trivia trivia) read
 
 -- ---- a record
 
@@ -100,9 +125,14 @@ module _ (bytes : List ℕ) (at : ℕ) (class : Class) (levels : ℕ) where
   read-deep h e = sym (rw (lt-leb _ _ h, eq-eqb _ _ e))
 
   -- it has a first byte
-  pub read-first : at < length bytes → (levels ≡ 0 → ⊥) → ownAt bytes at class ≡ readOwn bytes at class levels
+  read-first : at < length bytes → (levels ≡ 0 → ⊥) → ownAt bytes at class ≡ readOwn bytes at class levels
   unfolding readOwn
   read-first h e = sym (rw (lt-leb _ _ h, ne-eqb _ _ e))
+
+  -- by what was found of it
+  pub read-found : at < length bytes → (levels ≡ 0 → ⊥) → {found : OwnFound} → foundOn at found ≡ ownAt bytes at class
+      → (told : OwnFound) → found ≡ told → foundOn at told ≡ readOwn bytes at class levels
+  read-found h e same told is = ap (foundOn at) (sym is) ∙ same ∙ read-first h e
 
 -- what was read fits
 pub read-fits : (bytes : List ℕ) (at : ℕ) (class : Class) (levels : ℕ) (result : OwnRead) → result ≡ readOwn bytes at class levels → Fits bytes at result

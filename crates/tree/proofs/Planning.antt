@@ -9,10 +9,12 @@ use lib.Dec.{eqb}
 use lib.ListN.{replicate}
 use borrow.Author.Tests.{eq-eqb, ne-eqb}
 use Rattle.tree.specs.Grammar.{Slot, must, may, rule, fields}
-use Rattle.tree.specs.Reading.{Due, nothing, due, slotClass, fieldsDue, partsDue}
+use Rattle.tree.specs.Reading.{Due, nothing, due, slotClass, fieldsDue, itemsDue, partsDue}
 use Rattle.tree.specs.Walk.{classNumber, classOf, slotCode, rowOf, Plans, standing, NextOf, planSize, sizeWith}
 use Rattle.tree.specs.declared.grammar.Class.{Class}
+use Rattle.tree.specs.declared.grammar.Items.{Items}
 use Rattle.tree.specs.declared.grammar.Items.the-variants.{NoList, ListOf}
+use Rattle.tree.specs.declared.grammar.Kind.the-variants.{Leaf}
 use Rattle.tree.specs.declared.own.Own.{Own}
 use Rattle.tree.specs.declared.check.Plan.{Plan}
 use Rattle.tree.specs.declared.check.Part.{Part}
@@ -21,15 +23,10 @@ use Rattle.tree.proofs.Rows.{class-back, class-bounds, row-first, row-n
 
 -- ---- the first field of a plan
 
--- the code of a field that must stand is its class's number
-pub slot-must : (code : ℕ) (slot : Slot) → code ≡ slotCode slot → code < 64 → classOf code ≡ slotClass slot
-slot-must code (must class) e h = rw e (class-back class)
-slot-must code (may class) e h = absurd (omega arith)
-
--- the code of one that may is 64 more
-pub slot-may : (code : ℕ) (slot : Slot) → code ≡ slotCode slot → 64 ≤ code → classOf (code - 64) ≡ slotClass slot
-slot-may code (must class) e h = let bounds = class-bounds class in absurd (omega arith)
-slot-may code (may class) e h = let same : code - 64 ≡ classNumber class = omega arith in rw same (class-back class)
+-- the code of a field is its class's number, 64 more where it need not stand
+pub slot-known : (code : ℕ) (slot : Slot) → code ≡ slotCode slot → classOf (code % 64) ≡ slotClass slot
+slot-known code (must class) e = let bounds = class-bounds class in let same : code % 64 ≡ classNumber class = omega arith in rw same (class-back class)
+slot-known code (may class) e = let bounds = class-bounds class in let same : code % 64 ≡ classNumber class = omega arith in rw same (class-back class)
 
 -- a plan without the first field of its row
 abbrev pub behindField : Plan → Plan
@@ -148,3 +145,16 @@ pub plan-fields : (class : Class) (own : Own) (item : Class) (row : ℕ) → row
     → Plans (record { row = row; bits = own .map / 2; item = item; count = 0 }) (partsDue class own)
 unfolding partsDue
 plan-fields class own item row e is = record { slots = fields (own .kind) (rule class .value); row = e; same = rw is }
+
+-- ---- a record without parts
+
+-- no items
+no-items : (items : Items) → standing (itemsDue items 0) ≡ []
+unfolding standing
+no-items NoList = refl
+no-items (ListOf class) = refl
+
+-- a leaf
+pub leaf-parts : (own : Own) → own .kind ≡ Leaf → own .count ≡ 0 → (class : Class) → standing (partsDue class own) ≡ []
+unfolding partsDue fieldsDue
+leaf-parts own leaf none class = rw (leaf, none) (no-items (rule class .items))

@@ -1,16 +1,18 @@
 -- Laws of reading a record as the code does it: its own bytes, and then its parts one behind the other while the first byte that no text may hold goes along.
 use mathlib.Core.Path.{_≡_, refl, sym, ap, _∙_}
 use mathlib.Core.List.{List, [], _∷_, _++_}
+use mathlib.Core.Bool.{Bool, true, false, not}
 use Prim.Native.Nat.{ℕ, zero, suc, _-_, _<_}
 use native.Mathlib.Numerals.{sub-one}
 use native.Mathlib.Omega.{arith}
+use borrow.Author.Tests.{not-true}
 use Rattle.answers.specs.declared.Refusal.{Refusal}
 use Rattle.answers.specs.declared.Checked.{Checked}
 use Rattle.answers.specs.declared.Checked.the-variants.{Passed, Failed}
 use Rattle.answers.specs.Numbers.{andThen}
 use Rattle.tree.specs.Own.{readOwn}
 use Rattle.tree.specs.Reading.{Placed, Readings, Reader, Due, nothing, due, partsDue, textsOf, readParts, read}
-use Rattle.tree.specs.Walk.{Plans, standing, NextOf, faultFrom, recordOn, recordRead}
+use Rattle.tree.specs.Walk.{Plans, standing, NextOf, faultFrom, recordOn, recordRead, onward, Walker, walked, walkerOf}
 use Rattle.tree.specs.declared.grammar.Class.{Class}
 use Rattle.tree.specs.declared.own.Own.{Own}
 use Rattle.tree.specs.declared.own.OwnRead.{OwnRead}
@@ -24,24 +26,6 @@ use Rattle.tree.proofs.Readings.{no-record}
 use Rattle.tree.proofs.Faults.{faults-append}
 
 -- ---- parts, one behind the other
-
--- what is read behind a record that was read whole
-abbrev pub onward : RecordRead → (ℕ → ℕ → RecordRead) → RecordRead
-onward (Whole end fault) next = next end fault
-onward (Refused refusal) next = Refused refusal
-
--- a reader of a class at a place, with the first byte that no text may hold
-abbrev pub Walker : Type 0
-Walker = Class → ℕ → ℕ → RecordRead
-
--- records of these classes
-unfoldable pub walked : Walker → List Class → ℕ → ℕ → RecordRead
-walked walker [] place fault = Whole place fault
-walked walker (class ∷ classes) place fault = onward (walker class place fault) (walked walker classes)
-
--- the walker of a reader
-abbrev pub walkerOf : Reader → List ℕ → Walker
-walkerOf reader bytes class place fault = recordRead bytes fault (reader class place)
 
 -- texts that are read before the others
 on-append : (bytes : List ℕ) (fault end : ℕ) (first rest : List Placed) (checked : Checked)
@@ -109,6 +93,12 @@ module _ (levels : ℕ) (bytes : List ℕ) (class : Class) (at : ℕ) (read-own 
   pub read-walked : (fault : ℕ) (own : Own) (seen : ℕ) → read-own ≡ own-read.Record own → seen ≡ faultFrom bytes fault (textsOf bytes own)
       → recordRead bytes fault (read levels bytes class at) ≡ walked (walkerOf (read (levels - 1) bytes) bytes) (standing (partsDue class own)) (own .end) seen
   read-walked fault own seen is found = walked-on levels bytes class at fault own seen (sym same ∙ is) found
+
+-- a record of which no part stands is read
+pub walk-none : (walker : Walker) (class : Class) (own : Own) (place fault : ℕ) {has : Bool} → (has ≡ false → ((class : Class) → standing (partsDue class own) ≡ []))
+    → not has ≡ true → Whole place fault ≡ walked walker (standing (partsDue class own)) place fault
+unfolding walked
+walk-none walker class own place fault {has} none t = sym (ap (λ (classes : List Class). walked walker classes place fault) (none (not-true has t) class))
 
 -- ---- the loop over a record's parts
 

@@ -1,15 +1,17 @@
--- Not part of any promise of this crate: the grammar's rows as numbers, and what its inner functions hand on.
-use Prim.Native.Nat.{ℕ, _+_, _*_}
+-- Not part of the promises about a tree: the grammar's rows and sets of maps as numbers, what the reading of a record's own bytes hands on, the plans by
+-- which a record's parts are read one behind the other, and what the check's inner functions hand on.
+use Prim.Native.Nat.{ℕ, _+_, _*_, _/_, _%_, _^_, _≤_, _<_}
 use mathlib.Core.Path.{_≡_}
 use mathlib.Core.List.{List, [], _∷_, _++_}
-use mathlib.Core.Bool.{cond}
+use mathlib.Core.Bool.{Bool, false, cond}
 use lib.ListN.{length, getD, replicate}
-use lib.Dec.{ltb}
+use lib.Dec.{eqb, ltb}
 use Rattle.answers.specs.declared.Checked.{Checked}
 use Rattle.answers.specs.declared.Checked.the-variants.{Passed, Failed}
 use Rattle.text.specs.Accepted.{acceptedText, faultAt}
-use Rattle.tree.specs.Grammar.{Slot, must, may}
-use Rattle.tree.specs.Reading.{Placed, Reading, Due, nothing, due, fieldsDue}
+use Rattle.tree.specs.Grammar.{Slot, must, may, kindOf}
+use Rattle.tree.specs.Own.{mayStand, fieldsFit, triviaRead, layout, ownOf, triviaOfRecord, mapOfRecord}
+use Rattle.tree.specs.Reading.{Placed, Reading, Reader, Due, nothing, due, fieldsDue}
 use Rattle.tree.specs.declared.grammar.Class.{Class}
 use Rattle.tree.specs.declared.grammar.Class.the-variants.{Word, Char, OpenBrace, CloseBrace, Colon, Unit, Mnemonic, IndexRegister}
 use Rattle.tree.specs.declared.grammar.Class.the-variants.{AddressModifier, VariableType, NumberType, DataSize, BinaryOp, TextEncoding}
@@ -17,6 +19,17 @@ use Rattle.tree.specs.declared.grammar.Class.the-variants.{AddressingMod
 use Rattle.tree.specs.declared.grammar.Class.the-variants.{BareToken, LocatedToken, BlockRecord, StringRecord, OperandRecord, SuffixRecord}
 use Rattle.tree.specs.declared.grammar.Class.the-variants.{AsRecord, ImportArguments, ImportPath, ExpressionArgument, IdentifierArgument}
 use Rattle.tree.specs.declared.grammar.Class.the-variants.{ImportArgument, Tokens, ExpressionArguments, IdentifierArguments, StringItems}
+use Rattle.tree.specs.declared.grammar.Kind.{Kind}
+use Rattle.tree.specs.declared.grammar.Rule.{Rule}
+use Rattle.tree.specs.declared.own.OwnRead.{OwnRead}
+use Rattle.tree.specs.declared.own.OwnRead.the-variants as own-read
+use Rattle.tree.specs.declared.own.TriviaSpan.{TriviaSpan}
+use Rattle.tree.specs.declared.own.Judged.{Judged}
+use Rattle.tree.specs.declared.own.Judged.the-variants.{Fit, Unfit}
+use Rattle.tree.specs.declared.own.OwnFound.{OwnFound}
+use Rattle.tree.specs.declared.own.OwnFound.the-variants.{Found, NotFound}
+use Rattle.tree.specs.declared.own.RestRead.{RestRead}
+use Rattle.tree.specs.declared.own.RestRead.the-variants.{Rest, BrokenRest}
 use Rattle.tree.specs.declared.check.Plan.{Plan}
 use Rattle.tree.specs.declared.check.Part.{Part}
 use Rattle.tree.specs.declared.check.Part.the-variants.{Next, NoPart}
@@ -85,6 +98,38 @@ abbrev pub rowOf : List Slot → ℕ
 rowOf [] = 0
 rowOf (slot ∷ slots) = slotCode slot + 128 * rowOf slots
 
+-- ---- sets: the maps of a kind's fields in one number
+
+-- whether a set has a number
+abbrev pub holds : ℕ → ℕ → Bool
+holds set number = eqb (set / 2 ^ number % 2) 1
+
+-- the bits that fit are those in the set; of a map's bits none from 64 on do
+pub record SetOf (set : ℕ) (slots : List Slot) : Type 0 where
+  pub within : (bits : ℕ) → bits < 64 → holds set bits ≡ fieldsFit slots bits
+  pub past : (bits : ℕ) → 64 ≤ bits → bits < 128 → false ≡ fieldsFit slots bits
+
+-- ---- a record's own bytes
+
+-- the answer of a record whose first two bytes are judged
+abbrev pub judgedOn : List ℕ → ℕ → Rule → ℕ → Judged → OwnRead
+judgedOn bytes at rule number (Fit kind map) = triviaOfRecord bytes at rule number kind map (triviaRead bytes (at + 2) (map % 2))
+judgedOn bytes at rule number Unfit = own-read.Refused (layout at)
+
+-- the same by the definition
+unfoldable pub firstBytes : List ℕ → ℕ → Rule → ℕ → OwnRead
+firstBytes bytes at rule number = cond (mayStand rule number) (mapOfRecord bytes at rule number (kindOf number)) (own-read.Refused (layout at))
+
+-- the answer of a record by what stands behind its trivia
+abbrev pub restOn : ℕ → Kind → ℕ → TriviaSpan → RestRead → OwnRead
+restOn at kind map trivia (Rest text end count) = own-read.Record (ownOf kind map trivia text end count)
+restOn at kind map trivia BrokenRest = own-read.Refused (layout at)
+
+-- the answer of a record by what was found of it
+abbrev pub foundOn : ℕ → OwnFound → OwnRead
+foundOn at (Found own) = own-read.Record own
+foundOn at NotFound = own-read.Refused (layout at)
+
 -- ---- plans: the parts of a record that are still to be read
 
 pub record Plans (plan : Plan) (parts : List Due) : Type 0 where
@@ -129,3 +174,23 @@ recordOn bytes fault end texts (Failed refusal) = Refused refusal
 
 unfoldable pub recordRead : List ℕ → ℕ → Reading → RecordRead
 recordRead bytes fault reading = recordOn bytes fault (reading .end) (reading .texts) (reading .checked)
+
+-- ---- records one behind the other
+
+-- what is read behind a record that was read whole
+abbrev pub onward : RecordRead → (ℕ → ℕ → RecordRead) → RecordRead
+onward (Whole end fault) next = next end fault
+onward (Refused refusal) next = Refused refusal
+
+-- a reader of a class at a place, with the first byte that no text may hold
+abbrev pub Walker : Type 0
+Walker = Class → ℕ → ℕ → RecordRead
+
+-- records of these classes
+unfoldable pub walked : Walker → List Class → ℕ → ℕ → RecordRead
+walked walker [] place fault = Whole place fault
+walked walker (class ∷ classes) place fault = onward (walker class place fault) (walked walker classes)
+
+-- the walker of a reader
+abbrev pub walkerOf : Reader → List ℕ → Walker
+walkerOf reader bytes class place fault = recordRead bytes fault (reader class place)

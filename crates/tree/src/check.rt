@@ -2,6 +2,7 @@
 use crate::grammar;
 use crate::grammar::Class;
 use crate::grammar::Items;
+use crate::grammar::Kind;
 use crate::own;
 use crate::own::Own;
 use crate::own::OwnRead;
@@ -11,15 +12,17 @@ use answers::Refusal;
 use text::numbers;
 use text::scans;
 ghost use mathlib.Core.Path.{_≡_};
-ghost use mathlib.Core.List.{List};
-ghost use Prim.Native.Nat.{ℕ, _<_, _≤_, _+_};
+ghost use mathlib.Core.List.{List, []};
+ghost use mathlib.Core.Bool.{true, false};
+ghost use Prim.Native.Nat.{ℕ, _<_, _≤_, _+_, _-_};
 ghost use lib.ListN.{length};
 ghost use lib.Seq.{slice};
+ghost use Rattle.text.specs.Accepted.{acceptedText};
 ghost use Rattle.tree.specs.Grammar.{Slot};
 ghost use Rattle.tree.specs.Own.{OwnFits, triviaEnd};
 ghost use Rattle.tree.specs.Reading.{Due, slotClass, partsDue, textsOf, triviaTexts, read};
-ghost use Rattle.tree.specs.Checking.{treeChecked, batchChecked};
-ghost use Rattle.tree.specs.Walk.{slotCode, Plans, NextOf, planSize, sizeWith, faultWith, faultFrom, recordRead};
+ghost use Rattle.tree.specs.Checking.{readFile, treeChecked, batchChecked};
+ghost use Rattle.tree.specs.Walk.{slotCode, Plans, standing, NextOf, planSize, sizeWith, faultWith, faultFrom, recordRead, walked, walkerOf};
 ghost use Rattle.tree.specs.declared.own.Span.the-variants.{Behind};
 
 // The parts of a record that are still to be read: the fields of a row whose bits stand, then `count` items of a class.
@@ -41,7 +44,8 @@ pub enum RecordRead {
     Refused(Refusal),
 }
 
-fn plan_of(class: Class, own: Own) -> Plan
+// The parts of a record of a class, of which its own bytes were read.
+pub fn plan_of(class: Class, own: Own) -> Plan
     ensures { λ r. ⌜ Plans r (partsDue class own) ⌝ }
 {
     let kind = own.kind;
@@ -68,14 +72,11 @@ fn plan_of(class: Class, own: Own) -> Plan
 pub(crate) fn slot_class(slot: u64) -> Class
     ensures { λ r. ⌜ ((field : Slot) → slot ≡ slotCode field → r ≡ slotClass field) ⌝ }
 {
-    if slot < 64 {
-        return grammar::class_of(slot);
-    }
-    grammar::class_of(slot - 64)
+    grammar::class_of(slot % 64)
 }
 
 // The next part of a plan.
-fn next_part(plan: Plan) -> Part
+pub fn next_part(plan: Plan) -> Part
     ensures { λ r. ⌜ ((parts : List Due) → Plans plan parts → NextOf r parts) ⌝ }
     ensures { λ r. ⌜ sizeWith r ≤ planSize plan ⌝ }
 {
@@ -154,8 +155,58 @@ fn own_fault(tree: &[u8], own: Own, fault: usize) -> usize
     requires { ⌜ ((at : ℕ) × OwnFits (now tree) at own) ⌝ }
     ensures { λ r. ⌜ r ≡ faultFrom (now (tree .entry)) fault (textsOf (now (tree .entry)) own) ⌝ }
 {
+    if fault < tree.len() {
+        return fault;
+    }
     let first = fault_in_trivia(tree, own.trivia, own.trivia_count, fault);
     fault_in(tree, own.text, own.end, first)
+}
+
+// Whether parts of a record may stand: a leaf has none.
+fn has_parts(own: Own) -> bool
+    ensures { λ r. ⌜ (r ≡ false → ((class : Class) → standing (partsDue class own) ≡ [])) ⌝ }
+{
+    let kind = own.kind;
+    if own.count != 0 {
+        return true;
+    }
+    match kind {
+        Kind::Leaf => false,
+        _ => true,
+    }
+}
+
+// The parts of a record whose own bytes were read, one behind the other. A leaf among them ends here, without a call for its parts.
+fn read_parts(tree: &[u8], class: Class, own: Own, levels: usize, fault: usize) -> RecordRead
+    requires { ⌜ 0 < levels ⌝ }
+    ensures { λ r. ⌜ r ≡ walked (walkerOf (read (levels - 1) (now (tree .entry))) (now (tree .entry))) (standing (partsDue class own)) (own .end) fault ⌝ }
+{
+    let mut place = own.end;
+    let mut seen = fault;
+    let mut plan = plan_of(class, own);
+    loop {
+        let part = next_part(plan);
+        let Part::Next(field, rest) = part else {
+            return RecordRead::Whole(place, seen);
+        };
+        let read = own::read_own(tree, place, field, levels - 1);
+        let OwnRead::Record(inner) = read else {
+            return RecordRead::Refused(own::refusal_of(read));
+        };
+        let next = own_fault(tree, inner, seen);
+        plan = rest;
+        if !has_parts(inner) {
+            place = inner.end;
+            seen = next;
+            continue;
+        }
+        let whole = read_parts(tree, field, inner, levels - 1, next);
+        let RecordRead::Whole(end, found) = whole else {
+            return whole;
+        };
+        place = end;
+        seen = found;
+    }
 }
 
 // The record of a class at a place, with all its parts.
@@ -172,22 +223,34 @@ pub(crate) fn read_record(
     let OwnRead::Record(own) = read else {
         return RecordRead::Refused(own::refusal_of(read));
     };
-    let mut place = own.end;
-    let mut seen = own_fault(tree, own, fault);
-    let mut plan = plan_of(class, own);
-    loop {
-        let part = next_part(plan);
-        let Part::Next(field, rest) = part else {
-            return RecordRead::Whole(place, seen);
-        };
-        let whole = read_record(tree, place, field, levels - 1, seen);
-        let RecordRead::Whole(end, found) = whole else {
-            return whole;
-        };
-        place = end;
-        seen = found;
-        plan = rest;
+    let seen = own_fault(tree, own, fault);
+    read_parts(tree, class, own, levels, seen)
+}
+
+// Whether no byte behind the count of the file's list is above 127. One look at all of them takes less than one at each text.
+fn is_plain(tree: &[u8]) -> bool
+    ensures { λ r. ⌜ (r ≡ true → acceptedText (slice 4 (length (now (tree .entry))) (now (tree .entry))) ≡ true) ⌝ }
+{
+    let end = tree.len();
+    if end < 4 {
+        return false;
     }
+    scans::is_accepted(&tree[4..end])
+}
+
+// The file's record. In a plain tree the search for a byte that no text may hold is over before it begins: place 0 stands for found.
+fn read_file(tree: &[u8], levels: usize) -> RecordRead
+    ensures { λ r. ⌜ r ≡ recordRead (now (tree .entry)) (length (now (tree .entry))) (readFile levels (now (tree .entry))) ⌝ }
+{
+    let end = tree.len();
+    if !is_plain(tree) {
+        return read_record(tree, 0, Class::Tokens, levels, end);
+    }
+    let read = read_record(tree, 0, Class::Tokens, levels, 0);
+    let RecordRead::Whole(behind, _) = read else {
+        return read;
+    };
+    RecordRead::Whole(behind, end)
 }
 
 fn failed(reason: Reason, place: usize) -> Checked
@@ -210,7 +273,7 @@ pub fn check_within(tree: &[u8], limit: usize, levels: usize) -> Checked
     if limit < end {
         return failed(Reason::TreeLength, 0);
     }
-    let read = read_record(tree, 0, Class::Tokens, levels, end);
+    let read = read_file(tree, levels);
     match read {
         RecordRead::Refused(refusal) => Checked::Failed(refusal),
         RecordRead::Whole(behind, fault) => {

@@ -2,7 +2,7 @@
 ghost use mathlib.Core.Path.{_≡_};
 ghost use Prim.Native.Nat.{_<_};
 ghost use Rattle.tree.specs.Grammar;
-ghost use Rattle.tree.specs.Walk.{classNumber, classOf, rowOf};
+ghost use Rattle.tree.specs.Walk.{classNumber, classOf, rowOf, SetOf};
 
 // The kinds of records, in the order of their numbers 0 to 42.
 pub enum Kind {
@@ -268,61 +268,56 @@ pub(crate) fn rule_of(class: Class) -> Rule
     }
 }
 
-// The kinds by their numbers.
-const KINDS: [Kind; 43] = [
-    Kind::Align,
-    Kind::Assert,
-    Kind::Braces,
-    Kind::Config,
-    Kind::ConfigPair,
-    Kind::Data,
-    Kind::Definition,
-    Kind::Eof,
-    Kind::Error,
-    Kind::Expression,
-    Kind::If,
-    Kind::Import,
-    Kind::File,
-    Kind::Instruction,
-    Kind::Label,
-    Kind::Loop,
-    Kind::MacroDefinition,
-    Kind::MacroInvocation,
-    Kind::ProgramCounterDefinition,
-    Kind::Segment,
-    Kind::Test,
-    Kind::Text,
-    Kind::Trace,
-    Kind::VariableDefinition,
-    Kind::Vec,
-    Kind::Leaf,
-    Kind::PathItem,
-    Kind::Block,
-    Kind::BinaryExpression,
-    Kind::Factor,
-    Kind::CurrentProgramCounter,
-    Kind::ExprParens,
-    Kind::FunctionCall,
-    Kind::IdentifierValue,
-    Kind::Number,
-    Kind::StringFactor,
-    Kind::InterpolatedString,
-    Kind::Operand,
-    Kind::RegisterSuffix,
-    Kind::ImportAs,
-    Kind::ImportAll,
-    Kind::SpecificImportArg,
-    Kind::ArgItem,
-];
-
 // The kind that a byte stands for.
 pub(crate) fn kind_of(byte: usize) -> KindRead
     ensures { λ r. ⌜ r ≡ Grammar.kindOf byte ⌝ }
 {
-    if byte < 43 {
-        return KindRead::Known(KINDS[byte]);
+    match byte {
+        0 => KindRead::Known(Kind::Align),
+        1 => KindRead::Known(Kind::Assert),
+        2 => KindRead::Known(Kind::Braces),
+        3 => KindRead::Known(Kind::Config),
+        4 => KindRead::Known(Kind::ConfigPair),
+        5 => KindRead::Known(Kind::Data),
+        6 => KindRead::Known(Kind::Definition),
+        7 => KindRead::Known(Kind::Eof),
+        8 => KindRead::Known(Kind::Error),
+        9 => KindRead::Known(Kind::Expression),
+        10 => KindRead::Known(Kind::If),
+        11 => KindRead::Known(Kind::Import),
+        12 => KindRead::Known(Kind::File),
+        13 => KindRead::Known(Kind::Instruction),
+        14 => KindRead::Known(Kind::Label),
+        15 => KindRead::Known(Kind::Loop),
+        16 => KindRead::Known(Kind::MacroDefinition),
+        17 => KindRead::Known(Kind::MacroInvocation),
+        18 => KindRead::Known(Kind::ProgramCounterDefinition),
+        19 => KindRead::Known(Kind::Segment),
+        20 => KindRead::Known(Kind::Test),
+        21 => KindRead::Known(Kind::Text),
+        22 => KindRead::Known(Kind::Trace),
+        23 => KindRead::Known(Kind::VariableDefinition),
+        24 => KindRead::Known(Kind::Vec),
+        25 => KindRead::Known(Kind::Leaf),
+        26 => KindRead::Known(Kind::PathItem),
+        27 => KindRead::Known(Kind::Block),
+        28 => KindRead::Known(Kind::BinaryExpression),
+        29 => KindRead::Known(Kind::Factor),
+        30 => KindRead::Known(Kind::CurrentProgramCounter),
+        31 => KindRead::Known(Kind::ExprParens),
+        32 => KindRead::Known(Kind::FunctionCall),
+        33 => KindRead::Known(Kind::IdentifierValue),
+        34 => KindRead::Known(Kind::Number),
+        35 => KindRead::Known(Kind::StringFactor),
+        36 => KindRead::Known(Kind::InterpolatedString),
+        37 => KindRead::Known(Kind::Operand),
+        38 => KindRead::Known(Kind::RegisterSuffix),
+        39 => KindRead::Known(Kind::ImportAs),
+        40 => KindRead::Known(Kind::ImportAll),
+        41 => KindRead::Known(Kind::SpecificImportArg),
+        42 => KindRead::Known(Kind::ArgItem),
+        _ => KindRead::Unknown,
     }
-    KindRead::Unknown
 }
 
 // The fields of a kind in one number: for each, from the lowest on, seven bits with its class's number, 64 more where it need not stand.
@@ -376,6 +371,57 @@ pub(crate) fn row_of(kind: Kind, value: Class) -> u64
     }
 }
 
+// The maps of a kind's fields in one number: bit n stands where the fields whose bits n has may stand together.
+pub(crate) fn maps_of(kind: Kind) -> u64
+    ensures { λ r. ⌜ ((value : Class) → SetOf r (Grammar.fields kind value)) ⌝ }
+{
+    match kind {
+        Kind::Align => 8,
+        Kind::Assert => 136,
+        Kind::Braces => 2,
+        Kind::Config => 2,
+        Kind::ConfigPair => 128,
+        Kind::Data => 8,
+        Kind::Definition => 136,
+        Kind::Eof => 2,
+        Kind::Error => 2,
+        Kind::Expression => 2,
+        Kind::If => 2155905152,
+        Kind::Import => 2147516416,
+        Kind::File => 8,
+        Kind::Instruction => 10,
+        Kind::Label => 136,
+        Kind::Loop => 128,
+        Kind::MacroDefinition => 9223372036854775808,
+        Kind::MacroInvocation => 32768,
+        Kind::ProgramCounterDefinition => 128,
+        Kind::Segment => 136,
+        Kind::Test => 128,
+        Kind::Text => 160,
+        Kind::Trace => 41120,
+        Kind::VariableDefinition => 32768,
+        Kind::Vec => 1,
+        Kind::Leaf => 1,
+        Kind::PathItem => 1,
+        Kind::Block => 128,
+        Kind::BinaryExpression => 128,
+        Kind::Factor => 170,
+        Kind::CurrentProgramCounter => 2,
+        Kind::ExprParens => 128,
+        Kind::FunctionCall => 32768,
+        Kind::IdentifierValue => 10,
+        Kind::Number => 8,
+        Kind::StringFactor => 2,
+        Kind::InterpolatedString => 8,
+        Kind::Operand => 2852170240,
+        Kind::RegisterSuffix => 8,
+        Kind::ImportAs => 8,
+        Kind::ImportAll => 10,
+        Kind::SpecificImportArg => 10,
+        Kind::ArgItem => 10,
+    }
+}
+
 // The number of a class in a row.
 fn number_of(class: Class) -> u64
     ensures { λ r. ⌜ (r ≡ classNumber class) × (r < 64) ⌝ }
@@ -419,52 +465,47 @@ fn number_of(class: Class) -> u64
     }
 }
 
-// The classes by their numbers in a row; no class has the number 0.
-const CLASSES: [Class; 36] = [
-    Class::Word,
-    Class::Word,
-    Class::Char,
-    Class::OpenBrace,
-    Class::CloseBrace,
-    Class::Colon,
-    Class::Unit,
-    Class::Mnemonic,
-    Class::IndexRegister,
-    Class::AddressModifier,
-    Class::VariableType,
-    Class::NumberType,
-    Class::DataSize,
-    Class::BinaryOp,
-    Class::TextEncoding,
-    Class::AddressingMode,
-    Class::StringItem,
-    Class::LocatedExpression,
-    Class::BareExpression,
-    Class::LocatedFactor,
-    Class::BareToken,
-    Class::LocatedToken,
-    Class::BlockRecord,
-    Class::StringRecord,
-    Class::OperandRecord,
-    Class::SuffixRecord,
-    Class::AsRecord,
-    Class::ImportArguments,
-    Class::ImportPath,
-    Class::ExpressionArgument,
-    Class::IdentifierArgument,
-    Class::ImportArgument,
-    Class::Tokens,
-    Class::ExpressionArguments,
-    Class::IdentifierArguments,
-    Class::StringItems,
-];
-
 // The class of a number in a row.
 pub(crate) fn class_of(number: u64) -> Class
     ensures { λ r. ⌜ r ≡ classOf number ⌝ }
 {
-    if number < 36 {
-        return CLASSES[number as usize];
+    match number {
+        0 => Class::Word,
+        1 => Class::Word,
+        2 => Class::Char,
+        3 => Class::OpenBrace,
+        4 => Class::CloseBrace,
+        5 => Class::Colon,
+        6 => Class::Unit,
+        7 => Class::Mnemonic,
+        8 => Class::IndexRegister,
+        9 => Class::AddressModifier,
+        10 => Class::VariableType,
+        11 => Class::NumberType,
+        12 => Class::DataSize,
+        13 => Class::BinaryOp,
+        14 => Class::TextEncoding,
+        15 => Class::AddressingMode,
+        16 => Class::StringItem,
+        17 => Class::LocatedExpression,
+        18 => Class::BareExpression,
+        19 => Class::LocatedFactor,
+        20 => Class::BareToken,
+        21 => Class::LocatedToken,
+        22 => Class::BlockRecord,
+        23 => Class::StringRecord,
+        24 => Class::OperandRecord,
+        25 => Class::SuffixRecord,
+        26 => Class::AsRecord,
+        27 => Class::ImportArguments,
+        28 => Class::ImportPath,
+        29 => Class::ExpressionArgument,
+        30 => Class::IdentifierArgument,
+        31 => Class::ImportArgument,
+        32 => Class::Tokens,
+        33 => Class::ExpressionArguments,
+        34 => Class::IdentifierArguments,
+        35 => Class::StringItems,
+        _ => Class::StringItems,
     }
-    Class::StringItems
 }

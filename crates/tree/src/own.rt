@@ -11,14 +11,13 @@ use answers::Refusal;
 use text::numbers;
 use text::numbers::Number;
 ghost use mathlib.Core.Path.{_≡_};
-ghost use mathlib.Core.List.{List};
-ghost use Prim.Native.Nat.{_<_};
+ghost use Prim.Native.Nat.{ℕ, _<_};
 ghost use mathlib.Core.Bool.{_&&_, _||_};
 ghost use lib.Dec.{eqb, leb};
 ghost use lib.ListN.{length};
-ghost use Rattle.tree.specs.Grammar.{Slot};
+ghost use Rattle.tree.specs.Grammar.{fields};
 ghost use Rattle.tree.specs.Own.{sizedEnd, triviumEnd, triviaEnd, fieldsFit, textFits, elseFits, triviaFits, mapFits, mayStand, triviaRead, textEnd, layout, ownOf, restOf, ownAt, readOwn, Fits, refusalOf};
-ghost use Rattle.tree.specs.Walk.{rowOf};
+ghost use Rattle.tree.specs.Walk.{restOn, judgedOn, firstBytes, foundOn};
 
 // A record's own bytes, by their places: `trivia` is the place of its first trivia item, of which there are `trivia_count`; its text is
 // the bytes from `text` to `end`, behind which its fields or items begin; `count` says how many items a list has.
@@ -92,30 +91,16 @@ pub(crate) fn trivia_end(tree: &[u8], at: usize, count: usize) -> Span
     Span::Behind(place)
 }
 
-// Whether a field's bit may be as it is: its code is below 64 where the field must stand.
-fn slot_fits(slot: u64, bit: usize) -> bool
-    ensures { λ r. ⌜ r ≡ (eqb bit 1 || leb 64 slot) ⌝ }
+// Whether the fields' bits stand where a kind's fields must and may, and nowhere else.
+fn fields_fit(kind: Kind, bits: usize) -> bool
+    requires { ⌜ bits < 128 ⌝ }
+    ensures { λ r. ⌜ ((value : Class) → r ≡ fieldsFit (fields kind value) bits) ⌝ }
 {
-    if bit == 1 {
-        return true;
+    let maps = grammar::maps_of(kind);
+    if 63 < bits {
+        return false;
     }
-    64 <= slot
-}
-
-// Whether the fields' bits stand where the row's fields must and may, and nowhere else.
-fn fields_fit(row: u64, bits: usize) -> bool
-    ensures { λ r. ⌜ ((slots : List Slot) → row ≡ rowOf slots → r ≡ fieldsFit slots bits) ⌝ }
-{
-    let mut slots = row;
-    let mut rest = bits;
-    while 0 < slots {
-        if !slot_fits(slots % 128, rest % 2) {
-            return false;
-        }
-        slots = slots / 128;
-        rest = rest / 2;
-    }
-    rest == 0
+    (maps >> bits) % 2 == 1
 }
 
 // Whether the text's bits are right for a leaf.
@@ -154,10 +139,10 @@ fn trivia_fits(rule: Rule, number: usize, map: usize) -> bool
 
 // Whether a map is right for a record.
 fn map_fits(rule: Rule, number: usize, kind: Kind, map: usize) -> bool
+    requires { ⌜ map < 256 ⌝ }
     ensures { λ r. ⌜ r ≡ mapFits rule number kind map ⌝ }
 {
     let text = rule.text;
-    let value = rule.value;
     let bits = map / 2;
     if number == 24 {
         return map == 0;
@@ -174,7 +159,7 @@ fn map_fits(rule: Rule, number: usize, kind: Kind, map: usize) -> bool
     if !else_fits(number, bits) {
         return false;
     }
-    fields_fit(grammar::row_of(kind, value), bits)
+    fields_fit(kind, bits)
 }
 
 // Whether a kind may stand.
@@ -312,63 +297,89 @@ fn own_of(kind: Kind, map: usize, trivia: TriviaSpan, text: usize, end: usize, c
     }
 }
 
+// What stands behind the trivia: the place of the text, the place behind it, and a list's count.
+pub(crate) enum RestRead {
+    Rest(usize, usize, usize),
+    BrokenRest,
+}
+
 // What stands behind the trivia: a list's count, a leaf's text, or nothing more.
-fn read_rest(
-    tree: &[u8],
-    at: usize,
-    text: TextRule,
-    number: usize,
-    kind: Kind,
-    map: usize,
-    trivia: TriviaSpan,
-) -> OwnRead
-    ensures { λ r. ⌜ r ≡ restOf (now (tree .entry)) at text number kind map trivia ⌝ }
+fn read_rest(tree: &[u8], text: TextRule, number: usize, map: usize, trivia: TriviaSpan) -> RestRead
+    ensures { λ r. ⌜ ((at : ℕ) (kind : Kind) → restOn at kind map trivia r ≡ restOf (now (tree .entry)) at text number kind map trivia) ⌝ }
 {
     let behind = trivia.end;
     if number == 24 {
         let read = numbers::read_number(tree, behind);
         let Number::Read(count) = read else {
-            return layout(at);
+            return RestRead::BrokenRest;
         };
-        return OwnRead::Record(own_of(kind, map, trivia, behind + 2, behind + 2, count));
+        return RestRead::Rest(behind + 2, behind + 2, count);
     }
     if has_text(number, map) {
         let span = text_end(tree, behind, text);
         let Span::Behind(end) = span else {
-            return layout(at);
+            return RestRead::BrokenRest;
         };
-        return OwnRead::Record(own_of(kind, map, trivia, behind + 2, end, 0));
+        return RestRead::Rest(behind + 2, end, 0);
     }
-    OwnRead::Record(own_of(kind, map, trivia, behind, behind, 0))
+    RestRead::Rest(behind, behind, 0)
+}
+
+// What a record's first two bytes say: its kind and its map, where they are right for its class.
+pub(crate) enum Judged {
+    Fit(Kind, usize),
+    Unfit,
+}
+
+// A record's first two bytes. They are judged in a function of their own, so that the reading behind them is compiled as one.
+fn judge(tree: &[u8], at: usize, rule: Rule, number: usize) -> Judged
+    requires { ⌜ at < length (now tree) ⌝ }
+    ensures { λ r. ⌜ judgedOn (now (tree .entry)) at rule number r ≡ firstBytes (now (tree .entry)) at rule number ⌝ }
+{
+    if !may_stand(rule, number) {
+        return Judged::Unfit;
+    }
+    let read = grammar::kind_of(number);
+    let KindRead::Known(kind) = read else {
+        return Judged::Unfit;
+    };
+    if tree.len() - at < 2 {
+        return Judged::Unfit;
+    }
+    let map = numbers::wide(tree[at + 1]);
+    if !map_fits(rule, number, kind, map) {
+        return Judged::Unfit;
+    }
+    Judged::Fit(kind, map)
+}
+
+// A record that has a first byte, or that it breaks the layout: the refusal is made once, by the caller.
+pub(crate) enum OwnFound {
+    Found(Own),
+    NotFound,
 }
 
 // A record that has a first byte.
-fn own_at(tree: &[u8], at: usize, class: Class) -> OwnRead
+fn own_at(tree: &[u8], at: usize, class: Class) -> OwnFound
     requires { ⌜ at < length (now tree) ⌝ }
-    ensures { λ r. ⌜ r ≡ ownAt (now (tree .entry)) at class ⌝ }
+    ensures { λ r. ⌜ foundOn at r ≡ ownAt (now (tree .entry)) at class ⌝ }
 {
     let number = numbers::wide(tree[at]);
     let rule = grammar::rule_of(class);
     let text = rule.text;
-    if !may_stand(rule, number) {
-        return layout(at);
-    }
-    let read = grammar::kind_of(number);
-    let KindRead::Known(kind) = read else {
-        return layout(at);
+    let judged = judge(tree, at, rule, number);
+    let Judged::Fit(kind, map) = judged else {
+        return OwnFound::NotFound;
     };
-    if tree.len() - at < 2 {
-        return layout(at);
-    }
-    let map = numbers::wide(tree[at + 1]);
-    if !map_fits(rule, number, kind, map) {
-        return layout(at);
-    }
     let trivia = read_trivia(tree, at + 2, map % 2);
     let TriviaRead::Trivia(span) = trivia else {
-        return layout(at);
+        return OwnFound::NotFound;
     };
-    read_rest(tree, at, text, number, kind, map, span)
+    let rest = read_rest(tree, text, number, map, span);
+    let RestRead::Rest(start, end, count) = rest else {
+        return OwnFound::NotFound;
+    };
+    OwnFound::Found(own_of(kind, map, span, start, end, count))
 }
 
 // A record's own bytes at a place, where so many levels are left: refusal 5 or 4 where they break the layout or stand too deep.
@@ -385,7 +396,11 @@ pub fn read_own(tree: &[u8], at: usize, class: Class, levels: usize) -> OwnRead
             place: at,
         });
     }
-    own_at(tree, at, class)
+    let found = own_at(tree, at, class);
+    let OwnFound::Found(own) = found else {
+        return layout(at);
+    };
+    OwnRead::Record(own)
 }
 
 // The refusal that reading met, for the else case of `let OwnRead::Record(own) = read else { .. }`; a record that was read has none, and the place behind it stands for one.

@@ -21,8 +21,8 @@ returns-2 : tie.Need-returns-2
 unfolding treeChecked
 returns-2 c = c .failed2 .ensures ∙ simp (ne-eqb _ _ (c .before .before .if1 .left), lt-ltb _ _ (c .before .if2 .taken))
 
-read-record-requires : tie.Need-read-record-requires
-read-record-requires c κs = search needs
+read-file-requires : tie.Need-read-file-requires
+read-file-requires c κs = search needs
 
 enum-known-read : tie.Need-enum-known-read
 enum-known-read c = search needs
@@ -36,7 +36,7 @@ failed-requires-3 c κs = search needs
 returns-3 : tie.Need-returns-3
 returns-3 c =
     let read = c .before .before .before .before .before in
-    c .failed3 .ensures ∙ check-behind _ _ _ (read .before .before .if1 .left) (read .before .if2 .left) _ (read .read-record .ensures) _ _
+    c .failed3 .ensures ∙ check-behind _ _ _ (read .before .before .if1 .left) (read .before .if2 .left) _ (read .read-file .ensures) _ _
     (c .before .before .before .read2 .given .1) (c .before .if3 .taken)
 
 failed-requires-4 : tie.Need-failed-requires-4
@@ -45,18 +45,18 @@ failed-requires-4 c κs = search needs
 returns-4 : tie.Need-returns-4
 returns-4 c =
     let read = c .before .before .before .before .before .before in
-    c .failed4 .ensures ∙ check-fault _ _ _ (read .before .before .if1 .left) (read .before .if2 .left) _ (read .read-record .ensures) _ _
+    c .failed4 .ensures ∙ check-fault _ _ _ (read .before .before .if1 .left) (read .before .if2 .left) _ (read .read-file .ensures) _ _
     (c .before .before .before .before .read2 .given .1) (c .before .before .if3 .left) (c .before .if4 .taken)
 
 returns-5 : tie.Need-returns-5
 returns-5 c =
     let read = c .before .before .before in
-    check-refused _ _ _ (read .before .before .if1 .left) (read .before .if2 .left) _ (read .read-record .ensures) _ (c .before .read .given .1)
+    check-refused _ _ _ (read .before .before .if1 .left) (read .before .if2 .left) _ (read .read-file .ensures) _ (c .before .read .given .1)
 
 returns-6 : tie.Need-returns-6
 returns-6 c =
     let read = c .before .before .before .before .before in
-    check-passed _ _ _ (read .before .before .if1 .left) (read .before .if2 .left) _ (read .read-record .ensures) _ _ (c .before .before .before .read2 .given .1) (c .before .if3 .left) (c .if4 .left)
+    check-passed _ _ _ (read .before .before .if1 .left) (read .before .if2 .left) _ (read .read-file .ensures) _ _ (c .before .before .before .read2 .given .1) (c .before .if3 .left) (c .if4 .left)
 
 pub check-within-spec : {M : Type 1} → statement M
 check-within-spec =
@@ -66,7 +66,7 @@ check-within-spec =
     returns
     failed-requires-2
     returns-2
-    read-record-requires
+    read-file-requires
     enum-known-read
     enum-known-read-2
     failed-requires-3

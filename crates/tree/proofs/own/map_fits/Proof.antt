@@ -1,7 +1,6 @@
 -- Each answer is the one that the definition has after the same tests.
 use mathlib.Core.Path.{sym, _∙_}
 use borrow.Author.Tests.{eq-eqb, ne-eqb, not-true, not-false}
-use Rattle.tree.specs.Grammar.{fields}
 use Rattle.tree.specs.Own.{mapFits}
 use borrow.Author.Needs.{needs}
 use Rattle.tree.proofs.own.map_fits.Statement.{statement}
@@ -59,23 +58,20 @@ returns-5 c =
       sym (c .before .else-fits .ensures) ∙ not-true _ (c .if5 .taken),
     )
 
-row-of-requires : tie.Need-row-of-requires
-row-of-requires c κs = search needs
-
 fields-fit-requires : tie.Need-fields-fit-requires
 fields-fit-requires c κs = search needs
 
 returns-6 : tie.Need-returns-6
 unfolding mapFits
 returns-6 c =
-    let args = c .before .before .before .before .before .before .before .before .before .args in
+    let args = c .before .before .before .before .before .before .before .before .args in
     rw (
-      ne-eqb _ _ (c .before .before .before .before .before .before .before .before .if1 .left),
-      sym (c .before .before .before .before .before .before .before .trivia-fits .ensures) ∙ not-false _ (c .before .before .before .before .before .before .if2 .left),
-      ne-eqb _ _ (c .before .before .before .before .before .if3 .left),
-      ne-eqb _ _ (c .before .before .before .before .if4 .left),
-      sym (c .before .before .before .else-fits .ensures) ∙ not-false _ (c .before .before .if5 .left),
-      c .fields-fit .ensures (fields (args .kind) (args .rule .value)) (c .before .row-of .ensures),
+      ne-eqb _ _ (c .before .before .before .before .before .before .before .if1 .left),
+      sym (c .before .before .before .before .before .before .trivia-fits .ensures) ∙ not-false _ (c .before .before .before .before .before .if2 .left),
+      ne-eqb _ _ (c .before .before .before .before .if3 .left),
+      ne-eqb _ _ (c .before .before .before .if4 .left),
+      sym (c .before .before .else-fits .ensures) ∙ not-false _ (c .before .if5 .left),
+      c .fields-fit .ensures (args .rule .value),
     )
 
 pub map-fits-spec : {M : Type 1} → statement M
@@ -91,6 +87,5 @@ map-fits-spec =
     returns-4
     else-fits-requires
     returns-5
-    row-of-requires
     fields-fit-requires
     returns-6)

@@ -1,7 +1,8 @@
 -- Each answer is the one that the definition has after the same tests.
-use mathlib.Core.Path.{_∙_}
-use native.Mathlib.Omega.{arith}
-use Rattle.tree.proofs.OwnReading.{own-alien, own-unknown, own-short, own-unfit, own-rest}
+use mathlib.Core.Path.{ap, _∙_}
+use Rattle.tree.specs.declared.own.Own.{Own}
+use Rattle.tree.specs.declared.own.OwnRead.the-variants.{Record}
+use Rattle.tree.proofs.OwnReading.{own-judged, own-trivia, own-rest}
 use borrow.Author.Needs.{needs}
 use Rattle.tree.proofs.own.own_at.Statement.{statement}
 use Rattle.tree.proofs.own.own_at.Tie as tie
@@ -15,80 +16,21 @@ wide-requires c κs = search needs
 rule-of-requires : tie.Need-rule-of-requires
 rule-of-requires c κs = search needs
 
-may-stand-requires : tie.Need-may-stand-requires
-may-stand-requires c κs = search needs
+judge-requires : tie.Need-judge-requires
+judge-requires c κs = search needs
 
-layout-requires : tie.Need-layout-requires
-layout-requires c κs = search needs
-
-returns : tie.Need-returns
-returns c =
-    let byte = c .before .before .before .before .wide .ensures .0 in
-    c .layout .ensures ∙ own-alien _ _ _ byte (c .before .before .before .rule-of .ensures) (c .before .before .may-stand .ensures) (c .before .if1 .taken)
-
-kind-of-requires : tie.Need-kind-of-requires
-kind-of-requires c κs = search needs
-
-enum-known-read : tie.Need-enum-known-read
-enum-known-read c = search needs
+enum-known-judged : tie.Need-enum-known-judged
+enum-known-judged c = search needs
 
 enum-told : tie.Need-enum-told
 enum-told c = search needs
 
-layout-requires-2 : tie.Need-layout-requires-2
-layout-requires-2 c κs = search needs
-
-returns-2 : tie.Need-returns-2
-returns-2 c =
-    let kinded = c .before .before .before in
-    let byte = kinded .before .before .before .before .wide .ensures .0 in
-    let ruled = kinded .before .before .before .rule-of .ensures in
-    let may = kinded .before .before .may-stand .ensures in
-    let stands = kinded .before .if1 .left in
-    c .layout2 .ensures ∙ own-unknown _ _ _ byte ruled may stands (kinded .kind-of .ensures) (c .before .enum-told .given .1)
-
-sub-if2 : tie.Need-sub-if2
-sub-if2 c = search needs
-
-layout-requires-3 : tie.Need-layout-requires-3
-layout-requires-3 c κs = search needs
-
-returns-3 : tie.Need-returns-3
-returns-3 c =
-    let kinded = c .before .before .before .before .before in
-    let byte = kinded .before .before .before .before .wide .ensures .0 in
-    let ruled = kinded .before .before .before .rule-of .ensures in
-    let may = kinded .before .before .may-stand .ensures in
-    let stands = kinded .before .if1 .left in
-    c .layout3 .ensures ∙ own-short _ _ _ byte ruled may stands (kinded .kind-of .ensures) _ (c .before .before .before .read .given .1) (omega arith)
-
-add-wide : tie.Need-add-wide
-add-wide c = search needs
-
-shared-slice-read-wide-2 : tie.Need-shared-slice-read-wide-2
-shared-slice-read-wide-2 c = search needs
-
-wide-requires-2 : tie.Need-wide-requires-2
-wide-requires-2 c κs = search needs
-
-map-fits-requires : tie.Need-map-fits-requires
-map-fits-requires c κs = search needs
-
-layout-requires-4 : tie.Need-layout-requires-4
-layout-requires-4 c κs = search needs
-
-returns-4 : tie.Need-returns-4
-returns-4 c =
-    let kinded = c .before .before .before .before .before .before .before .before .before in
-    let byte = kinded .before .before .before .before .wide .ensures .0 in
-    let ruled = kinded .before .before .before .rule-of .ensures in
-    let may = kinded .before .before .may-stand .ensures in
-    let stands = kinded .before .if1 .left in
-    let known = c .before .before .before .before .before .before .before .read .given .1 in
-    let mapped = c .before .before in
-    c .layout4 .ensures
-    ∙ own-unfit _ _ _ byte ruled may stands (kinded .kind-of .ensures)
-    _ known (omega arith) (mapped .before .wide2 .ensures .0) (mapped .map-fits .ensures) (c .before .if3 .taken)
+returns : tie.Need-returns
+returns c =
+    let judged = c .before .before in
+    let byte = judged .before .before .wide .ensures .0 in
+    let ruled = judged .before .rule-of .ensures in
+    own-judged _ _ _ byte ruled (judged .judge .ensures) _ (c .enum-told .given .1)
 
 add-read-trivia : tie.Need-add-read-trivia
 add-read-trivia c = search needs
@@ -102,37 +44,49 @@ enum-known-trivia c = search needs
 enum-told-2 : tie.Need-enum-told-2
 enum-told-2 c = search needs
 
-layout-requires-5 : tie.Need-layout-requires-5
-layout-requires-5 c κs = search needs
-
-returns-5 : tie.Need-returns-5
-returns-5 c =
-    let kinded = c .before .before .before .before .before .before .before .before .before .before .before .before in
-    let byte = kinded .before .before .before .before .wide .ensures .0 in
-    let ruled = kinded .before .before .before .rule-of .ensures in
-    let may = kinded .before .before .may-stand .ensures in
-    let stands = kinded .before .if1 .left in
-    let known = c .before .before .before .before .before .before .before .before .before .before .read .given .1 in
-    let mapped = c .before .before .before .before .before in
-    own-rest _ _ _ byte ruled may stands (kinded .kind-of .ensures)
-    _ known (omega arith) (mapped .before .wide2 .ensures .0) (mapped .map-fits .ensures)
-    (c .before .before .before .before .if3 .left) (c .before .before .before .read-trivia .ensures) _ (c .before .enum-told2 .given .1) (c .layout5 .ensures)
+returns-2 : tie.Need-returns-2
+returns-2 c =
+    let read = c .before .before in
+    let first = read .before .before in
+    let judged = first .before .before in
+    let byte = judged .before .before .wide .ensures .0 in
+    let ruled = judged .before .rule-of .ensures in
+    own-trivia _ _ _ byte ruled (judged .judge .ensures) _ _ (first .judged .given .1) (read .read-trivia .ensures) _ (c .enum-told2 .given .1)
 
 read-rest-requires : tie.Need-read-rest-requires
 read-rest-requires c κs = search needs
 
-returns-6 : tie.Need-returns-6
-returns-6 c =
-    let kinded = c .before .before .before .before .before .before .before .before .before .before .before .before .before in
-    let byte = kinded .before .before .before .before .wide .ensures .0 in
-    let ruled = kinded .before .before .before .rule-of .ensures in
-    let may = kinded .before .before .may-stand .ensures in
-    let stands = kinded .before .if1 .left in
-    let known = c .before .before .before .before .before .before .before .before .before .before .before .read .given .1 in
-    let mapped = c .before .before .before .before .before .before in
-    own-rest _ _ _ byte ruled may stands (kinded .kind-of .ensures)
-    _ known (omega arith) (mapped .before .wide2 .ensures .0) (mapped .map-fits .ensures)
-    (c .before .before .before .before .before .if3 .left) (c .before .before .before .before .read-trivia .ensures) _ (c .before .before .trivia .given .1) (c .read-rest .ensures)
+enum-known-rest : tie.Need-enum-known-rest
+enum-known-rest c = search needs
+
+enum-told-3 : tie.Need-enum-told-3
+enum-told-3 c = search needs
+
+returns-3 : tie.Need-returns-3
+returns-3 c =
+    let span = c .before .before .before .before in
+    let read = span .before .before in
+    let first = read .before .before in
+    let judged = first .before .before in
+    let byte = judged .before .before .wide .ensures .0 in
+    let ruled = judged .before .rule-of .ensures in
+    own-rest _ _ _ byte ruled (judged .judge .ensures) _ _ (first .judged .given .1) (read .read-trivia .ensures) _ (span .trivia .given .1)
+    (c .before .before .read-rest .ensures) _ (c .enum-told3 .given .1)
+
+own-of-requires : tie.Need-own-of-requires
+own-of-requires c κs = search needs
+
+returns-4 : tie.Need-returns-4
+returns-4 c =
+    let span = c .before .before .before .before .before .before in
+    let read = span .before .before in
+    let first = read .before .before in
+    let judged = first .before .before in
+    let byte = judged .before .before .wide .ensures .0 in
+    let ruled = judged .before .rule-of .ensures in
+    ap (λ (own : Own). Record own) (c .own-of .ensures)
+    ∙ own-rest _ _ _ byte ruled (judged .judge .ensures) _ _ (first .judged .given .1) (read .read-trivia .ensures) _ (span .trivia .given .1)
+    (c .before .before .before .before .read-rest .ensures) _ (c .before .before .rest .given .1)
 
 pub own-at-spec : {M : Type 1} → statement M
 own-at-spec =
@@ -141,28 +95,18 @@ own-at-spec =
     shared-slice-read-wide
     wide-requires
     rule-of-requires
-    may-stand-requires
-    layout-requires
-    returns
-    kind-of-requires
-    enum-known-read
+    judge-requires
+    enum-known-judged
     enum-told
-    layout-requires-2
-    returns-2
-    sub-if2
-    layout-requires-3
-    returns-3
-    add-wide
-    shared-slice-read-wide-2
-    wide-requires-2
-    map-fits-requires
-    layout-requires-4
-    returns-4
+    returns
     add-read-trivia
     read-trivia-requires
     enum-known-trivia
     enum-told-2
-    layout-requires-5
-    returns-5
+    returns-2
     read-rest-requires
-    returns-6)
+    enum-known-rest
+    enum-told-3
+    returns-3
+    own-of-requires
+    returns-4)

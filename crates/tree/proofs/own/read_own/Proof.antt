@@ -1,6 +1,6 @@
 -- Each answer is the one that the definition has after the same tests, and what the definition reads fits.
 use mathlib.Core.Path.{_∙_}
-use Rattle.tree.proofs.OwnReading.{read-end, read-deep, read-first, read-fits}
+use Rattle.tree.proofs.OwnReading.{read-end, read-deep, read-found, read-fits}
 use borrow.Author.Needs.{needs}
 use Rattle.tree.proofs.own.read_own.Statement.{statement}
 use Rattle.tree.proofs.own.read_own.Tie as tie
@@ -17,9 +17,37 @@ returns-2 c = (read-deep _ _ _ _ (c .before .if1 .left) (c .if2 .taken), tt)
 own-at-requires : tie.Need-own-at-requires
 own-at-requires c κs = search needs
 
+enum-known-found : tie.Need-enum-known-found
+enum-known-found c = search needs
+
+enum-told : tie.Need-enum-told
+enum-told c = search needs
+
+layout-requires-2 : tie.Need-layout-requires-2
+layout-requires-2 c κs = search needs
+
 returns-3 : tie.Need-returns-3
 returns-3 c =
-    let same = c .own-at .ensures ∙ read-first _ _ _ _ (c .before .before .if1 .left) (c .before .if2 .left) in (same, read-fits _ _ _ _ _ same)
+    let found = c .before .before .before in
+    let same = c .layout2 .ensures ∙ read-found _ _ _ _ (found .before .before .if1 .left) (found .before .if2 .left) (found .own-at .ensures) _ (c .before .enum-told .given .1) in
+    (same, read-fits _ _ _ _ _ same)
+
+returns-4 : tie.Need-returns-4
+returns-4 c =
+    let found = c .before .before .before in
+    let same = read-found _ _ _ _ (found .before .before .if1 .left) (found .before .if2 .left) (found .own-at .ensures) _ (c .before .found .given .1) in
+    (same, read-fits _ _ _ _ _ same)
 
 pub read-own-spec : {M : Type 1} → statement M
-read-own-spec = tie.close (tie.spec layout-requires returns returns-2 own-at-requires returns-3)
+read-own-spec =
+    tie.close
+    (tie.spec
+    layout-requires
+    returns
+    returns-2
+    own-at-requires
+    enum-known-found
+    enum-told
+    layout-requires-2
+    returns-3
+    returns-4)

@@ -1,8 +1,6 @@
 -- Each answer is the one that the definition has after the same tests, for what the count or the text reads as.
-use mathlib.Core.Path.{sym, ap, _∙_}
+use mathlib.Core.Path.{sym, _∙_}
 use native.Mathlib.Omega.{arith}
-use Rattle.tree.specs.declared.own.Own.{Own}
-use Rattle.tree.specs.declared.own.OwnRead.the-variants.{Record}
 use Rattle.tree.proofs.OwnBytes.{text-held}
 use Rattle.tree.proofs.Spans.{read-inside}
 use Rattle.tree.proofs.OwnReading.{rest-list, rest-leaf, rest-none}
@@ -19,30 +17,21 @@ enum-known-read c = search needs
 enum-told : tie.Need-enum-told
 enum-told c = search needs
 
-layout-requires : tie.Need-layout-requires
-layout-requires c κs = search needs
-
 returns : tie.Need-returns
-returns c =
-    c .layout .ensures ∙ rest-list _ _ _ _ _ _ _ (c .before .before .before .before .if1 .taken) (c .before .before .before .read-number .ensures) _ (c .before .enum-told .given .1)
+returns c = λ at kind. rest-list _ at _ _ kind _ _ (c .before .before .before .if1 .taken) (c .before .before .read-number .ensures) _ (c .enum-told .given .1)
 
-add-own-of : tie.Need-add-own-of
-add-own-of c =
+add-t12 : tie.Need-add-t12
+add-t12 c =
     let start = c .before .before .before .before .before .before in
     omega (arith, read-inside (start .args .tree .now) (start .args .trivia .end) (c .before .before .before .read-number .ensures) _ (c .before .read .given .1))
 
-add-own-of-2 : tie.Need-add-own-of-2
-add-own-of-2 c =
+add-t13 : tie.Need-add-t13
+add-t13 c =
     let start = c .before .before .before .before .before .before in
     omega (arith, read-inside (start .args .tree .now) (start .args .trivia .end) (c .before .before .before .read-number .ensures) _ (c .before .read .given .1))
-
-own-of-requires : tie.Need-own-of-requires
-own-of-requires c κs = search needs
 
 returns-2 : tie.Need-returns-2
-returns-2 c =
-    ap (λ (own : Own). Record own) (c .own-of .ensures)
-    ∙ rest-list _ _ _ _ _ _ _ (c .before .before .before .before .before .if1 .taken) (c .before .before .before .before .read-number .ensures) _ (c .before .before .read .given .1)
+returns-2 c = λ at kind. rest-list _ at _ _ kind _ _ (c .before .before .before .before .if1 .taken) (c .before .before .before .read-number .ensures) _ (c .before .read .given .1)
 
 has-text-requires : tie.Need-has-text-requires
 has-text-requires c κs = search needs
@@ -56,38 +45,27 @@ enum-known-span c = search needs
 enum-told-2 : tie.Need-enum-told-2
 enum-told-2 c = search needs
 
-layout-requires-2 : tie.Need-layout-requires-2
-layout-requires-2 c κs = search needs
-
 returns-3 : tie.Need-returns-3
 returns-3 c =
-    c .layout2 .ensures
-    ∙ rest-leaf _ _ _ _ _ _ _ (c .before .before .before .before .before .before .if1 .left)
-    (c .before .before .before .before .before .has-text .ensures) (c .before .before .before .before .if2 .taken)
-    (c .before .before .before .text-end .ensures) _ (c .before .enum-told2 .given .1)
+    λ at kind.
+    let text = c .before .before in
+    let tested = text .before .before in
+    rest-leaf _ at _ _ kind _ _ (tested .before .if1 .left) (tested .has-text .ensures) (text .before .if2 .taken) (text .text-end .ensures) _ (c .enum-told2 .given .1)
 
-add-own-of-3 : tie.Need-add-own-of-3
-add-own-of-3 c =
+add-t15 : tie.Need-add-t15
+add-t15 c =
     let start = c .before .before .before .before .before .before .before .before in
     omega (arith, text-held (start .args .tree .now) (start .args .trivia .end) _ (start .args .text) (sym (c .before .before .before .text-end .ensures) ∙ c .before .span .given .1))
 
-own-of-requires-2 : tie.Need-own-of-requires-2
-own-of-requires-2 c κs = search needs
-
 returns-4 : tie.Need-returns-4
 returns-4 c =
-    let text = c .before .before in
-    ap (λ (own : Own). Record own) (c .own-of2 .ensures)
-    ∙ rest-leaf _ _ _ _ _ _ _ (text .before .before .before .before .before .if1 .left) (text .before .before .before .before .has-text .ensures) (text .before .before .before .if2 .taken)
-    (text .before .before .text-end .ensures) _ (text .span .given .1)
-
-own-of-requires-3 : tie.Need-own-of-requires-3
-own-of-requires-3 c κs = search needs
+    λ at kind.
+    let text = c .before .before .before in
+    let tested = text .before .before in
+    rest-leaf _ at _ _ kind _ _ (tested .before .if1 .left) (tested .has-text .ensures) (text .before .if2 .taken) (text .text-end .ensures) _ (c .before .span .given .1)
 
 returns-5 : tie.Need-returns-5
-returns-5 c =
-    ap (λ (own : Own). Record own) (c .own-of3 .ensures)
-    ∙ rest-none _ _ _ _ _ _ _ (c .before .before .before .if1 .left) (c .before .before .has-text .ensures) (c .before .if2 .left)
+returns-5 c = λ at kind. rest-none _ at _ _ kind _ _ (c .before .before .if1 .left) (c .before .has-text .ensures) (c .if2 .left)
 
 pub read-rest-spec : {M : Type 1} → statement M
 read-rest-spec =
@@ -96,20 +74,15 @@ read-rest-spec =
     read-number-requires
     enum-known-read
     enum-told
-    layout-requires
     returns
-    add-own-of
-    add-own-of-2
-    own-of-requires
+    add-t12
+    add-t13
     returns-2
     has-text-requires
     text-end-requires
     enum-known-span
     enum-told-2
-    layout-requires-2
     returns-3
-    add-own-of-3
-    own-of-requires-2
+    add-t15
     returns-4
-    own-of-requires-3
     returns-5)

@@ -1,0 +1,60 @@
+-- A tree without bytes above 127 behind the count of the file's list: every text is accepted, so reading finds no byte that none may hold.
+use mathlib.Core.Path.{_≡_, refl, sym, ap, _∙_}
+use mathlib.Core.List.{List, [], _∷_}
+use mathlib.Core.Bool.{true}
+use Prim.Native.Nat.{ℕ, zero, suc, _≤_}
+use native.Mathlib.Omega.{arith}
+use lib.ListN.{length}
+use lib.Seq.{slice, take-length}
+use Rattle.answers.specs.declared.Checked.{Checked}
+use Rattle.answers.specs.declared.Checked.the-variants.{Passed, Failed}
+use Rattle.text.specs.Accepted.{acceptedText}
+use Rattle.text.proofs.Accepted.{fault-some, accepted-part}
+use Rattle.text.proofs.Choices.{by-test}
+use Rattle.tree.specs.Reading.{Placed}
+use Rattle.tree.specs.Checking.{readFile}
+use Rattle.tree.specs.Walk.{faultFrom, recordOn, recordRead}
+use Rattle.tree.specs.declared.grammar.Class.the-variants.{Tokens}
+use Rattle.tree.specs.declared.check.RecordRead.{RecordRead}
+use Rattle.tree.specs.declared.check.RecordRead.the-variants.{Whole, Refused}
+use Rattle.tree.proofs.Bounds.{Stands, texts-stand}
+use Rattle.tree.proofs.Faults.{faults-accepted}
+
+-- what stands behind some bytes is accepted where all bytes behind them are
+behind-accepted : (n from to : ℕ) (bytes : List ℕ) → acceptedText (slice n (length bytes) bytes) ≡ true → n ≤ from → acceptedText (slice from to bytes) ≡ true
+unfolding acceptedText
+behind-accepted zero from to bytes e h = accepted-part from to bytes (rw (take-length bytes) at e)
+behind-accepted (suc n) zero to bytes e h = absurd (omega arith)
+behind-accepted (suc n) (suc from) zero bytes e h = refl
+behind-accepted (suc n) (suc from) (suc to) [] e h = refl
+behind-accepted (suc n) (suc from) (suc to) (byte ∷ bytes) e h = behind-accepted n from to bytes e (omega arith)
+
+module _ (bytes : List ℕ) (plain : acceptedText (slice 4 (length bytes) bytes) ≡ true) where
+  -- every text is accepted
+  text-plain : (text : Placed) → Stands bytes text → acceptedText (text .bytes) ≡ true
+  text-plain text inside =
+      by-test (acceptedText (text .bytes))
+      (λ t. t)
+      (λ t.
+      let part = inside (omega (arith, fault-some (text .bytes) t)) in
+      ap acceptedText (part .2 .1) ∙ behind-accepted 4 (text .place) (part .2 .0) bytes plain (part .0))
+
+  -- a record, with no byte found
+  abbrev pub unfound : RecordRead → RecordRead
+  unfound (Whole end fault) = Whole end (length bytes)
+  unfound (Refused refusal) = Refused refusal
+
+  -- so is a record that was read with one found, where texts change nothing
+  on-plain : (fault end : ℕ) (texts : List Placed) → faultFrom bytes (length bytes) texts ≡ length bytes → (checked : Checked)
+      → unfound (recordOn bytes fault end texts checked) ≡ recordOn bytes (length bytes) end texts checked
+  on-plain fault end texts same Passed = ap (Whole end) (sym same)
+  on-plain fault end texts same (Failed refusal) = refl
+
+  -- the file's record
+  pub file-plain : (levels fault : ℕ) (read : RecordRead) → read ≡ recordRead bytes fault (readFile levels bytes) → (told : RecordRead) → read ≡ told
+      → unfound told ≡ recordRead bytes (length bytes) (readFile levels bytes)
+  unfolding recordRead
+  file-plain levels fault read same told is =
+      let file = readFile levels bytes in
+      let accepted = faults-accepted bytes (length bytes) (file .texts) (λ text member. text-plain text (texts-stand bytes levels Tokens 0 text member)) in
+      ap unfound (sym is ∙ same) ∙ on-plain fault (file .end) (file .texts) accepted (file .checked)
