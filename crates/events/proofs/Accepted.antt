@@ -17,8 +17,6 @@ use Rattle.text.specs.Lines.{isEmpty, isNewline}
 use Rattle.text.proofs.Accepted.{accepted-append}
 use Rattle.text.proofs.Choices.{cond-both, true-false}
 use Rattle.chunks.specs.Stored.{Chunk, storedChunk, storedList, AllWellFormed, AllAccepted}
-use Rattle.chunks.specs.Reading.{chunksOf}
-use Rattle.chunks.specs.Judging.{chunksChecked}
 use Rattle.chunks.specs.Appending.{capacity}
 use Rattle.chunks.specs.declared.stored.ChunkType.{ChunkType}
 use Rattle.chunks.proofs.RoundTrip.{chunks-stored, stored-accepted}
@@ -30,6 +28,7 @@ use Rattle.printing.specs.Events.{Events}
 use Rattle.printing.specs.Running.{Run, going, ended, withSpace, atStart, run, settled}
 use Rattle.printing.specs.Holding.{Held, held, refused, heldLength, holdChunk, withoutNewlines, hold, Storable, Same}
 use Rattle.printing.proofs.Holding.{holds-nothing, same}
+use Rattle.events.specs.Accepted.{Acceptable}
 use Rattle.events.specs.Trees.{eventsOf}
 use Rattle.events.proofs.Texts.{Holds}
 use Rattle.events.proofs.Pushes.{EveryPush, none, pushes, spaces, clears, trims, stops, _and_, file-push}
@@ -134,13 +133,6 @@ texts-passed (other ∷ texts) e text member =
     by-choice (acceptedText (other .bytes)) _ _ Passed e
     (λ t f. ⊎-elim (λ is. rw is t) (λ rest. texts-passed texts f text rest) (List·Memᴰ·cases-cons member))
     (λ t f. failed-passed f)
-
--- chunks with accepted texts, whose stored form is a list that is accepted and that gives them back
-pub record Acceptable (chunks : List Chunk) : Type 0 where
-  pub formed : AllWellFormed chunks
-  pub texts : AllAccepted chunks
-  pub checked : chunksChecked (storedList chunks) ≡ Passed
-  pub restored : chunksOf (storedList chunks) ≡ chunks
 
 -- what is held for a file that passed
 pub file-accepted : (bytes : List ℕ) (options : FormattingOptions) (room : ℕ) {chunks : List Chunk} {pending : Bool}

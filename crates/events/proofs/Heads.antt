@@ -1,9 +1,11 @@
 -- A token's head as the walk finds it in the bytes is the head of the token's tree; so are the token's number and whether it has a block.
---   head-missing : headAt levels bytes BareToken at ≡ NoHead why → headRefusal (read levels bytes BareToken at .tree) ≡ Failed why
---   head-refused : headAt levels bytes BareToken at ≡ Found head → readOwn bytes (head .place) (head .class) (head .levels) ≡ Refused why
---     → headRefusal (read levels bytes BareToken at .tree) ≡ Failed why
---   head-read : headAt levels bytes BareToken at ≡ Found head → readOwn bytes (head .place) (head .class) (head .levels) ≡ Record own
---     → (headRefusal (read levels bytes BareToken at .tree) ≡ Passed) × (headTrivia (read levels bytes BareToken at .tree) ≡ triviaOf bytes own)
+--   head-is : rule class ≡ nodes 0 23 located → headAt levels bytes class at ≡ Found head
+--     → headOf (read levels bytes class at .tree) ≡ read (head .levels) bytes (head .class) (head .place) .tree
+--   head-missing : headAt levels bytes class at ≡ NoHead why → headRefusal (read levels bytes class at .tree) ≡ Failed why
+--   head-refused : headAt levels bytes class at ≡ Found head → readOwn bytes (head .place) (head .class) (head .levels) ≡ Refused why
+--     → headRefusal (read levels bytes class at .tree) ≡ Failed why
+--   head-read : headAt levels bytes class at ≡ Found head → readOwn bytes (head .place) (head .class) (head .levels) ≡ Record own
+--     → (headRefusal (read levels bytes class at .tree) ≡ Passed) × (headTrivia (read levels bytes class at .tree) ≡ triviaOf bytes own)
 --   own-refused, own-read : the same of a record's own bytes and its own trivia
 --   number-read : readOwn bytes at class levels ≡ Record own → tokenNumber (read levels bytes class at .tree) ≡ getD bytes at 0
 --   block-read : readOwn bytes at class levels ≡ Record own → hasBlock (read levels bytes class at .tree) ≡ blockBit (getD bytes at 0) (own .map / 2)
@@ -21,7 +23,7 @@ use Rattle.answers.specs.declared.Checked.{Checked}
 use Rattle.answers.specs.declared.Checked.the-variants.{Passed, Failed}
 use Rattle.answers.specs.Numbers.{andThen}
 use Rattle.text.proofs.Choices.{by-test, true-false, and-true-left, and-true-right}
-use Rattle.tree.specs.Grammar.{Slot, must, kindOf, rule, fields}
+use Rattle.tree.specs.Grammar.{Slot, must, kindOf, nodes, rule, fields}
 use Rattle.tree.specs.Own.{mayStand, fieldsFit, readOwn}
 use Rattle.tree.specs.Reading.{triviaOf, textOf, Due, slotClass, fieldsDue, partsDue, Reader, readParts, recordOf, readOn, unread, read}
 use Rattle.tree.specs.Parts.{skipped, firstClass, secondField, fieldHead, innerOn, innerHead, headOn, headAt}
@@ -41,7 +43,7 @@ use Rattle.tree.specs.declared.parts.HeadRead.{HeadRead}
 use Rattle.tree.specs.declared.parts.HeadRead.the-variants.{Found, NoHead}
 use Rattle.tree.proofs.OwnBytes.{leafNumber}
 use Rattle.tree.proofs.Readings.{no-record}
-use Rattle.events.specs.Views.{ownTrivia, headTrivia, tokenNumber, stands, hasBlock, bitAt, blockBit}
+use Rattle.events.specs.Views.{ownTrivia, headOf, headTrivia, tokenNumber, stands, hasBlock, bitAt, blockBit}
 use Rattle.events.specs.Refusals.{firstRefusal, ownRefusal, headRefusal}
 use Rattle.events.proofs.OwnParts.{Fielded, token-number, record-headed, record-fields}
 use Rattle.events.proofs.Refusals.{skip-passed, skip-refused}
@@ -53,10 +55,10 @@ abbrev OwnSays : List ℕ → Checked → List Trivium → OwnRead → Type 0
 OwnSays bytes refusal trivia (Record own) = (refusal ≡ Passed) × (trivia ≡ triviaOf bytes own)
 OwnSays bytes refusal trivia (Refused why) = refusal ≡ Failed why
 
--- what a head says of them
-abbrev HeadSays : List ℕ → Checked → List Trivium → HeadRead → Type 0
-HeadSays bytes refusal trivia (Found head) = OwnSays bytes refusal trivia (readOwn bytes (head .place) (head .class) (head .levels))
-HeadSays bytes refusal trivia (NoHead why) = refusal ≡ Failed why
+-- what a head that was found says of a refusal and the record that is the head
+abbrev HeadSays : List ℕ → Checked → Tree → HeadRead → Type 0
+HeadSays bytes refusal head (Found found) = (head ≡ read (found .levels) bytes (found .class) (found .place) .tree) × (refusal ≡ ownRefusal head)
+HeadSays bytes refusal head (NoHead why) = refusal ≡ Failed why
 
 -- ---- a record's own bytes
 
@@ -131,9 +133,9 @@ behindFirst (slot ∷ slots) = slots
 first-head : (kind : Kind) (class value : Class) (text : List ℕ) (trees : List Tree) → heads (tokenNumber (built kind text trees)) ≡ true
     → eqb (tokenNumber (built kind text trees)) 5 ≡ false → eqb (tokenNumber (built kind text trees)) 28 ≡ false
     → (headRefusal (built kind text trees) ≡ ownRefusal (getD trees 0 absent))
-    × (headTrivia (built kind text trees) ≡ ownTrivia (getD trees 0 absent))
+    × (headOf (built kind text trees) ≡ getD trees 0 absent)
     × (fields kind value ≡ must (firstClass class (fields kind value)) ∷ behindFirst (fields kind value))
-unfolding headRefusal headTrivia built tokenNumber
+unfolding headRefusal headOf built tokenNumber
 first-head variant.Align class value text trees head five binary = (refl, refl, refl)
 first-head variant.Assert class value text trees head five binary = (refl, refl, refl)
 first-head variant.Braces class value text trees head five binary = true-false (sym head)
@@ -181,15 +183,13 @@ first-head variant.ArgItem class value text trees head five binary = true-false 
 -- a second field, behind a first that is skipped
 second-says : (levels : ℕ) (bytes : List ℕ) (class next : Class) (at : ℕ)
     → HeadSays bytes (andThen (firstRefusal (read levels bytes class at .tree)) (ownRefusal (read levels bytes next (read levels bytes class at .end) .tree)))
-    (ownTrivia (read levels bytes next (read levels bytes class at .end) .tree)) (secondField levels next (skipped levels bytes class at))
+    (read levels bytes next (read levels bytes class at .end) .tree) (secondField levels next (skipped levels bytes class at))
 second-says levels bytes class next at = go (skipped levels bytes class at) refl
   where
     go : (found : Skipped) → skipped levels bytes class at ≡ found
         → HeadSays bytes (andThen (firstRefusal (read levels bytes class at .tree)) (ownRefusal (read levels bytes next (read levels bytes class at .end) .tree)))
-        (ownTrivia (read levels bytes next (read levels bytes class at .end) .tree)) (secondField levels next found)
-    go (Next end) is =
-        let passed = skip-passed levels bytes class at end is in
-        rw (passed .0, passed .1) (own-says levels bytes next (read levels bytes class at .end))
+        (read levels bytes next (read levels bytes class at .end) .tree) (secondField levels next found)
+    go (Next end) is = let passed = skip-passed levels bytes class at end is in rw (passed .0, passed .1) (refl, refl)
     go (NotSkipped why) is = rw (skip-refused levels bytes class at why is)
 
 module _ (levels : ℕ) (bytes : List ℕ) (class : Class) (at : ℕ) (own : Own) (is : readOwn bytes at class (suc levels) ≡ Record own) where
@@ -240,18 +240,18 @@ module _ (levels : ℕ) (bytes : List ℕ) (class : Class) (at : ℕ) (own : Own
     -- a kind whose head is such a second field
     behind-says : (kind : Kind) (field next : Class) (slots : List Slot) → own .kind ≡ kind → fields kind (rule class .value) ≡ must field ∷ must next ∷ slots
         → headRefusal (built kind (textOf bytes own) partTrees) ≡ andThen (firstRefusal (getD partTrees 0 absent)) (ownRefusal (getD partTrees 1 absent))
-        → headTrivia (built kind (textOf bytes own) partTrees) ≡ ownTrivia (getD partTrees 1 absent)
-        → HeadSays bytes (headRefusal recordTree) (headTrivia recordTree) (secondField levels next (skipped levels bytes field (own .end)))
-    behind-says kind field next slots same due refusal trivia =
+        → headOf (built kind (textOf bytes own) partTrees) ≡ getD partTrees 1 absent
+        → HeadSays bytes (headRefusal recordTree) (headOf recordTree) (secondField levels next (skipped levels bytes field (own .end)))
+    behind-says kind field next slots same due refusal head =
         let slots-are : fields (own .kind) (rule class .value) ≡ must field ∷ must next ∷ slots = ap (λ (kind : Kind). fields kind (rule class .value)) same ∙ due in
         let head-refusal = ap (λ (kind : Kind). headRefusal (built kind (textOf bytes own) partTrees)) same ∙ refusal in
-        let head-trivia = ap (λ (kind : Kind). headTrivia (built kind (textOf bytes own) partTrees)) same ∙ trivia in
-        rw (head-refusal, head-trivia, first-read field (must next ∷ slots) slots-are, second-read field next slots slots-are) (second-says levels bytes field next (own .end))
+        let head-is = ap (λ (kind : Kind). headOf (built kind (textOf bytes own) partTrees)) same ∙ head in
+        rw (head-refusal, head-is, first-read field (must next ∷ slots) slots-are, second-read field next slots slots-are) (second-says levels bytes field next (own .end))
 
     -- `Data`
     data-says : eqb (getD bytes at 0) 5 ≡ true
-        → HeadSays bytes (headRefusal recordTree) (headTrivia recordTree) (secondField levels DataSize (skipped levels bytes ExpressionArguments (own .end)))
-    unfolding built headRefusal headTrivia
+        → HeadSays bytes (headRefusal recordTree) (headOf recordTree) (secondField levels DataSize (skipped levels bytes ExpressionArguments (own .end)))
+    unfolding built headRefusal headOf
     data-says five =
         let kind : kindOf 5 ≡ Known (own .kind) = rw (eqb-true (getD bytes at 0) 5 five) at known-kind in
         let same : own .kind ≡ variant.Data = cc in
@@ -259,8 +259,8 @@ module _ (levels : ℕ) (bytes : List ℕ) (class : Class) (at : ℕ) (own : Own
 
     -- a binary expression
     binary-says : eqb (getD bytes at 0) 28 ≡ true
-        → HeadSays bytes (headRefusal recordTree) (headTrivia recordTree) (secondField levels LocatedExpression (skipped levels bytes BinaryOp (own .end)))
-    unfolding built headRefusal headTrivia
+        → HeadSays bytes (headRefusal recordTree) (headOf recordTree) (secondField levels LocatedExpression (skipped levels bytes BinaryOp (own .end)))
+    unfolding built headRefusal headOf
     binary-says binary =
         let kind : kindOf 28 ≡ Known (own .kind) = rw (eqb-true (getD bytes at 0) 28 binary) at known-kind in
         let same : own .kind ≡ variant.BinaryExpression = cc in
@@ -268,15 +268,16 @@ module _ (levels : ℕ) (bytes : List ℕ) (class : Class) (at : ℕ) (own : Own
 
     -- any other
     first-says : heads (getD bytes at 0) ≡ true → eqb (getD bytes at 0) 5 ≡ false → eqb (getD bytes at 0) 28 ≡ false
-        → OwnSays bytes (headRefusal recordTree) (headTrivia recordTree) (readOwn bytes (own .end) (firstClass class (fields (own .kind) (rule class .value))) levels)
+        → HeadSays bytes (headRefusal recordTree) (headOf recordTree)
+        (Found (record { place = own .end; class = firstClass class (fields (own .kind) (rule class .value)); levels = levels }))
     first-says nodal five binary =
         let field : Class = firstClass class (fields (own .kind) (rule class .value)) in
         let parts = first-head (own .kind) class (rule class .value) (textOf bytes own) partTrees (rw own-number nodal) (rw own-number five) (rw own-number binary) in
         let first = first-read field (behindFirst (fields (own .kind) (rule class .value))) (parts .2) in
-        rw (parts .0, parts .1, first) (own-says levels bytes field (own .end))
+        rw (parts .0, parts .1, first) (refl, refl)
 
   -- its head is what the bytes say
-  field-says : heads (getD bytes at 0) ≡ true → HeadSays bytes (headRefusal recordTree) (headTrivia recordTree) (fieldHead (suc levels) bytes class (getD bytes at 0) own)
+  field-says : heads (getD bytes at 0) ≡ true → HeadSays bytes (headRefusal recordTree) (headOf recordTree) (fieldHead (suc levels) bytes class (getD bytes at 0) own)
   unfolding fieldHead
   field-says nodal =
       let list = heads-fields (getD bytes at 0) nodal .0 in
@@ -291,18 +292,18 @@ module _ (levels : ℕ) (bytes : List ℕ) (class : Class) (at : ℕ) (own : Own
 
 -- of a class whose kinds have their head in a field
 inner-says : (levels : ℕ) (bytes : List ℕ) (class : Class) (at : ℕ) → ((number : ℕ) → mayStand (rule class) number ≡ true → heads number ≡ true)
-    → HeadSays bytes (headRefusal (read levels bytes class at .tree)) (headTrivia (read levels bytes class at .tree)) (innerHead levels bytes class at)
-unfolding innerHead read headRefusal headTrivia
+    → HeadSays bytes (headRefusal (read levels bytes class at .tree)) (headOf (read levels bytes class at .tree)) (innerHead levels bytes class at)
+unfolding innerHead read headRefusal headOf
 inner-says zero bytes class at nodal = go (readOwn bytes at class zero) refl
   where
     go : (found : OwnRead) → readOwn bytes at class zero ≡ found
-        → HeadSays bytes (headRefusal (readOn unread bytes class at found .tree)) (headTrivia (readOn unread bytes class at found .tree)) (innerOn zero bytes class at found)
+        → HeadSays bytes (headRefusal (readOn unread bytes class at found .tree)) (headOf (readOn unread bytes class at found .tree)) (innerOn zero bytes class at found)
     go (Record own) is = no-record bytes at class own is
     go (Refused why) is = refl
 inner-says (suc levels) bytes class at nodal = go (readOwn bytes at class (suc levels)) refl
   where
     go : (found : OwnRead) → readOwn bytes at class (suc levels) ≡ found
-        → HeadSays bytes (headRefusal (readOn (read levels bytes) bytes class at found .tree)) (headTrivia (readOn (read levels bytes) bytes class at found .tree))
+        → HeadSays bytes (headRefusal (readOn (read levels bytes) bytes class at found .tree)) (headOf (readOn (read levels bytes) bytes class at found .tree))
         (innerOn (suc levels) bytes class at found)
     go (Record own) is = field-says levels bytes class at own is (nodal (getD bytes at 0) (record-headed bytes at class (suc levels) own is .1 .standing))
     go (Refused why) is = refl
@@ -329,8 +330,8 @@ expression-nodal number stand =
     (λ other. let is : number ≡ 29 = omega (arith, eqb-false number 28 other) in rw is))
 
 -- and a token that is neither `Braces`, `Config` nor an `Expression`
-token-nodal : (number : ℕ) → mayStand (rule BareToken) number ≡ true → (eqb number 2 || eqb number 3) ≡ false → eqb number 9 ≡ false → heads number ≡ true
-token-nodal number stand block expression =
+token-nodal : (located : Bool) (number : ℕ) → mayStand (nodes 0 23 located) number ≡ true → (eqb number 2 || eqb number 3) ≡ false → eqb number 9 ≡ false → heads number ≡ true
+token-nodal located number stand block expression =
     by-test (eqb number 24)
     (λ q. true-false (sym (rw q at stand)))
     (λ q.
@@ -341,94 +342,108 @@ token-nodal number stand block expression =
 
 -- ---- a token's head
 
-module _ (levels : ℕ) (bytes : List ℕ) (at : ℕ) (own : Own) (is : readOwn bytes at BareToken (suc levels) ≡ Record own) where
-  -- a token of its own bytes
-  abbrev token : Tree
-  token = recordTree levels bytes BareToken at own is
+-- of a class of tokens
+module _ (bytes : List ℕ) (class : Class) (located : Bool) (tokens : rule class ≡ nodes 0 23 located) where
+  module _ (levels : ℕ) (at : ℕ) (own : Own) (is : readOwn bytes at class (suc levels) ≡ Record own) where
+    -- a token of its own bytes
+    abbrev token : Tree
+    token = recordTree levels bytes class at own is
 
-  -- its parts
-  abbrev parts : List Tree
-  parts = partTrees levels bytes BareToken at own is
+    -- its parts
+    abbrev parts : List Tree
+    parts = partTrees levels bytes class at own is
 
-  -- a kind whose head is that of its only field
-  wrapped-says : (kind : Kind) (field : Class) → ((number : ℕ) → mayStand (rule field) number ≡ true → heads number ≡ true)
-      → eqb (getD bytes at 0) 24 ≡ false → leafNumber (getD bytes at 0) ≡ false → own .kind ≡ kind → fields kind (rule BareToken .value) ≡ must field ∷ []
-      → headRefusal (built kind (textOf bytes own) parts) ≡ headRefusal (getD parts 0 absent)
-      → headTrivia (built kind (textOf bytes own) parts) ≡ headTrivia (getD parts 0 absent)
-      → HeadSays bytes (headRefusal token) (headTrivia token) (innerHead levels bytes field (own .end))
-  wrapped-says kind field nodal list leaf same due refusal trivia =
-      let slots-are : fields (own .kind) (rule BareToken .value) ≡ must field ∷ [] = ap (λ (kind : Kind). fields kind (rule BareToken .value)) same ∙ due in
-      let head-refusal = ap (λ (kind : Kind). headRefusal (built kind (textOf bytes own) parts)) same ∙ refusal in
-      let head-trivia = ap (λ (kind : Kind). headTrivia (built kind (textOf bytes own) parts)) same ∙ trivia in
-      rw (head-refusal, head-trivia, first-read levels bytes BareToken at own is list leaf field [] slots-are) (inner-says levels bytes field (own .end) nodal)
+    -- a kind whose head is that of its only field
+    wrapped-says : (kind : Kind) (field : Class) → ((number : ℕ) → mayStand (rule field) number ≡ true → heads number ≡ true)
+        → eqb (getD bytes at 0) 24 ≡ false → leafNumber (getD bytes at 0) ≡ false → own .kind ≡ kind → fields kind (rule class .value) ≡ must field ∷ []
+        → headRefusal (built kind (textOf bytes own) parts) ≡ headRefusal (getD parts 0 absent)
+        → headOf (built kind (textOf bytes own) parts) ≡ headOf (getD parts 0 absent)
+        → HeadSays bytes (headRefusal token) (headOf token) (innerHead levels bytes field (own .end))
+    wrapped-says kind field nodal list leaf same due refusal head =
+        let slots-are : fields (own .kind) (rule class .value) ≡ must field ∷ [] = ap (λ (kind : Kind). fields kind (rule class .value)) same ∙ due in
+        let head-refusal = ap (λ (kind : Kind). headRefusal (built kind (textOf bytes own) parts)) same ∙ refusal in
+        let head-is = ap (λ (kind : Kind). headOf (built kind (textOf bytes own) parts)) same ∙ head in
+        rw (head-refusal, head-is, first-read levels bytes class at own is list leaf field [] slots-are) (inner-says levels bytes field (own .end) nodal)
 
-  -- that of `Braces` and of `Config` is the block's
-  block-says : (eqb (getD bytes at 0) 2 || eqb (getD bytes at 0) 3) ≡ true → HeadSays bytes (headRefusal token) (headTrivia token) (innerHead levels bytes BlockRecord (own .end))
-  unfolding built headRefusal headTrivia
-  block-says block =
-      by-test (eqb (getD bytes at 0) 2)
-      (λ two.
-      let byte : getD bytes at 0 ≡ 2 = eqb-true (getD bytes at 0) 2 two in
-      let kind : kindOf 2 ≡ Known (own .kind) = rw byte at (known-kind levels bytes BareToken at own is) in
-      let same : own .kind ≡ variant.Braces = cc in
-      wrapped-says variant.Braces BlockRecord block-nodal (rw byte) (rw byte) same refl refl refl)
-      (λ two.
-      let byte : getD bytes at 0 ≡ 3 = eqb-true (getD bytes at 0) 3 (rw two at block) in
-      let kind : kindOf 3 ≡ Known (own .kind) = rw byte at (known-kind levels bytes BareToken at own is) in
-      let same : own .kind ≡ variant.Config = cc in
-      wrapped-says variant.Config BlockRecord block-nodal (rw byte) (rw byte) same refl refl refl)
+    -- that of `Braces` and of `Config` is the block's
+    block-says : (eqb (getD bytes at 0) 2 || eqb (getD bytes at 0) 3) ≡ true → HeadSays bytes (headRefusal token) (headOf token) (innerHead levels bytes BlockRecord (own .end))
+    unfolding built headRefusal headOf
+    block-says block =
+        by-test (eqb (getD bytes at 0) 2)
+        (λ two.
+        let byte : getD bytes at 0 ≡ 2 = eqb-true (getD bytes at 0) 2 two in
+        let kind : kindOf 2 ≡ Known (own .kind) = rw byte at (known-kind levels bytes class at own is) in
+        let same : own .kind ≡ variant.Braces = cc in
+        wrapped-says variant.Braces BlockRecord block-nodal (rw byte) (rw byte) same refl refl refl)
+        (λ two.
+        let byte : getD bytes at 0 ≡ 3 = eqb-true (getD bytes at 0) 3 (rw two at block) in
+        let kind : kindOf 3 ≡ Known (own .kind) = rw byte at (known-kind levels bytes class at own is) in
+        let same : own .kind ≡ variant.Config = cc in
+        wrapped-says variant.Config BlockRecord block-nodal (rw byte) (rw byte) same refl refl refl)
 
-  -- that of an `Expression` the expression's
-  expression-says : eqb (getD bytes at 0) 9 ≡ true → HeadSays bytes (headRefusal token) (headTrivia token) (innerHead levels bytes BareExpression (own .end))
-  unfolding built headRefusal headTrivia
-  expression-says nine =
-      let byte : getD bytes at 0 ≡ 9 = eqb-true (getD bytes at 0) 9 nine in
-      let kind : kindOf 9 ≡ Known (own .kind) = rw byte at (known-kind levels bytes BareToken at own is) in
-      let same : own .kind ≡ variant.Expression = cc in
-      wrapped-says variant.Expression BareExpression expression-nodal (rw byte) (rw byte) same refl refl refl
+    -- that of an `Expression` the expression's
+    expression-says : eqb (getD bytes at 0) 9 ≡ true → HeadSays bytes (headRefusal token) (headOf token) (innerHead levels bytes BareExpression (own .end))
+    unfolding built headRefusal headOf
+    expression-says nine =
+        let byte : getD bytes at 0 ≡ 9 = eqb-true (getD bytes at 0) 9 nine in
+        let kind : kindOf 9 ≡ Known (own .kind) = rw byte at (known-kind levels bytes class at own is) in
+        let same : own .kind ≡ variant.Expression = cc in
+        wrapped-says variant.Expression BareExpression expression-nodal (rw byte) (rw byte) same refl refl refl
 
-  -- that of any token is what the bytes say
-  record-says : HeadSays bytes (headRefusal token) (headTrivia token) (headOn (suc levels) bytes BareToken at (Record own))
-  record-says =
-      by-test (eqb (getD bytes at 0) 2 || eqb (getD bytes at 0) 3)
-      (λ block. simp (block, sub-one) (block-says block))
-      (λ block. by-test (eqb (getD bytes at 0) 9)
-      (λ nine. simp (block, nine, sub-one) (expression-says nine))
-      (λ nine. simp (block, nine) (field-says levels bytes BareToken at own is
-      (token-nodal (getD bytes at 0) (record-headed bytes at BareToken (suc levels) own is .1 .standing) block nine))))
+    -- that of any token is what the bytes say
+    record-says : HeadSays bytes (headRefusal token) (headOf token) (headOn (suc levels) bytes class at (Record own))
+    record-says =
+        let stand : mayStand (nodes 0 23 located) (getD bytes at 0) ≡ true = rw tokens at (record-headed bytes at class (suc levels) own is .1 .standing) in
+        by-test (eqb (getD bytes at 0) 2 || eqb (getD bytes at 0) 3)
+        (λ block. simp (block, sub-one) (block-says block))
+        (λ block. by-test (eqb (getD bytes at 0) 9)
+        (λ nine. simp (block, nine, sub-one) (expression-says nine))
+        (λ nine. simp (block, nine) (field-says levels bytes class at own is (token-nodal located (getD bytes at 0) stand block nine))))
 
--- and where it is refused
-token-says : (levels : ℕ) (bytes : List ℕ) (at : ℕ)
-    → HeadSays bytes (headRefusal (read levels bytes BareToken at .tree)) (headTrivia (read levels bytes BareToken at .tree)) (headAt levels bytes BareToken at)
-unfolding headAt read headRefusal headTrivia
-token-says zero bytes at = go (readOwn bytes at BareToken zero) refl
-  where
-    go : (found : OwnRead) → readOwn bytes at BareToken zero ≡ found
-        → HeadSays bytes (headRefusal (readOn unread bytes BareToken at found .tree)) (headTrivia (readOn unread bytes BareToken at found .tree)) (headOn zero bytes BareToken at found)
-    go (Record own) is = no-record bytes at BareToken own is
-    go (Refused why) is = refl
-token-says (suc levels) bytes at = go (readOwn bytes at BareToken (suc levels)) refl
-  where
-    go : (found : OwnRead) → readOwn bytes at BareToken (suc levels) ≡ found
-        → HeadSays bytes (headRefusal (readOn (read levels bytes) bytes BareToken at found .tree)) (headTrivia (readOn (read levels bytes) bytes BareToken at found .tree))
-        (headOn (suc levels) bytes BareToken at found)
-    go (Record own) is = record-says levels bytes at own is
-    go (Refused why) is = refl
+  -- and where it is refused
+  token-says : (levels : ℕ) (at : ℕ)
+      → HeadSays bytes (headRefusal (read levels bytes class at .tree)) (headOf (read levels bytes class at .tree)) (headAt levels bytes class at)
+  unfolding headAt read headRefusal headOf
+  token-says zero at = go (readOwn bytes at class zero) refl
+    where
+      go : (found : OwnRead) → readOwn bytes at class zero ≡ found
+          → HeadSays bytes (headRefusal (readOn unread bytes class at found .tree)) (headOf (readOn unread bytes class at found .tree)) (headOn zero bytes class at found)
+      go (Record own) is = no-record bytes at class own is
+      go (Refused why) is = refl
+  token-says (suc levels) at = go (readOwn bytes at class (suc levels)) refl
+    where
+      go : (found : OwnRead) → readOwn bytes at class (suc levels) ≡ found
+          → HeadSays bytes (headRefusal (readOn (read levels bytes) bytes class at found .tree)) (headOf (readOn (read levels bytes) bytes class at found .tree))
+          (headOn (suc levels) bytes class at found)
+      go (Record own) is = record-says levels at own is
+      go (Refused why) is = refl
 
-module _ (levels : ℕ) (bytes : List ℕ) (at : ℕ) where
-  -- a refusal on the way to the head
-  pub head-missing : (why : Refusal) → headAt levels bytes BareToken at ≡ NoHead why → headRefusal (read levels bytes BareToken at .tree) ≡ Failed why
-  head-missing why found = rw found at (token-says levels bytes at)
+  -- a head that was found is the token's
+  pub head-is : (levels : ℕ) (at : ℕ) (head : Head) → headAt levels bytes class at ≡ Found head
+      → headOf (read levels bytes class at .tree) ≡ read (head .levels) bytes (head .class) (head .place) .tree
+  head-is levels at head found = (rw found at (token-says levels at)) .0
 
-  -- a refusal of the head's own bytes
-  pub head-refused : (head : Head) (why : Refusal) → headAt levels bytes BareToken at ≡ Found head → readOwn bytes (head .place) (head .class) (head .levels) ≡ Refused why
-      → headRefusal (read levels bytes BareToken at .tree) ≡ Failed why
-  head-refused head why found is = rw is at (rw found at (token-says levels bytes at))
+  module _ (levels : ℕ) (at : ℕ) where
+    -- a refusal on the way to the head
+    pub head-missing : (why : Refusal) → headAt levels bytes class at ≡ NoHead why → headRefusal (read levels bytes class at .tree) ≡ Failed why
+    head-missing why found = rw found at (token-says levels at)
 
-  -- a head that was read
-  pub head-read : (head : Head) (own : Own) → headAt levels bytes BareToken at ≡ Found head → readOwn bytes (head .place) (head .class) (head .levels) ≡ Record own
-      → (headRefusal (read levels bytes BareToken at .tree) ≡ Passed) × (headTrivia (read levels bytes BareToken at .tree) ≡ triviaOf bytes own)
-  head-read head own found is = rw is at (rw found at (token-says levels bytes at))
+    -- the refusal of a head that was found is its own
+    head-own : (head : Head) → headAt levels bytes class at ≡ Found head
+        → headRefusal (read levels bytes class at .tree) ≡ ownRefusal (read (head .levels) bytes (head .class) (head .place) .tree)
+    head-own head found = let says = rw found at (token-says levels at) in says .1 ∙ ap ownRefusal (says .0)
+
+    -- a refusal of the head's own bytes
+    pub head-refused : (head : Head) (why : Refusal) → headAt levels bytes class at ≡ Found head → readOwn bytes (head .place) (head .class) (head .levels) ≡ Refused why
+        → headRefusal (read levels bytes class at .tree) ≡ Failed why
+    head-refused head why found is = head-own head found ∙ own-refused (head .levels) bytes (head .class) (head .place) why is
+
+    -- a head that was read
+    pub head-read : (head : Head) (own : Own) → headAt levels bytes class at ≡ Found head → readOwn bytes (head .place) (head .class) (head .levels) ≡ Record own
+        → (headRefusal (read levels bytes class at .tree) ≡ Passed) × (headTrivia (read levels bytes class at .tree) ≡ triviaOf bytes own)
+    head-read head own found is =
+        let reads = own-read (head .levels) bytes (head .class) (head .place) own is in
+        (head-own head found ∙ reads .0, ap ownTrivia (head-is levels at head found) ∙ reads .1)
 
 -- ---- a token's number and its block
 

@@ -21,7 +21,7 @@ use Rattle.tree.specs.Reading.{triviaFrom, fieldsDue, partsDue, readParts, read
 use Rattle.tree.specs.Checking.{readFile}
 use Rattle.printing.specs.Holding.{Held, held, refused, heldLength, withoutNewlines, hold}
 use Rattle.events.specs.Printed.{ascii, mnemonics, registers, operators, dataSizes, encodings, variableTypes, numberTypes, modifiers, printed}
-use Rattle.events.specs.Views.{ownTrivia, headTrivia, tokenNumber, stands, hasBlock, indexOf}
+use Rattle.events.specs.Views.{ownTrivia, headOf, tokenNumber, stands, hasBlock, indexOf}
 use Rattle.events.specs.Refusals.{firstRefusal, ownRefusal, headRefusal}
 use Rattle.events.specs.Trees.{triviaEvents, leadEvents, oneOf, breaks, eventsIn, eventsOf}
 
@@ -322,7 +322,7 @@ wanted sample = (Passed, sample .chunks)
 
 -- every row holds
 pub rows-held : map found rows ≡ map wanted rows
-unfolding cased isNewline storedIndent storedHead storedChunk built chain fieldsFit mapFits sizedEnd triviumEnd triviaEnd triviaRead textEnd restOf ownAt readOwn triviaFrom fieldsDue partsDue readParts read heldLength withoutNewlines hold ascii mnemonics registers operators dataSizes encodings variableTypes numberTypes modifiers printed ownTrivia headTrivia tokenNumber stands hasBlock indexOf firstRefusal ownRefusal headRefusal triviaEvents leadEvents oneOf eventsIn
+unfolding cased isNewline storedIndent storedHead storedChunk built chain fieldsFit mapFits sizedEnd triviumEnd triviaEnd triviaRead textEnd restOf ownAt readOwn triviaFrom fieldsDue partsDue readParts read heldLength withoutNewlines hold ascii mnemonics registers operators dataSizes encodings variableTypes numberTypes modifiers printed ownTrivia headOf tokenNumber stands hasBlock indexOf firstRefusal ownRefusal headRefusal triviaEvents leadEvents oneOf eventsIn
 rows-held = refl
 
 -- ---- newlines between tokens

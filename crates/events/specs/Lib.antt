@@ -2,3 +2,4 @@ pub mod Printed
 pub mod Views
 pub mod Refusals
 pub mod Trees
+pub mod Accepted

@@ -1,4 +1,4 @@
--- What a record's surroundings read of it: its trivia, its head's trivia, its kind's number, whether it has a block, whether it stands at all.
+-- What a record's surroundings read of it: its trivia, its head and the head's trivia, its place, its kind's number, whether it has a block, whether it stands at all.
 use Prim.Native.Nat.{ℕ, zero, suc, _/_, _%_}
 use mathlib.Core.List.{List, []}
 use mathlib.Core.Bool.{Bool, true, false, cond}
@@ -60,56 +60,111 @@ ownTrivia (ImportAll star alias) = []
 ownTrivia (SpecificImportArg path alias) = []
 ownTrivia (ArgItem value comma) = []
 
--- the trivia of a token's head, as `Token::trivia` of ast.rs has it
-unfoldable pub headTrivia : Tree → List Trivium
-headTrivia absent = []
-headTrivia (refused refusal) = []
-headTrivia (node place trivia tree) = headTrivia tree
-headTrivia nil = []
-headTrivia (cons item items) = []
-headTrivia (Align tag value) = ownTrivia tag
-headTrivia (Assert tag value message) = ownTrivia tag
-headTrivia (Braces block) = headTrivia block
-headTrivia (Config block) = headTrivia block
-headTrivia (ConfigPair key eq value) = ownTrivia key
-headTrivia (Data values size) = ownTrivia size
-headTrivia (Definition tag id value) = ownTrivia tag
-headTrivia (Eof unit) = ownTrivia unit
-headTrivia (Error text) = ownTrivia text
-headTrivia (Expression expression) = headTrivia expression
-headTrivia (If tagIf value then tagElse otherwise) = ownTrivia tagIf
-headTrivia (Import tag args source filename block) = ownTrivia tag
-headTrivia (File tag filename) = ownTrivia tag
-headTrivia (Instruction mnemonic operand) = ownTrivia mnemonic
-headTrivia (Label id colon block) = ownTrivia id
-headTrivia (Loop tag expr block) = ownTrivia tag
-headTrivia (MacroDefinition tag id lparen args rparen block) = ownTrivia tag
-headTrivia (MacroInvocation id lparen args rparen) = ownTrivia id
-headTrivia (ProgramCounterDefinition star eq value) = ownTrivia star
-headTrivia (Segment tag id block) = ownTrivia tag
-headTrivia (Test tag id block) = ownTrivia tag
-headTrivia (Text tag encoding text) = ownTrivia tag
-headTrivia (Trace tag lparen args rparen) = ownTrivia tag
-headTrivia (VariableDefinition ty id eq value) = ownTrivia ty
-headTrivia (Vec items) = []
-headTrivia (Leaf text) = []
-headTrivia (PathItem text) = []
-headTrivia (Block lparen inner rparen) = ownTrivia lparen
-headTrivia (BinaryExpression op lhs rhs) = ownTrivia lhs
-headTrivia (Factor factor tagNot tagNeg) = ownTrivia factor
-headTrivia (CurrentProgramCounter star) = []
-headTrivia (ExprParens lparen inner rparen) = []
-headTrivia (FunctionCall name lparen args rparen) = []
-headTrivia (IdentifierValue path modifier) = []
-headTrivia (Number ty value) = []
-headTrivia (StringFactor string) = []
-headTrivia (InterpolatedString lquote items) = []
-headTrivia (Operand expr lchar rchar mode suffix) = []
-headTrivia (RegisterSuffix comma register) = []
-headTrivia (ImportAs tag path) = []
-headTrivia (ImportAll star alias) = []
-headTrivia (SpecificImportArg path alias) = []
-headTrivia (ArgItem value comma) = []
+-- the record whose trivia are a token's, its head, as `Token::trivia` of ast.rs has it
+unfoldable pub headOf : Tree → Tree
+headOf absent = absent
+headOf (refused refusal) = absent
+headOf (node place trivia tree) = headOf tree
+headOf nil = absent
+headOf (cons item items) = absent
+headOf (Align tag value) = tag
+headOf (Assert tag value message) = tag
+headOf (Braces block) = headOf block
+headOf (Config block) = headOf block
+headOf (ConfigPair key eq value) = key
+headOf (Data values size) = size
+headOf (Definition tag id value) = tag
+headOf (Eof unit) = unit
+headOf (Error text) = text
+headOf (Expression expression) = headOf expression
+headOf (If tagIf value then tagElse otherwise) = tagIf
+headOf (Import tag args source filename block) = tag
+headOf (File tag filename) = tag
+headOf (Instruction mnemonic operand) = mnemonic
+headOf (Label id colon block) = id
+headOf (Loop tag expr block) = tag
+headOf (MacroDefinition tag id lparen args rparen block) = tag
+headOf (MacroInvocation id lparen args rparen) = id
+headOf (ProgramCounterDefinition star eq value) = star
+headOf (Segment tag id block) = tag
+headOf (Test tag id block) = tag
+headOf (Text tag encoding text) = tag
+headOf (Trace tag lparen args rparen) = tag
+headOf (VariableDefinition ty id eq value) = ty
+headOf (Vec items) = absent
+headOf (Leaf text) = absent
+headOf (PathItem text) = absent
+headOf (Block lparen inner rparen) = lparen
+headOf (BinaryExpression op lhs rhs) = lhs
+headOf (Factor factor tagNot tagNeg) = factor
+headOf (CurrentProgramCounter star) = absent
+headOf (ExprParens lparen inner rparen) = absent
+headOf (FunctionCall name lparen args rparen) = absent
+headOf (IdentifierValue path modifier) = absent
+headOf (Number ty value) = absent
+headOf (StringFactor string) = absent
+headOf (InterpolatedString lquote items) = absent
+headOf (Operand expr lchar rchar mode suffix) = absent
+headOf (RegisterSuffix comma register) = absent
+headOf (ImportAs tag path) = absent
+headOf (ImportAll star alias) = absent
+headOf (SpecificImportArg path alias) = absent
+headOf (ArgItem value comma) = absent
+
+-- the trivia of a token's head
+abbrev pub headTrivia : Tree → List Trivium
+headTrivia tree = ownTrivia (headOf tree)
+
+-- where a record stands in the bytes
+unfoldable pub standsAt : Tree → ℕ
+standsAt absent = 0
+standsAt (refused refusal) = 0
+standsAt (node place trivia tree) = place
+standsAt nil = 0
+standsAt (cons item items) = 0
+standsAt (Align tag value) = 0
+standsAt (Assert tag value message) = 0
+standsAt (Braces block) = 0
+standsAt (Config block) = 0
+standsAt (ConfigPair key eq value) = 0
+standsAt (Data values size) = 0
+standsAt (Definition tag id value) = 0
+standsAt (Eof unit) = 0
+standsAt (Error text) = 0
+standsAt (Expression expression) = 0
+standsAt (If tagIf value then tagElse otherwise) = 0
+standsAt (Import tag args source filename block) = 0
+standsAt (File tag filename) = 0
+standsAt (Instruction mnemonic operand) = 0
+standsAt (Label id colon block) = 0
+standsAt (Loop tag expr block) = 0
+standsAt (MacroDefinition tag id lparen args rparen block) = 0
+standsAt (MacroInvocation id lparen args rparen) = 0
+standsAt (ProgramCounterDefinition star eq value) = 0
+standsAt (Segment tag id block) = 0
+standsAt (Test tag id block) = 0
+standsAt (Text tag encoding text) = 0
+standsAt (Trace tag lparen args rparen) = 0
+standsAt (VariableDefinition ty id eq value) = 0
+standsAt (Vec items) = 0
+standsAt (Leaf text) = 0
+standsAt (PathItem text) = 0
+standsAt (Block lparen inner rparen) = 0
+standsAt (BinaryExpression op lhs rhs) = 0
+standsAt (Factor factor tagNot tagNeg) = 0
+standsAt (CurrentProgramCounter star) = 0
+standsAt (ExprParens lparen inner rparen) = 0
+standsAt (FunctionCall name lparen args rparen) = 0
+standsAt (IdentifierValue path modifier) = 0
+standsAt (Number ty value) = 0
+standsAt (StringFactor string) = 0
+standsAt (InterpolatedString lquote items) = 0
+standsAt (Operand expr lchar rchar mode suffix) = 0
+standsAt (RegisterSuffix comma register) = 0
+standsAt (ImportAs tag path) = 0
+standsAt (ImportAll star alias) = 0
+standsAt (SpecificImportArg path alias) = 0
+standsAt (ArgItem value comma) = 0
 
 -- the number of a token's kind; 43 where there is none
 unfoldable pub tokenNumber : Tree → ℕ

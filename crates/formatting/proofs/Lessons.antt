@@ -23,7 +23,7 @@ use Rattle.tree.specs.Checking.{readFile, batchChecked}
 use Rattle.tree.proofs.Readings.{file-passed}
 use Rattle.printing.specs.Holding.{Held, held, refused, hold, heldTexts}
 use Rattle.printing.proofs.Held.{hold-ink}
-use Rattle.events.proofs.Accepted.{Acceptable}
+use Rattle.events.specs.Accepted.{Acceptable}
 use Rattle.reading.proofs.Files.{file-ink, file-ink-eight}
 use Rattle.join.specs.Setting.{marginsOf, textOf, joinOutcome}
 use Rattle.join.specs.Promise.{Promised, Faithful}

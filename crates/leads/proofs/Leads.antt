@@ -57,13 +57,13 @@ module _ (levels : ℕ) (bytes : List ℕ) (at : ℕ) where
   -- a refusal is the one on the way
   refused-on : (why : Refusal) (found : HeadRead) → headAt levels bytes BareToken at ≡ found → headOn bytes found ≡ Refused why
       → headRefusal (read levels bytes BareToken at .tree) ≡ Failed why
-  refused-on why (Found head) is e = head-refused levels bytes at head why is e
-  refused-on why (NoHead other) is e = let one : other ≡ why = cc in head-missing levels bytes at why (is ∙ ap NoHead one)
+  refused-on why (Found head) is e = head-refused bytes BareToken false refl levels at head why is e
+  refused-on why (NoHead other) is e = let one : other ≡ why = cc in head-missing bytes BareToken false refl levels at why (is ∙ ap NoHead one)
 
   -- trivia are those of the head
   read-on : (own : Own) (found : HeadRead) → headAt levels bytes BareToken at ≡ found → headOn bytes found ≡ Record own
       → (headRefusal (read levels bytes BareToken at .tree) ≡ Passed) × (headTrivia (read levels bytes BareToken at .tree) ≡ triviaOf bytes own)
-  read-on own (Found head) is e = head-read levels bytes at head own is e
+  read-on own (Found head) is e = head-read bytes BareToken false refl levels at head own is e
   read-on own (NoHead why) is e = refused-record e
 
   -- a token whose head was found was read

@@ -131,7 +131,7 @@ kind-read bytes class at levels own kind is same other =
     (record-parts bytes at class levels own is)
 
 -- where no list may stand it lies between the first and the last
-standing-range : (rule : Rule) (number : ℕ) → rule .items ≡ NoList → mayStand rule number ≡ true → (rule .first ≤ number) × (number ≤ rule .last)
+pub standing-range : (rule : Rule) (number : ℕ) → rule .items ≡ NoList → mayStand rule number ≡ true → (rule .first ≤ number) × (number ≤ rule .last)
 standing-range rule number none stands =
     by-test (eqb number 24)
     (λ list. true-false (sym (rw (list, none) at stands)))

@@ -3,7 +3,7 @@ use mathlib.Core.Path.{_≡_, refl, sym, ap, _∙_}
 use mathlib.Core.Logic.{_⊎_, inl, inr, ⊎-elim}
 use mathlib.Core.List.{List, [], _∷_, _++_}
 use mathlib.Core.Bool.{Bool, true, false, cond, not, _&&_}
-use Prim.Native.Nat.{_≤_}
+use Prim.Native.Nat.{ℕ, _≤_}
 use native.Mathlib.Omega.{arith}
 use native.Mathlib.Nat.{le-antisymm}
 use lib.Dec.{eqb, leb}
@@ -22,51 +22,52 @@ use Rattle.tree.specs.declared.grammar.Class.{Class}
 use Rattle.tree.specs.declared.grammar.Class.the-variants.{BlockRecord, BareToken, ImportPath}
 use Rattle.printing.specs.Holding.{inkOf}
 use Rattle.printing.specs.declared.Context.{Context}
-use Rattle.events.specs.Views.{ownTrivia, headTrivia, tokenNumber}
+use Rattle.events.specs.Views.{ownTrivia, headOf, headTrivia, standsAt, tokenNumber}
 use Rattle.events.specs.Trees.{oneOf, Place, eventsIn}
 use Rattle.reading.specs.Order.{comments}
-use Rattle.reading.specs.Places.{Spot, openingBrace, importPath, pathItem, expressionHead, hasComment, atValueHead, atImportPath, atPathItem, mark, placesIn, spotNumber}
+use Rattle.reading.specs.Places.{Spot, Use, openingBrace, importPath, pathItem, expressionHead, mark, placesIn, spotNumber}
+use Rattle.reading.specs.Places.{atOpeningBrace, atValueHead, atImportPath, atPathItem, atExpressionHead}
 use Rattle.reading.proofs.Shape.{Allowed, Listed, TriviaAllowed, Shaped}
 use Rattle.reading.proofs.Trivia.{ink-trivia, no-comments}
 
 -- ---- places
 
 -- no place but (f)
-unfoldable pub harmless : List Spot → Bool
+unfoldable pub harmless : List Use → Bool
 harmless [] = true
-harmless (spot ∷ spots) = eqb (spotNumber spot) 5 && harmless spots
+harmless (other ∷ others) = eqb (spotNumber (other .spot)) 5 && harmless others
 
 -- where places of two parts are harmless those of each are
-pub harmless-parts : (first second : List Spot) → harmless (first ++ second) ≡ true → (harmless first ≡ true) × (harmless second ≡ true)
+pub harmless-parts : (first second : List Use) → harmless (first ++ second) ≡ true → (harmless first ≡ true) × (harmless second ≡ true)
 unfolding harmless
 harmless-parts [] second e = (refl, e)
-harmless-parts (spot ∷ first) second e =
-    let rest = harmless-parts first second (and-true-right (eqb (spotNumber spot) 5) (harmless (first ++ second)) e) in
-    (rw (and-true-left (eqb (spotNumber spot) 5) (harmless (first ++ second)) e, rest .0), rest .1)
+harmless-parts (other ∷ first) second e =
+    let rest = harmless-parts first second (and-true-right (eqb (spotNumber (other .spot)) 5) (harmless (first ++ second)) e) in
+    (rw (and-true-left (eqb (spotNumber (other .spot)) 5) (harmless (first ++ second)) e, rest .0), rest .1)
 
 -- and of more parts
-pub harmless-three : (first second third : List Spot) → harmless (first ++ (second ++ third)) ≡ true
+pub harmless-three : (first second third : List Use) → harmless (first ++ (second ++ third)) ≡ true
     → (harmless first ≡ true) × (harmless second ≡ true) × (harmless third ≡ true)
 harmless-three first second third e =
     let front = harmless-parts first (second ++ third) e in
     let rest = harmless-parts second third (front .1) in
     (front .0, rest .0, rest .1)
 
-pub harmless-four : (first second third fourth : List Spot) → harmless (first ++ (second ++ (third ++ fourth))) ≡ true
+pub harmless-four : (first second third fourth : List Use) → harmless (first ++ (second ++ (third ++ fourth))) ≡ true
     → (harmless first ≡ true) × (harmless second ≡ true) × (harmless third ≡ true) × (harmless fourth ≡ true)
 harmless-four first second third fourth e =
     let front = harmless-parts first (second ++ (third ++ fourth)) e in
     let rest = harmless-three second third fourth (front .1) in
     (front .0, rest .0, rest .1, rest .2)
 
-pub harmless-five : (first second third fourth fifth : List Spot) → harmless (first ++ (second ++ (third ++ (fourth ++ fifth)))) ≡ true
+pub harmless-five : (first second third fourth fifth : List Use) → harmless (first ++ (second ++ (third ++ (fourth ++ fifth)))) ≡ true
     → (harmless first ≡ true) × (harmless second ≡ true) × (harmless third ≡ true) × (harmless fourth ≡ true) × (harmless fifth ≡ true)
 harmless-five first second third fourth fifth e =
     let front = harmless-parts first (second ++ (third ++ (fourth ++ fifth))) e in
     let rest = harmless-four second third fourth fifth (front .1) in
     (front .0, rest .0, rest .1, rest .2, rest .3)
 
-pub harmless-six : (first second third fourth fifth sixth : List Spot) → harmless (first ++ (second ++ (third ++ (fourth ++ (fifth ++ sixth))))) ≡ true
+pub harmless-six : (first second third fourth fifth sixth : List Use) → harmless (first ++ (second ++ (third ++ (fourth ++ (fifth ++ sixth))))) ≡ true
     → (harmless first ≡ true) × (harmless second ≡ true) × (harmless third ≡ true) × (harmless fourth ≡ true) × (harmless fifth ≡ true) × (harmless sixth ≡ true)
 harmless-six first second third fourth fifth sixth e =
     let front = harmless-parts first (second ++ (third ++ (fourth ++ (fifth ++ sixth)))) e in
@@ -74,10 +75,10 @@ harmless-six first second third fourth fifth sixth e =
     (front .0, rest .0, rest .1, rest .2, rest .3, rest .4)
 
 -- a mark of any other place that is harmless is none
-pub unmarked : (spot : Spot) (used : Bool) → eqb (spotNumber spot) 5 ≡ false → harmless (mark spot used) ≡ true → used ≡ false
+pub unmarked : (place : ℕ) (spot : Spot) (used : Bool) → eqb (spotNumber spot) 5 ≡ false → harmless (mark place spot used) ≡ true → used ≡ false
 unfolding harmless
-unmarked spot true other e = true-false (sym (rw other at e))
-unmarked spot false other e = refl
+unmarked place spot true other e = true-false (sym (rw other at e))
+unmarked place spot false other e = refl
 
 -- ---- a record with and without its own trivia
 
@@ -209,7 +210,7 @@ stem tree = cond (oneOf (tokenNumber tree) (9 ∷ 28 ∷ 29 ∷ [])) [] (headTri
 
 -- only tokens and blocks leave any
 pub stem-none : (tree : Tree) → 24 ≤ tokenNumber tree → (tokenNumber tree ≡ 27 → ⊥) → stem tree ≡ []
-unfolding stem oneOf tokenNumber headTrivia
+unfolding stem oneOf tokenNumber headOf ownTrivia
 stem-none absent above other = refl
 stem-none (refused refusal) above other = refl
 stem-none (node place trivia tree) above other = stem-none tree above other
@@ -291,11 +292,11 @@ headless-clear class tree none shaped =
 
 -- a block whose brace is not place (a) has no comment there
 brace-clear : (tree : Tree) → tokenNumber tree ≡ 27 → harmless (placesIn false tree) ≡ true → comments (headTrivia tree) ≡ []
-unfolding placesIn tokenNumber headTrivia
+unfolding placesIn tokenNumber headOf ownTrivia
 brace-clear absent is free = absurd (omega (arith, is))
 brace-clear (refused refusal) is free = absurd (omega (arith, is))
 brace-clear (node place trivia tree) is free =
-    brace-clear tree is (harmless-parts (mark pathItem (atPathItem trivia tree)) _ (harmless-parts (mark importPath
+    brace-clear tree is (harmless-parts (mark place pathItem (atPathItem trivia tree)) _ (harmless-parts (mark place importPath
     (atImportPath trivia tree)) _ free .1) .1)
 brace-clear nil is free = absurd (omega (arith, is))
 brace-clear (cons item items) is free = absurd (omega (arith, is))
@@ -326,7 +327,8 @@ brace-clear (VariableDefinition ty id eq value) is free = absurd (omega (arith, 
 brace-clear (Vec items) is free = absurd (omega (arith, is))
 brace-clear (Leaf text) is free = absurd (omega (arith, is))
 brace-clear (PathItem text) is free = absurd (omega (arith, is))
-brace-clear (Block lparen inner rparen) is free = no-comments (ownTrivia lparen) (unmarked openingBrace _ refl (harmless-parts (mark openingBrace (hasComment (ownTrivia lparen))) _ free .0))
+brace-clear (Block lparen inner rparen) is free =
+    no-comments (ownTrivia lparen) (unmarked _ openingBrace (atOpeningBrace false lparen) refl (harmless-parts (mark (standsAt lparen) openingBrace (atOpeningBrace false lparen)) _ free .0))
 brace-clear (BinaryExpression op lhs rhs) is free = absurd (omega (arith, is))
 brace-clear (Factor factor tagNot tagNeg) is free = absurd (omega (arith, is))
 brace-clear (CurrentProgramCounter star) is free = absurd (omega (arith, is))
@@ -360,11 +362,11 @@ block-clear tree shaped free = rw (block-stem tree shaped) (brace-clear tree (bl
 
 -- an `Expression` in a list whose head is not place (g) has no comment there
 expression-clear : (tree : Tree) → tokenNumber tree ≡ 9 → harmless (placesIn true tree) ≡ true → comments (headTrivia tree) ≡ []
-unfolding placesIn tokenNumber headTrivia
+unfolding placesIn tokenNumber headOf ownTrivia
 expression-clear absent is free = absurd (omega (arith, is))
 expression-clear (refused refusal) is free = absurd (omega (arith, is))
 expression-clear (node place trivia tree) is free =
-    expression-clear tree is (harmless-parts (mark pathItem (atPathItem trivia tree)) _ (harmless-parts (mark importPath
+    expression-clear tree is (harmless-parts (mark place pathItem (atPathItem trivia tree)) _ (harmless-parts (mark place importPath
     (atImportPath trivia tree)) _ free .1) .1)
 expression-clear nil is free = absurd (omega (arith, is))
 expression-clear (cons item items) is free = absurd (omega (arith, is))
@@ -378,8 +380,8 @@ expression-clear (Definition tag id value) is free = absurd (omega (arith, is))
 expression-clear (Eof unit) is free = absurd (omega (arith, is))
 expression-clear (Error text) is free = absurd (omega (arith, is))
 expression-clear (Expression expression) is free =
-    no-comments (headTrivia expression) (unmarked expressionHead _ refl (harmless-parts (mark expressionHead (hasComment
-    (headTrivia expression))) _ free .0))
+    no-comments (headTrivia expression) (unmarked _ expressionHead (atExpressionHead true expression) refl
+    (harmless-parts (mark (standsAt (headOf expression)) expressionHead (atExpressionHead true expression)) _ free .0))
 expression-clear (If tagIf value then tagElse otherwise) is free = absurd (omega (arith, is))
 expression-clear (Import tag args source filename block) is free = absurd (omega (arith, is))
 expression-clear (File tag filename) is free = absurd (omega (arith, is))
@@ -435,18 +437,18 @@ value-clear tree free =
 -- ---- own trivia
 
 -- trivia of a record that has no `Located`
-own-of : (class : Class) (trivia : List Trivium) (tree : Tree) → rule class .located ≡ false → TriviaAllowed class trivia tree
-    → harmless (mark pathItem (atPathItem trivia tree)) ≡ true → comments trivia ≡ []
+own-of : (class : Class) (place : ℕ) (trivia : List Trivium) (tree : Tree) → rule class .located ≡ false → TriviaAllowed class trivia tree
+    → harmless (mark place pathItem (atPathItem trivia tree)) ≡ true → comments trivia ≡ []
 unfolding comments
-own-of class [] tree bare allowed free = refl
-own-of class (item ∷ items) tree bare allowed free =
-    no-comments (item ∷ items) (rw (rw bare at allowed) at (unmarked pathItem (atPathItem (item ∷ items) tree) refl free))
+own-of class place [] tree bare allowed free = refl
+own-of class place (item ∷ items) tree bare allowed free =
+    no-comments (item ∷ items) (rw (rw bare at allowed) at (unmarked place pathItem (atPathItem (item ∷ items) tree) refl free))
 
 -- trivia of a path of an import
-import-of : (trivia : List Trivium) (tree : Tree) → Shaped ImportPath tree → harmless (mark importPath (atImportPath trivia tree)) ≡ true → comments trivia ≡ []
-import-of trivia tree shaped free =
+import-of : (place : ℕ) (trivia : List Trivium) (tree : Tree) → Shaped ImportPath tree → harmless (mark place importPath (atImportPath trivia tree)) ≡ true → comments trivia ≡ []
+import-of place trivia tree shaped free =
     let within = range ImportPath tree shaped refl in
-    no-comments trivia (rw (eq-eqb (tokenNumber tree) 41 (le-antisymm (within .1) (within .0))) at (unmarked importPath (atImportPath trivia tree) refl free))
+    no-comments trivia (rw (eq-eqb (tokenNumber tree) 41 (le-antisymm (within .1) (within .0))) at (unmarked place importPath (atImportPath trivia tree) refl free))
 
 -- a tree that has no `Located` has no comments of its own, unless it is place (e)
 pub own-clear : (class : Class) (listed : Bool) (tree : Tree) → rule class .located ≡ false → Shaped class tree → harmless (placesIn listed tree) ≡ true
@@ -455,7 +457,7 @@ unfolding placesIn ownTrivia Shaped comments
 own-clear class listed absent bare shaped free = refl
 own-clear class listed (refused refusal) bare shaped free = refl
 own-clear class listed (node place trivia tree) bare shaped free =
-    own-of class trivia tree bare (shaped .0) (harmless-parts (mark pathItem (atPathItem trivia tree)) _ (harmless-parts (mark importPath
+    own-of class place trivia tree bare (shaped .0) (harmless-parts (mark place pathItem (atPathItem trivia tree)) _ (harmless-parts (mark place importPath
     (atImportPath trivia tree)) _ free .1) .0)
 own-clear class listed nil bare shaped free = refl
 own-clear class listed (cons item items) bare shaped free = refl
@@ -508,7 +510,7 @@ pub import-clear : (listed : Bool) (tree : Tree) → Shaped ImportPath tree → 
 unfolding placesIn ownTrivia Shaped comments
 import-clear listed absent shaped free = refl
 import-clear listed (refused refusal) shaped free = refl
-import-clear listed (node place trivia tree) shaped free = import-of trivia tree (shaped .1) (harmless-parts (mark importPath (atImportPath trivia tree)) _ free .0)
+import-clear listed (node place trivia tree) shaped free = import-of place trivia tree (shaped .1) (harmless-parts (mark place importPath (atImportPath trivia tree)) _ free .0)
 import-clear listed nil shaped free = refl
 import-clear listed (cons item items) shaped free = refl
 import-clear listed (Align tag value) shaped free = refl

@@ -3,6 +3,7 @@ use mathlib.Core.Path.{_≡_, refl, _∙_}
 use mathlib.Core.Logic.{inl}
 use mathlib.Core.List.{List, [], _∷_, append-nil}
 use mathlib.Core.Bool.{Bool, true, false, _||_}
+use Prim.Native.Nat.{ℕ}
 use Rattle.text.specs.Ink.{inks}
 use Rattle.text.proofs.Choices.{by-test, true-false}
 use Rattle.tree.specs.Tree.{Tree, absent, refused, node, nil, cons, Align, Assert, Braces, Config, ConfigPair, Data, Definition, Eof, Error}
@@ -19,10 +20,10 @@ use Rattle.tree.specs.declared.grammar.Class.the-variants.{StringItems}
 use Rattle.printing.specs.Holding.{inkOf}
 use Rattle.printing.specs.declared.Context.{Context}
 use Rattle.events.specs.Printed.{plain, mnemonic, register, operator, dataSize, encoding, variableType, numberType, modifier}
-use Rattle.events.specs.Views.{ownTrivia, headTrivia, tokenNumber, indexOf}
+use Rattle.events.specs.Views.{ownTrivia, headOf, standsAt, tokenNumber, indexOf}
 use Rattle.events.specs.Trees.{oneOf, first, fileEnd, blockEnd, Place, leaf, arguments, imports, inString, tokens, deeper, eventsIn, eventsOf}
 use Rattle.reading.specs.Order.{comments, orderIn, order}
-use Rattle.reading.specs.Places.{Spot, atOpeningBrace, atLabelColon, atValueHead, atImportPath, atPathItem, atRegisterLetter, atExpressionHead}
+use Rattle.reading.specs.Places.{Spot, Use, atOpeningBrace, atLabelColon, atValueHead, atImportPath, atPathItem, atRegisterLetter, atExpressionHead}
 use Rattle.reading.specs.Places.{atClosingCharacter, openingBrace, labelColon, valueHead, importPath, pathItem, registerLetter, expressionHead}
 use Rattle.reading.specs.Places.{closingCharacter, mark, placesIn, among, uses, losesInk, usesPlace}
 use Rattle.reading.proofs.Shape.{Shaped}
@@ -44,11 +45,11 @@ use Rattle.reading.proofs.Records.{ink-SpecificImportArg}
 -- the claim holds of every tree
 ink-in : (c : Context) (place : Place) (class : Class) (listed : Bool) (tree : Tree) → Suits place class → Shaped class tree
     → harmless (placesIn listed tree) ≡ true → Led class tree → Inked c place tree
-unfolding eventsIn orderIn inkOf inks comments placesIn Shaped stem oneOf tokenNumber headTrivia
+unfolding eventsIn orderIn inkOf inks comments placesIn Shaped stem oneOf tokenNumber headOf ownTrivia
 ink-in c place class listed absent suits shaped free led = absurd shaped
 ink-in c place class listed (refused refusal) suits shaped free led = absurd shaped
 ink-in c place class listed (node offset trivia tree) suits shaped free led =
-    let parts = harmless-three (mark importPath (atImportPath trivia tree)) (mark pathItem (atPathItem trivia tree)) (placesIn listed tree) free in
+    let parts = harmless-three (mark offset importPath (atImportPath trivia tree)) (mark offset pathItem (atPathItem trivia tree)) (placesIn listed tree) free in
     ink-node c place trivia tree (node-either class trivia tree (shaped .0) led) (ink-in c place class listed tree suits (shaped .1) (parts .2) led)
 ink-in c place class listed nil suits shaped free led = ink-end c place class suits
 ink-in c place class listed (cons item items) suits shaped free led =
@@ -73,29 +74,30 @@ ink-in c place class listed (Braces block) suits shaped free led =
 ink-in c place class listed (Config block) suits shaped free led =
     ink-Config c place (no-end place class 3 suits (shaped .0) refl) block (shaped .1) (ink-in c (leaf plain) BlockRecord listed block (alone plain BlockRecord refl) (shaped .1) free (inl refl))
 ink-in c place class listed (ConfigPair key eq value) suits shaped free led =
-    let parts = harmless-four (mark valueHead (atValueHead value)) (placesIn false key) (placesIn false eq) (placesIn false value) free in
+    let parts = harmless-four (placesIn false key) (placesIn false eq) (mark (standsAt (headOf value)) valueHead (atValueHead value)) (placesIn false value) free in
     ink-ConfigPair c place (no-end place class 4 suits (shaped .0) refl) key eq value
-    (field c (leaf plain) refl Word key refl (shaped .1) (ink-in c (leaf plain) Word false key (alone plain Word refl) (shaped .1) (parts .1)))
-    (field c (leaf plain) refl Char eq refl (shaped .2) (ink-in c (leaf plain) Char false eq (alone plain Char refl) (shaped .2) (parts .2)))
-    (value-field c LocatedToken value (unmarked valueHead (atValueHead value) refl (parts .0)) (ink-in c (leaf plain) LocatedToken false value (alone plain LocatedToken refl) (shaped .3) (parts .3)))
+    (field c (leaf plain) refl Word key refl (shaped .1) (ink-in c (leaf plain) Word false key (alone plain Word refl) (shaped .1) (parts .0)))
+    (field c (leaf plain) refl Char eq refl (shaped .2) (ink-in c (leaf plain) Char false eq (alone plain Char refl) (shaped .2) (parts .1)))
+    (value-field c LocatedToken value (unmarked _ valueHead (atValueHead value) refl (parts .2))
+    (ink-in c (leaf plain) LocatedToken false value (alone plain LocatedToken refl) (shaped .3) (parts .3)))
 ink-in c place class listed (Data values size) suits shaped free led =
     let parts = harmless-parts (placesIn false values) (placesIn false size) free in
     ink-Data c place (no-end place class 5 suits (shaped .0) refl) values size
     (field c (leaf dataSize) refl DataSize size refl (shaped .2) (ink-in c (leaf dataSize) DataSize false size (alone dataSize DataSize refl) (shaped .2) (parts .1)))
     (field c arguments refl ExpressionArguments values refl (shaped .1) (ink-in c arguments ExpressionArguments false values expressionList (shaped .1) (parts .0)))
 ink-in c place class listed (Definition tag id value) suits shaped free led =
-    let parts = harmless-four (mark valueHead (atValueHead value)) (placesIn false tag) (placesIn false id) (placesIn false value) free in
+    let parts = harmless-four (placesIn false tag) (placesIn false id) (mark (standsAt (headOf value)) valueHead (atValueHead value)) (placesIn false value) free in
     ink-Definition c place (no-end place class 6 suits (shaped .0) refl) tag id value
-    (field c (leaf plain) refl Word tag refl (shaped .1) (ink-in c (leaf plain) Word false tag (alone plain Word refl) (shaped .1) (parts .1)))
-    (field c (leaf plain) refl Word id refl (shaped .2) (ink-in c (leaf plain) Word false id (alone plain Word refl) (shaped .2) (parts .2)))
+    (field c (leaf plain) refl Word tag refl (shaped .1) (ink-in c (leaf plain) Word false tag (alone plain Word refl) (shaped .1) (parts .0)))
+    (field c (leaf plain) refl Word id refl (shaped .2) (ink-in c (leaf plain) Word false id (alone plain Word refl) (shaped .2) (parts .1)))
     (given c (leaf plain) refl BareToken value (shaped .3) (λ stand.
-    value-field c BareToken value (unmarked valueHead (atValueHead value) refl (parts .0)) (ink-in c (leaf plain) BareToken false value (alone plain BareToken refl) stand (parts .3))))
+    value-field c BareToken value (unmarked _ valueHead (atValueHead value) refl (parts .2)) (ink-in c (leaf plain) BareToken false value (alone plain BareToken refl) stand (parts .3))))
 ink-in c place class listed (Eof unit) suits shaped free led = ink-Eof c place (no-end place class 7 suits (shaped .0) refl) unit
 ink-in c place class listed (Error text) suits shaped free led =
     ink-Error c place (no-end place class 8 suits (shaped .0) refl) text
     (field c (leaf plain) refl Word text refl (shaped .1) (ink-in c (leaf plain) Word false text (alone plain Word refl) (shaped .1) free))
 ink-in c place class listed (Expression expression) suits shaped free led =
-    let parts = harmless-parts (mark expressionHead (atExpressionHead listed expression)) (placesIn false expression) free in
+    let parts = harmless-parts (mark (standsAt (headOf expression)) expressionHead (atExpressionHead listed expression)) (placesIn false expression) free in
     ink-Expression c place (no-end place class 9 suits (shaped .0) refl) expression
     (field c (leaf plain) refl BareExpression expression refl (shaped .1) (ink-in c (leaf plain) BareExpression false expression (alone plain BareExpression refl) (shaped .1) (parts .1)))
 ink-in c place class listed (If tagIf value then tagElse otherwise) suits shaped free led =
@@ -129,8 +131,8 @@ ink-in c place class listed (Instruction mnemonic′ operand) suits shaped free 
     (given c (leaf plain) refl OperandRecord operand (shaped .2) (λ stand.
     field c (leaf plain) refl OperandRecord operand refl stand (ink-in c (leaf plain) OperandRecord false operand (alone plain OperandRecord refl) stand (parts .1))))
 ink-in c place class listed (Label id colon block) suits shaped free led =
-    let parts = harmless-four (mark labelColon (atLabelColon colon)) (placesIn false id) (placesIn false colon) (placesIn false block) free in
-    ink-Label c place (no-end place class 14 suits (shaped .0) refl) id colon block (shaped .1) (no-comments (ownTrivia colon) (unmarked labelColon (atLabelColon colon) refl (parts .0)))
+    let parts = harmless-four (placesIn false id) (mark (standsAt colon) labelColon (atLabelColon colon)) (placesIn false colon) (placesIn false block) free in
+    ink-Label c place (no-end place class 14 suits (shaped .0) refl) id colon block (shaped .1) (no-comments (ownTrivia colon) (unmarked _ labelColon (atLabelColon colon) refl (parts .1)))
     (given c (leaf plain) refl BlockRecord block (shaped .3) (λ stand.
     block-field c block stand (parts .3) (ink-in c (leaf plain) BlockRecord false block (alone plain BlockRecord refl) stand (parts .3))))
 ink-in c place class listed (Loop tag expr block) suits shaped free led =
@@ -202,12 +204,12 @@ ink-in c place class listed (Vec items) suits shaped free led =
 ink-in c place class listed (Leaf text) suits shaped free led = ink-leaf c place class text suits shaped
 ink-in c place class listed (PathItem text) suits shaped free led = ink-PathItem c place (no-end place class 26 suits shaped refl) text
 ink-in c place class listed (Block lparen inner rparen) suits shaped free led =
-    let parts = harmless-four (mark openingBrace (atOpeningBrace listed lparen)) (placesIn false lparen) (placesIn false inner) (placesIn false rparen) free in
+    let parts = harmless-four (mark (standsAt lparen) openingBrace (atOpeningBrace listed lparen)) (placesIn listed lparen) (placesIn listed inner) (placesIn listed rparen) free in
     ink-Block c place (no-end place class 27 suits (shaped .0) refl) lparen inner rparen (field c (leaf plain) refl OpenBrace lparen refl (shaped .1)
-    (ink-in c (leaf plain) OpenBrace false lparen (alone plain OpenBrace refl) (shaped .1) (parts .1)))
+    (ink-in c (leaf plain) OpenBrace listed lparen (alone plain OpenBrace refl) (shaped .1) (parts .1)))
     (ink-inner c inner rparen (shaped .2)
-    (ink-in (deeper c) (tokens true first (blockEnd rparen)) Tokens false inner (tokenList true first (blockEnd rparen)) (shaped .2) (parts .2)))
-    (field c (leaf plain) refl CloseBrace rparen refl (shaped .3) (ink-in c (leaf plain) CloseBrace false rparen (alone plain CloseBrace refl) (shaped .3) (parts .3)))
+    (ink-in (deeper c) (tokens true first (blockEnd rparen)) Tokens listed inner (tokenList true first (blockEnd rparen)) (shaped .2) (parts .2)))
+    (field c (leaf plain) refl CloseBrace rparen refl (shaped .3) (ink-in c (leaf plain) CloseBrace listed rparen (alone plain CloseBrace refl) (shaped .3) (parts .3)))
 ink-in c place class listed (BinaryExpression op lhs rhs) suits shaped free led =
     let parts = harmless-three (placesIn false op) (placesIn false lhs) (placesIn false rhs) free in
     ink-BinaryExpression c place (no-end place class 28 suits (shaped .0) refl) op lhs rhs
@@ -258,9 +260,9 @@ ink-in c place class listed (InterpolatedString lquote items) suits shaped free 
     (field c (leaf plain) refl Char lquote refl (shaped .1) (ink-in c (leaf plain) Char false lquote (alone plain Char refl) (shaped .1) (parts .0)))
     (field c inString refl StringItems items refl (shaped .2) (ink-in c inString StringItems false items stringList (shaped .2) (parts .1)))
 ink-in c place class listed (Operand expr lchar rchar mode suffix) suits shaped free led =
-    let parts = harmless-six (mark closingCharacter (atClosingCharacter (indexOf mode) rchar)) (placesIn false expr) (placesIn false lchar)
+    let parts = harmless-six (mark (standsAt rchar) closingCharacter (atClosingCharacter (indexOf mode) rchar)) (placesIn false expr) (placesIn false lchar)
     (placesIn false rchar) (placesIn false mode) (placesIn false suffix) free in
-    ink-Operand c place (no-end place class 37 suits (shaped .0) refl) expr lchar rchar mode suffix (unmarked closingCharacter (atClosingCharacter (indexOf mode) rchar) refl (parts .0))
+    ink-Operand c place (no-end place class 37 suits (shaped .0) refl) expr lchar rchar mode suffix (unmarked _ closingCharacter (atClosingCharacter (indexOf mode) rchar) refl (parts .0))
     (field c (leaf plain) refl LocatedExpression expr refl (shaped .1) (ink-in c (leaf plain) LocatedExpression false expr (alone plain LocatedExpression refl) (shaped .1) (parts .1)))
     (given c (leaf plain) refl Char lchar (shaped .2) (λ stand.
     field c (leaf plain) refl Char lchar refl stand (ink-in c (leaf plain) Char false lchar (alone plain Char refl) stand (parts .2))))
@@ -269,9 +271,9 @@ ink-in c place class listed (Operand expr lchar rchar mode suffix) suits shaped 
     (given c (leaf plain) refl SuffixRecord suffix (shaped .5) (λ stand.
     field c (leaf plain) refl SuffixRecord suffix refl stand (ink-in c (leaf plain) SuffixRecord false suffix (alone plain SuffixRecord refl) stand (parts .5))))
 ink-in c place class listed (RegisterSuffix comma register′) suits shaped free led =
-    let parts = harmless-three (mark registerLetter (atRegisterLetter register′)) (placesIn false comma) (placesIn false register′) free in
+    let parts = harmless-three (placesIn false comma) (mark (standsAt register′) registerLetter (atRegisterLetter register′)) (placesIn false register′) free in
     ink-RegisterSuffix c place (no-end place class 38 suits (shaped .0) refl) comma register′
-    (field c (leaf plain) refl Char comma refl (shaped .1) (ink-in c (leaf plain) Char false comma (alone plain Char refl) (shaped .1) (parts .1)))
+    (field c (leaf plain) refl Char comma refl (shaped .1) (ink-in c (leaf plain) Char false comma (alone plain Char refl) (shaped .1) (parts .0)))
     (field c (leaf register) refl IndexRegister register′ refl (shaped .2) (ink-in c (leaf register) IndexRegister false register′ (alone register IndexRegister refl) (shaped .2) (parts .2)))
 ink-in c place class listed (ImportAs tag path) suits shaped free led =
     let parts = harmless-parts (placesIn false tag) (placesIn false path) free in
@@ -298,20 +300,30 @@ ink-in c place class listed (ArgItem value comma) suits shaped free led =
 
 -- ---- files
 
--- where none of the seven places is among them, places are harmless
-none-harmless : (spots : List Spot) → among openingBrace spots ≡ false → among labelColon spots ≡ false → among valueHead spots ≡ false
-    → among importPath spots ≡ false → among pathItem spots ≡ false → among expressionHead spots ≡ false → among closingCharacter spots ≡ false
-    → harmless spots ≡ true
+-- none of the seven places is among them
+abbrev NoneOfSeven : List Use → Type 0
+NoneOfSeven used =
+    (among openingBrace used ≡ false) × (among labelColon used ≡ false) × (among valueHead used ≡ false) × (among importPath used ≡ false)
+    × (among pathItem used ≡ false) × (among expressionHead used ≡ false) × (among closingCharacter used ≡ false)
+
+-- then the first is (f)
+first-harmless : (place : ℕ) (spot : Spot) (others : List Use) → NoneOfSeven (record { place = place; spot = spot } ∷ others)
+    → (NoneOfSeven others → harmless others ≡ true) → harmless (record { place = place; spot = spot } ∷ others) ≡ true
 unfolding among harmless
-none-harmless [] brace colon value import item head closing = refl
-none-harmless (openingBrace ∷ spots) brace colon value import item head closing = true-false brace
-none-harmless (labelColon ∷ spots) brace colon value import item head closing = true-false colon
-none-harmless (valueHead ∷ spots) brace colon value import item head closing = true-false value
-none-harmless (importPath ∷ spots) brace colon value import item head closing = true-false import
-none-harmless (pathItem ∷ spots) brace colon value import item head closing = true-false item
-none-harmless (registerLetter ∷ spots) brace colon value import item head closing = none-harmless spots brace colon value import item head closing
-none-harmless (expressionHead ∷ spots) brace colon value import item head closing = true-false head
-none-harmless (closingCharacter ∷ spots) brace colon value import item head closing = true-false closing
+first-harmless place openingBrace others none rest = true-false (none .0)
+first-harmless place labelColon others none rest = true-false (none .1)
+first-harmless place valueHead others none rest = true-false (none .2)
+first-harmless place importPath others none rest = true-false (none .3)
+first-harmless place pathItem others none rest = true-false (none .4)
+first-harmless place registerLetter others none rest = rest none
+first-harmless place expressionHead others none rest = true-false (none .5)
+first-harmless place closingCharacter others none rest = true-false (none .6)
+
+-- and all are harmless
+none-harmless : (used : List Use) → NoneOfSeven used → harmless used ≡ true
+unfolding harmless
+none-harmless [] none = refl
+none-harmless (other ∷ others) none = first-harmless (other .place) (other .spot) others none (λ rest. none-harmless others rest)
 
 -- of a choice that is false both parts are
 neither : (first second : Bool) → (first || second) ≡ false → (first ≡ false) × (second ≡ false)
@@ -328,7 +340,7 @@ keeps-harmless tree none =
     let import = neither (uses importPath tree) (uses pathItem tree || (uses expressionHead tree || (uses closingCharacter tree))) (value .1) in
     let item = neither (uses pathItem tree) (uses expressionHead tree || (uses closingCharacter tree)) (import .1) in
     let head = neither (uses expressionHead tree) (uses closingCharacter tree) (item .1) in
-    none-harmless (placesIn false tree) (brace .0) (colon .0) (value .0) (import .0) (item .0) (head .0) (head .1)
+    none-harmless (placesIn false tree) (brace .0, colon .0, value .0, import .0, item .0, head .0, head .1)
 
 -- demand 3's ink law for the walk: where a file's tree loses no ink, what its events push has the ink of its reading order
 pub ink-kept : (context : Context) (tree : Tree) → Shaped Tokens tree → losesInk tree ≡ false

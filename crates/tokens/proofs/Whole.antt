@@ -23,8 +23,9 @@ use Rattle.printing.specs.declared.CodeFormatter.{CodeFormatter}
 use Rattle.printing.specs.declared.Printed.{Printed}
 use Rattle.printing.specs.declared.Printed.the-variants.{Done, Refused}
 use Rattle.printing.proofs.Holding.{holds-nothing, same}
+use Rattle.events.specs.Accepted.{Acceptable}
 use Rattle.events.proofs.Storable.{file-storable}
-use Rattle.events.proofs.Accepted.{Acceptable, length-passed, file-accepted}
+use Rattle.events.proofs.Accepted.{length-passed, file-accepted}
 use Rattle.tokens.specs.Chunks.{fileEvents, heldWith, chunksAnswer, RoomHolds, roomOf, roomWith}
 
 -- what is promised under given options

@@ -18,7 +18,7 @@ use Rattle.printing.specs.Events.{Events}
 use Rattle.printing.specs.Running.{Run, going, ended, atStart, run, settled}
 use Rattle.printing.specs.Holding.{Held, held, refused, hold}
 use Rattle.events.specs.Trees.{eventsOf}
-use Rattle.events.proofs.Accepted.{Acceptable}
+use Rattle.events.specs.Accepted.{Acceptable}
 
 -- the events of a file, from no indent on
 abbrev pub fileEvents : FormattingOptions → List ℕ → Events
