@@ -2,8 +2,10 @@ pub mod Pieces
 pub mod Places
 pub mod Lays
 pub mod Steps
+pub mod Clearing
 pub mod Measures
 pub mod Windows
+pub mod Storing
 pub mod Walking
 pub mod Cuts
 pub mod Running

@@ -7,7 +7,7 @@ use native.Mathlib.Omega.{arith}
 use lib.ListN.{length, length-append, length-replicate}
 use lib.Seq.{slice, slice-empty, length-slice}
 use lib.Dec.{eqb, leb, ltb}
-use borrow.Author.Tests.{leb-false, ltb-false, lt-leb}
+use borrow.Author.Tests.{leb-false, ltb-true, ltb-false, lt-ltb, le-leb, lt-leb}
 use Rattle.text.specs.Ink.{allBlank, spaces}
 use Rattle.text.proofs.Choices.{by-test, true-false}
 use Rattle.text.proofs.Ink.{blank-append, spaces-blank, newline-blank}
@@ -19,7 +19,7 @@ use Rattle.text.specs.Lines.{newlineAt}
 use Rattle.chunks.specs.Reading.{chunksAt}
 use Rattle.join.specs.Pieces.{following}
 use Rattle.join.specs.Layout.{ignored, laid, added, ends}
-use Rattle.join.specs.Walk.{Narrow, Standing, Passed, layAligned, layOf, pieceAt, Stepped, Whole, EndsLine}
+use Rattle.join.specs.Walk.{Narrow, Standing, Passed, layAligned, layOf, pieceAt, Stepped, Whole, LoneNewline}
 use Rattle.join.specs.declared.margins.Margins.{Margins}
 use Rattle.join.specs.declared.piece.Follows.{Follows}
 use Rattle.join.specs.declared.piece.Follows.the-variants.{Nothing, Newline, Other}
@@ -153,20 +153,35 @@ module _ (margins : Margins) (list : List ℕ) (spot : Spot) (n : ℕ) (lay : La
       stepped-kept margins list spot n (record { end = spot .end; newline = false }) lay behind narrow standing inside end (sym (whole .plain)) is passed kept
       (sym (rw (lt-leb (length list) (spot .end) (whole .more))))
 
--- ---- a lone newline that ends its line
+-- ---- a lone newline
 
 module _ (margins : Margins) (list : List ℕ) (spot : Spot) (n : ℕ) (behind : Spot)
-    (narrow : Narrow margins) (standing : Standing list spot) (inside : spot .at < length list) (ending : EndsLine margins list spot n) (passed : Passed list spot (spot .end) behind) where
+    (narrow : Narrow margins) (standing : Standing list spot) (inside : spot .at < length list) (lone : LoneNewline list spot) (passed : Passed list spot (spot .end) behind) where
   -- the chunk is the newline
   lone-text : slice (spot .at) (spot .end) list ≡ 10 ∷ []
-  lone-text = slice-one (spot .at) (spot .end) list (ending .one) (standing .inside) ∙ rw (ending .newline)
+  lone-text = slice-one (spot .at) (spot .end) list (lone .one) (standing .inside) ∙ rw (lone .newline)
 
-  -- so nothing of it is laid
-  pub stepped-end : Stepped margins list spot n (record { before = 0; from = spot .at; to = spot .at; behind = 0; ends = true; spot = behind })
+  -- so nothing of it is laid, whether it ends the line or is ignored
+  pub stepped-newline : {ended : Bool} → ended ≡ not (ltb 0 n && leb n (margins .label))
+      → Stepped margins list spot n (record { before = 0; from = spot .at; to = spot .at; behind = 0; ends = ended; spot = behind })
   unfolding newlineAt
-  stepped-end =
+  stepped-newline told =
       let piece : PieceEnd = record { end = spot .end; newline = true } in
-      let end : spot .end ≡ pieceEnd list spot = rw lone-text (omega (arith, ending .one)) in
-      let newline : true ≡ ltb (newlineAt (restAt list spot)) (spot .end - spot .at) = rw (lone-text, ending .one) in
-      let kept : layAt margins list spot n piece .ignored ≡ false = rw (ending .code, ending .one, ending .kept) in
-      stepped-none margins list spot n piece (layAt margins list spot n piece) behind narrow standing inside end newline refl passed kept refl lone-text
+      let lay = layAt margins list spot n piece in
+      let end : spot .end ≡ pieceEnd list spot = rw lone-text (omega (arith, lone .one)) in
+      let newline : true ≡ ltb (newlineAt (restAt list spot)) (spot .end - spot .at) = rw (lone-text, lone .one) in
+      by-test (ltb 0 n && leb n (margins .label))
+      (λ skips.
+      let skipped : lay .ignored ≡ true = rw (lone .code, lone .one, skips) in
+      stepped-ignored margins list spot n piece lay behind narrow standing inside end newline refl passed skipped
+      (told ∙ ap not skips ∙ sym (lt-leb (length list) (spot .end) (lone .more))))
+      (λ keeps.
+      let kept : lay .ignored ≡ false = rw (lone .code, lone .one, keeps) in
+      rw (told ∙ ap not keeps) (stepped-none margins list spot n piece lay behind narrow standing inside end newline refl passed kept refl lone-text))
+
+-- a line that has bytes keeps it where it is longer than the label margin
+pub keeps-is : (n label : ℕ) → 0 < n → ltb label n ≡ not (ltb 0 n && leb n label)
+keeps-is n label some =
+    by-test (ltb label n)
+    (λ far. rw (far, lt-leb n label (ltb-true label n far), and-false (ltb 0 n)))
+    (λ near. rw (near, lt-ltb 0 n some, le-leb n label (ltb-false label n near)))

@@ -8,9 +8,8 @@ use native.Mathlib.Nat.{le-refl, le-trans, add-le-add, min-le-left}
 use lib.ListN.{length, take, drop, set, length-replicate, replicate-append-replicate, length-take}
 use lib.Seq.{slice, sets, drop-nil, take-nil, drop-at, take-at, take-all, take-length, length-slice, slice-empty}
 use lib.Dec.{ltb, leb}
-use borrow.Author.Tests.{le-leb, ltb-true, ltb-false, leb-true, leb-false}
+use borrow.Author.Tests.{ltb-true, ltb-false, leb-true, leb-false}
 use Rattle.text.specs.Ink.{spaces}
-use Rattle.text.specs.Stores.{storedBuffer}
 use Rattle.text.proofs.Choices.{by-test}
 use Rattle.text.proofs.Parts.{part-slice}
 use Rattle.join.specs.Walk.{put, puts, Room, Empty}
@@ -102,23 +101,24 @@ module _ (text : List ℕ) (window : Window) (at : ℕ) (bytes : List ℕ) {from
       sym (puts-part ∙ rw nothing)
 
   -- bytes of which the window shows some are stored as that part of them
-  pub puts-shown : from < to → Room window (length text)
-      → storedBuffer text (window .base + (from - window .low)) (take (to - at - (from - at)) (drop (from - at) bytes)) ≡ puts text window at bytes
-  puts-shown some room =
+  pub puts-shown : sets text (window .base + (from - window .low)) (take (to - at - (from - at)) (drop (from - at) bytes)) ≡ puts text window at bytes
+  puts-shown = sym puts-part
+
+  -- which has room
+  pub part-room : from < to → Room window (length text) → window .base + (from - window .low) + length (take (to - at - (from - at)) (drop (from - at) bytes)) ≤ length text
+  part-room some room =
       let part = drop (from - at) bytes in
       let count : to - at - (from - at) ≡ to - from = part-count at from to (omega arith) in
       let whole = shown-room window at (at + length bytes) (length text) first last some room in
-      let within : window .base + (from - window .low) + length (take (to - at - (from - at)) part) ≤ length text =
-      rw (count, length-take (to - from) part) (le-trans (add-le-add (le-refl _) (min-le-left (to - from) (length part))) whole) in
-      rw (le-leb _ _ within) (sym puts-part)
+      rw (count, length-take (to - from) part) (le-trans (add-le-add (le-refl _) (min-le-left (to - from) (length part))) whole)
 
 -- spaces of which the window shows some are stored as so many spaces
 pub spaces-shown : (text : List ℕ) (window : Window) (at count : ℕ) {from to : ℕ} → from ≡ max at (window .low) → to ≡ min (at + count) (window .high)
-    → from < to → Room window (length text) → storedBuffer text (window .base + (from - window .low)) (spaces (to - from)) ≡ puts text window at (spaces count)
-spaces-shown text window at count {from} {to} first last some room =
+    → from < to → sets text (window .base + (from - window .low)) (spaces (to - from)) ≡ puts text window at (spaces count)
+spaces-shown text window at count {from} {to} first last some =
     let within : from - at + (to - from) ≤ count = omega arith in
     rw (← (spaces-part (from - at) (to - from) count within), ← (part-count at from to (omega arith)))
-    (puts-shown text window at (spaces count) first (rw (length-replicate {A = ℕ} count 32) last) some room)
+    (puts-shown text window at (spaces count) first (rw (length-replicate {A = ℕ} count 32) last))
 
 -- ---- a step
 

@@ -112,13 +112,12 @@ layOf margins Label n count newline follows = layLabel margins n count
 layOf margins Code n count newline follows = layCode margins n (eqb count 1 && newline)
 layOf margins Comment n count newline follows = layComment margins n follows
 
--- a lone newline of code that ends a line of n bytes
-pub record EndsLine (margins : Margins) (list : List ℕ) (spot : Spot) (n : ℕ) : Type 0 where
+-- a lone newline of code, with another chunk behind it
+pub record LoneNewline (list : List ℕ) (spot : Spot) : Type 0 where
   pub code : spot .ty ≡ Code
   pub one : spot .end - spot .at ≡ 1
   pub newline : getD list (spot .at) 0 ≡ 10
   pub more : spot .end < length list
-  pub kept : (ltb 0 n && leb n (margins .label)) ≡ false
 
 -- a step over the piece at a spot, on a line of n bytes. Where it ends the line it may leave blanks out, which are cut in any case.
 pub record Stepped (margins : Margins) (list : List ℕ) (spot : Spot) (n : ℕ) (step : Step) : Type 0 where
@@ -134,6 +133,10 @@ pub record Stepped (margins : Margins) (list : List ℕ) (spot : Spot) (n : ℕ)
   pub onward : spot .at < step .spot .at
   pub more : step .ends ≡ false → step .spot .at < length list
   pub small : step .before + (step .to - step .from) + step .behind + length rest ≤ 512 * (step .spot .at - spot .at)
+
+-- no byte between two places is a newline
+abbrev pub Clear : List ℕ → ℕ → ℕ → Type 0
+Clear list from to = (i : ℕ) → from ≤ i → i < to → getD list i 0 ≡ 10 → ⊥
 
 -- the rest of the chunk at a spot has no newline, and another chunk follows
 pub record Whole (list : List ℕ) (spot : Spot) : Type 0 where

@@ -1,8 +1,10 @@
 // The column setter: a stored chunk list becomes text in columns.
+pub mod clear;
 pub mod line;
 pub mod lines;
 pub mod margins;
 pub mod piece;
 pub mod setter;
+pub mod store;
 
 pub use setter::join_chunks;

@@ -3,8 +3,8 @@ use crate::margins::Margins;
 use crate::piece;
 use crate::piece::Spot;
 use crate::piece::Step;
+use crate::store;
 use text::scans;
-use text::stores;
 ghost use mathlib.Core.Path.{_≡_};
 ghost use mathlib.Core.List.{List, _++_};
 ghost use mathlib.Core.Bool.{true};
@@ -284,7 +284,7 @@ pub(crate) fn put_spaces(text: &mut [u8], window: Window, at: usize, count: usiz
     let from = larger(at, window.low);
     let to = smaller(at + count, window.high);
     if from < to {
-        stores::fill(text, window.base + (from - window.low), to - from, 32);
+        store::store_spaces(text, window.base + (from - window.low), to - from);
     }
 }
 
@@ -298,7 +298,7 @@ pub(crate) fn put_bytes(text: &mut [u8], window: Window, at: usize, bytes: &[u8]
     if from < to {
         let first = from - at;
         let last = to - at;
-        stores::copy(&bytes[first..last], text, window.base + (from - window.low));
+        store::store_bytes(text, window.base + (from - window.low), &bytes[first..last]);
     }
 }
 
@@ -348,6 +348,22 @@ pub(crate) fn write_line(text: &mut [u8], window: Window, list: &[u8], margins: 
     }
 }
 
+// `put_step`, with one question for the whole step where the window shows all of it, as it most often does.
+pub(crate) fn put_shown(text: &mut [u8], window: Window, at: usize, list: &[u8], step: Step)
+    requires { ⌜ Room window (length (now text)) × (step .from ≤ step .to) × (step .to ≤ length (now list)) ⌝ }
+    requires { ⌜ at + (step .before + (step .to - step .from) + step .behind) < 4294967296 ⌝ }
+    ensures { λ _. ⌜ now (text .exit) ≡ puts (now (text .entry)) window at (spaces (step .before) ++ (slice (step .from) (step .to) (now (list .entry)) ++ spaces (step .behind))) ⌝ }
+{
+    let end = at + step.before + (step.to - step.from) + step.behind;
+    if window.low <= at {
+        if end <= window.high {
+            store::store_step(text, window.base + (at - window.low), list, step);
+            return;
+        }
+    }
+    put_step(text, window, at, list, step);
+}
+
 // `measure_run`, and what the window shows of the chunks is written.
 pub(crate) fn write_run(
     text: &mut [u8],
@@ -366,7 +382,7 @@ pub(crate) fn write_run(
     let mut here = spot;
     while piece::is_whole(list, here) {
         let step = piece::step_whole(list, margins, here, reached.length);
-        put_step(text, window, reached.length, list, step);
+        put_shown(text, window, reached.length, list, step);
         reached = add_step(reached, list, step);
         here = step.spot;
     }

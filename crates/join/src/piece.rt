@@ -1,4 +1,5 @@
 // The pieces of a chunk list: each chunk is cut after every newline. How each is laid on a line of a known length.
+use crate::clear;
 use crate::margins::Margins;
 use chunks::stored::ChunkType;
 use chunks::stored::StoredChunk;
@@ -6,7 +7,7 @@ use options::Alignment;
 use text::numbers;
 use text::scans;
 ghost use mathlib.Core.Path.{_≡_};
-ghost use mathlib.Core.Bool.{true, false, _&&_};
+ghost use mathlib.Core.Bool.{true, false, not, _&&_};
 ghost use Prim.Native.Nat.{_+_, _-_, _≤_, _<_};
 ghost use lib.ListN.{length};
 ghost use lib.Seq.{slice};
@@ -16,7 +17,7 @@ ghost use Rattle.text.specs.Lines.{newlineAt};
 ghost use Rattle.chunks.specs.Reading.{typeOf, chunkAt, chunksAt, ChunkFits};
 ghost use Rattle.chunks.specs.declared.stored.ChunkAt.the-variants.{Found};
 ghost use Rattle.join.specs.Pieces.{following};
-ghost use Rattle.join.specs.Walk.{Narrow, Laid, Standing, Reached, Passed, layLabel, layCode, layComment, layOf, pieceLength, Stepped, Whole, EndsLine};
+ghost use Rattle.join.specs.Walk.{Narrow, Laid, Standing, Reached, Passed, layLabel, layCode, layComment, layOf, pieceLength, Stepped, Whole, LoneNewline};
 
 // What follows a chunk: none, a chunk that is exactly a newline, or another chunk.
 pub enum Follows {
@@ -298,7 +299,7 @@ pub struct Step {
 
 // Whether a lone newline is not ignored on a line of `column` bytes.
 pub(crate) fn keeps_newline(margins: Margins, column: usize) -> bool
-    ensures { λ r. ⌜ (r ≡ true → (ltb 0 column && leb column (margins .label)) ≡ false) ⌝ }
+    ensures { λ r. ⌜ r ≡ not (ltb 0 column && leb column (margins .label)) ⌝ }
 {
     if column == 0 {
         return true;
@@ -306,10 +307,10 @@ pub(crate) fn keeps_newline(margins: Margins, column: usize) -> bool
     margins.label < column
 }
 
-// Whether the chunk at a spot is a newline of code that ends a line of `column` bytes.
-pub(crate) fn ends_line(list: &[u8], margins: Margins, spot: Spot, column: usize) -> bool
+// Whether the chunk at a spot is a lone newline of code with another chunk behind it.
+pub(crate) fn is_newline(list: &[u8], spot: Spot) -> bool
     requires { ⌜ Standing (now list) spot × (spot .at < length (now list)) ⌝ }
-    ensures { λ r. ⌜ (r ≡ true → EndsLine margins (now (list .entry)) spot column) ⌝ }
+    ensures { λ r. ⌜ (r ≡ true → LoneNewline (now (list .entry)) spot) ⌝ }
 {
     let at = spot.at;
     let end = spot.end;
@@ -324,26 +325,26 @@ pub(crate) fn ends_line(list: &[u8], margins: Margins, spot: Spot, column: usize
     }
     let ty = spot.ty;
     match ty {
-        ChunkType::Code => keeps_newline(margins, column),
+        ChunkType::Code => true,
         ChunkType::Label => false,
         ChunkType::Comment => false,
     }
 }
 
-// One piece: `column` is the length of the line so far. Most lines end in a newline of their own, which adds only blanks that are cut: nothing is laid for it.
+// One piece: `column` is the length of the line so far. Most lines end in a newline of their own, which adds only blanks that are cut; where it is ignored it adds nothing: so nothing is laid for it.
 pub(crate) fn step_over(list: &[u8], margins: Margins, spot: Spot, column: usize) -> Step
     requires { ⌜ Narrow margins × Standing (now list) spot × (spot .at < length (now list)) × (length (now list) ≤ 1048576) ⌝ }
     ensures { λ r. ⌜ Stepped margins (now (list .entry)) spot column r ⌝ }
 {
     let at = spot.at;
     let end = spot.end;
-    if ends_line(list, margins, spot, column) {
+    if is_newline(list, spot) {
         return Step {
             before: 0,
             from: at,
             to: at,
             behind: 0,
-            ends: true,
+            ends: keeps_newline(margins, column),
             spot: spot_after(list, spot, end),
         };
     }
@@ -381,8 +382,7 @@ pub(crate) fn is_whole(list: &[u8], spot: Spot) -> bool
     if list.len() <= end {
         return false;
     }
-    let piece = piece_end(list, at, end);
-    !piece.newline
+    clear::is_clear(list, at, end)
 }
 
 // The step over such a rest.

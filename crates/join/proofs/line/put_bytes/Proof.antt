@@ -1,11 +1,7 @@
 -- The bytes that the window shows are stored as one run, and where it shows none nothing is.
-use Prim.Native.Nat.{_+_}
 use mathlib.Core.Path.{_∙_}
-use native.Mathlib.Nat.{le-trans, le-add-right}
-use lib.ListN.{length}
-use mir.Facts.{fits-le}
+use Rattle.join.proofs.Windows.{puts-hidden, puts-shown, part-room}
 use borrow.Author.Needs.{needs}
-use Rattle.join.proofs.Windows.{shown-room, puts-hidden, puts-shown}
 use Rattle.join.proofs.line.put_bytes.Statement.{statement}
 use Rattle.join.proofs.line.put_bytes.Tie as tie
 
@@ -24,28 +20,27 @@ sub-first c = search needs
 sub-last : tie.Need-sub-last
 sub-last c = search needs
 
-sub-copy : tie.Need-sub-copy
-sub-copy c = search needs
+sub-store-bytes : tie.Need-sub-store-bytes
+sub-store-bytes c = search needs
 
-part-copy-start : tie.Need-part-copy-start
-part-copy-start c = search needs
+add-store-bytes : tie.Need-add-store-bytes
+add-store-bytes c = search needs
 
-part-copy-end : tie.Need-part-copy-end
-part-copy-end c = search needs
+sub-store-bytes-2 : tie.Need-sub-store-bytes-2
+sub-store-bytes-2 c = search needs
 
-sub-copy-2 : tie.Need-sub-copy-2
-sub-copy-2 c = search needs
+part-store-bytes-start : tie.Need-part-store-bytes-start
+part-store-bytes-start c = search needs
 
-add-copy : tie.Need-add-copy
-add-copy c =
+part-store-bytes-end : tie.Need-part-store-bytes-end
+part-store-bytes-end c = search needs
+
+store-bytes-requires : tie.Need-store-bytes-requires
+store-bytes-requires c κs =
     let start = c .before .before .before .before .before .before .before .before .before in
     let test = c .before .before .before .before in
-    let room = shown-room (start .args .window) (start .args .at) (start .args .at + length (start .args .bytes .now)) (length
-    (start .args .text .now)) (test .before .before .larger .ensures) (test .before .smaller .ensures) (test .if1 .taken) (start .pre .0) in
-    fits-le (le-trans (le-add-right _ _) room) (search needs)
-
-copy-requires : tie.Need-copy-requires
-copy-requires c κs = search needs
+    part-room (start .args .text .now) (start .args .window) (start .args .at) (start .args .bytes .now) (test .before .before .larger .ensures) (test .before .smaller .ensures)
+    (test .if1 .taken) (start .pre .0)
 
 same-length : tie.Need-same-length
 same-length c = search needs
@@ -54,8 +49,8 @@ returns : tie.Need-returns
 returns c =
     let start = c .before .before .before .before .before .before .before .before .before .before .before .before in
     let test = c .before .before .before .before .before .before .before in
-    c .before .before .copy .ensures .1 ∙ puts-shown (start .args .text .now) (start .args .window) (start .args .at) (start .args .bytes .now)
-    (test .before .before .larger .ensures) (test .before .smaller .ensures) (test .if1 .taken) (start .pre .0)
+    c .before .before .store-bytes .ensures ∙ puts-shown (start .args .text .now) (start .args .window) (start .args .at) (start .args .bytes .now)
+    (test .before .before .larger .ensures) (test .before .smaller .ensures)
 
 returns-2 : tie.Need-returns-2
 returns-2 c =
@@ -71,12 +66,12 @@ put-bytes-spec =
     smaller-requires
     sub-first
     sub-last
-    sub-copy
-    part-copy-start
-    part-copy-end
-    sub-copy-2
-    add-copy
-    copy-requires
+    sub-store-bytes
+    add-store-bytes
+    sub-store-bytes-2
+    part-store-bytes-start
+    part-store-bytes-end
+    store-bytes-requires
     same-length
     returns
     returns-2)

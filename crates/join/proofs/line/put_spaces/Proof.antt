@@ -22,17 +22,17 @@ add-smaller c = search needs
 smaller-requires : tie.Need-smaller-requires
 smaller-requires c κs = search needs
 
-sub-fill : tie.Need-sub-fill
-sub-fill c = search needs
+sub-store-spaces : tie.Need-sub-store-spaces
+sub-store-spaces c = search needs
 
-add-fill : tie.Need-add-fill
-add-fill c = search needs
+add-store-spaces : tie.Need-add-store-spaces
+add-store-spaces c = search needs
 
-sub-fill-2 : tie.Need-sub-fill-2
-sub-fill-2 c = search needs
+sub-store-spaces-2 : tie.Need-sub-store-spaces-2
+sub-store-spaces-2 c = search needs
 
-fill-requires : tie.Need-fill-requires
-fill-requires c κs = search needs
+store-spaces-requires : tie.Need-store-spaces-requires
+store-spaces-requires c κs = search needs
 
 same-length : tie.Need-same-length
 same-length c = search needs
@@ -41,8 +41,8 @@ returns-2 : tie.Need-returns-2
 returns-2 c =
     let start = c .before .before .before .before .before .before .before .before .before .before .before in
     let test = c .before .before .before .before .before .before in
-    c .before .before .fill .ensures .1 ∙ spaces-shown (start .args .text .now) (start .args .window) (start .args .at) (start .args .count)
-    (test .before .before .larger .ensures) (test .before .smaller .ensures) (test .if2 .taken) (start .pre .0)
+    c .before .before .store-spaces .ensures ∙ spaces-shown (start .args .text .now) (start .args .window) (start .args .at) (start .args .count)
+    (test .before .before .larger .ensures) (test .before .smaller .ensures) (test .if2 .taken)
 
 returns-3 : tie.Need-returns-3
 returns-3 c =
@@ -59,10 +59,10 @@ put-spaces-spec =
     larger-requires
     add-smaller
     smaller-requires
-    sub-fill
-    add-fill
-    sub-fill-2
-    fill-requires
+    sub-store-spaces
+    add-store-spaces
+    sub-store-spaces-2
+    store-spaces-requires
     same-length
     returns-2
     returns-3)

@@ -27,8 +27,8 @@ step-whole-requires c κs =
     let ran = c .before .before .loop .inv .0 0 .ran in
     ((given .0, ran .standing, ran .some, given .3), c .before .is-whole .ensures (c .if1 .taken))
 
-put-step-requires : tie.Need-put-step-requires Inv-loop μ-loop
-put-step-requires c κs =
+put-shown-requires : tie.Need-put-shown-requires Inv-loop μ-loop
+put-shown-requires c κs =
     let given = c .before .before .before .before .before .before .before .pre in
     let turn = c .before .before .before .before .loop .inv in
     let stepped = c .before .step-whole .ensures .0 in
@@ -47,9 +47,9 @@ loop-again : tie.Need-loop-again Inv-loop μ-loop
 loop-again c =
     let turn = c .before .before .before .before .before .before .before .before .before .loop .inv in
     let counted = c .before .add-step .ensures in
-    let put = c .before .before .before .before .put-step in
+    let put = c .before .before .before .before .put-shown in
     let stepped = c .before .before .before .before .before .before .step-whole .ensures in
-    (λ n. shown-on n (turn .0 n) (stepped .0) (stepped .1) (put .ensures .1) (counted .0) (counted .1 .0) (counted .1 .1), put .kept .0 ∙ turn .1)
+    (λ n. shown-on n (turn .0 n) (stepped .0) (stepped .1) (put .ensures) (counted .0) (counted .1 .0) (counted .1 .1), put .kept .0 ∙ turn .1)
 
 same-length : tie.Need-same-length Inv-loop μ-loop
 same-length c = c .before .before .loop .inv .1
@@ -66,7 +66,7 @@ write-run-spec =
     loop-holds
     is-whole-requires
     step-whole-requires
-    put-step-requires
+    put-shown-requires
     add-step-requires
     loop-less
     loop-again

@@ -1,19 +1,24 @@
--- A rest that ends the list is not whole; any other is where the piece that starts it has no newline.
+-- A rest that ends the list is not whole; any other is where none of its bytes is a newline.
 use borrow.Author.Needs.{needs}
-use mathlib.Core.Path.{sym, _∙_}
-use borrow.Author.Tests.{not-true}
+use mathlib.Core.Path.{sym}
+use native.Mathlib.Omega.{arith}
 use Rattle.text.proofs.Choices.{true-false}
+use Rattle.join.proofs.Clearing.{clear-far}
 use Rattle.join.proofs.piece.is_whole.Statement.{statement}
 use Rattle.join.proofs.piece.is_whole.Tie as tie
 
 returns : tie.Need-returns
 returns c = λ e. true-false (sym e)
 
-piece-end-requires : tie.Need-piece-end-requires
-piece-end-requires c κs = search needs
+is-clear-requires : tie.Need-is-clear-requires
+is-clear-requires c κs =
+    let standing = c .before .before .pre in
+    (standing .some (omega (arith, standing .within)), standing .inside)
 
 returns-2 : tie.Need-returns-2
-returns-2 c = λ e. record { more = c .before .before .if1 .left; plain = sym (c .before .piece-end .ensures .1) ∙ not-true _ e }
+returns-2 c =
+    let start = c .before .before .before in
+    λ e. record { more = c .before .if1 .left; plain = clear-far (start .args .list .now) (start .args .spot .at) (start .args .spot .end) (start .pre .inside) (c .is-clear .ensures e) }
 
 pub is-whole-spec : {M : Type 1} → statement M
-is-whole-spec = tie.close (tie.spec returns piece-end-requires returns-2)
+is-whole-spec = tie.close (tie.spec returns is-clear-requires returns-2)

@@ -3,22 +3,26 @@ use borrow.Author.Needs.{needs}
 use mathlib.Core.Path.{refl}
 use native.Mathlib.Omega.{arith}
 use Rattle.join.proofs.Pieces.{piece-some, piece-within}
-use Rattle.join.proofs.Steps.{stepped-ignored, stepped-kept, stepped-end}
+use Rattle.join.proofs.Steps.{stepped-ignored, stepped-kept, stepped-newline}
 use Rattle.join.proofs.piece.step_over.Statement.{statement}
 use Rattle.join.proofs.piece.step_over.Tie as tie
 
-ends-line-requires : tie.Need-ends-line-requires
-ends-line-requires c κs = search needs
+is-newline-requires : tie.Need-is-newline-requires
+is-newline-requires c κs = search needs
+
+keeps-newline-requires : tie.Need-keeps-newline-requires
+keeps-newline-requires c κs = search needs
 
 spot-after-requires : tie.Need-spot-after-requires
 spot-after-requires c κs =
-    let given = c .before .before .before .pre in
+    let given = c .before .before .before .before .pre in
     (given .1, given .1 .some (given .2), omega arith)
 
 returns : tie.Need-returns
 returns c =
-    let start = c .before .before .before .before in
-    stepped-end _ _ _ _ _ (start .pre .0) (start .pre .1) (start .pre .2) (c .before .before .ends-line .ensures (c .before .if1 .taken)) (c .spot-after .ensures)
+    let start = c .before .before .before .before .before in
+    let lone = c .before .before .before .is-newline .ensures (c .before .before .if1 .taken) in
+    stepped-newline _ _ _ _ _ (start .pre .0) (start .pre .1) (start .pre .2) lone (c .spot-after .ensures) (c .before .keeps-newline .ensures)
 
 piece-end-requires : tie.Need-piece-end-requires
 piece-end-requires c κs = search needs
@@ -62,7 +66,8 @@ pub step-over-spec : {M : Type 1} → statement M
 step-over-spec =
     tie.close
     (tie.spec
-    ends-line-requires
+    is-newline-requires
+    keeps-newline-requires
     spot-after-requires
     returns
     piece-end-requires
