@@ -1,0 +1,14 @@
+pub mod Table
+pub mod Along
+pub mod Passed
+pub mod Arms
+pub mod Comments
+pub mod Steps
+pub mod Records
+pub mod Marks
+pub mod HeadFound
+pub mod Operands
+pub mod Shown
+pub mod Searching
+pub mod Answered
+pub mod Telling

@@ -1,0 +1,193 @@
+-- Not part of the promise: the places as the search meets them, record by record, each by the class of the field that it stands in.
+use Prim.Native.Nat.{ℕ, _-_, _/_}
+use mathlib.Core.Path.{_≡_}
+use mathlib.Core.List.{List, [], _∷_, _++_}
+use mathlib.Core.Bool.{Bool, true, false, cond, not, _&&_, _||_}
+use lib.Dec.{eqb, ltb}
+use lib.ListN.{getD}
+use Rattle.answers.specs.declared.Checked.{Checked}
+use Rattle.answers.specs.declared.Checked.the-variants.{Passed}
+use Rattle.answers.specs.Numbers.{andThen}
+use Rattle.tree.specs.Grammar.{rule, nodes}
+use Rattle.tree.specs.Own.{readOwn}
+use Rattle.tree.specs.Parts.{skipped}
+use Rattle.tree.specs.Reading.{Reader, partsDue, readParts, read}
+use Rattle.tree.specs.Tree.{Tree, absent, built}
+use Rattle.tree.specs.Walk.{classNumber}
+use Rattle.tree.specs.declared.grammar.Class.{Class}
+use Rattle.tree.specs.declared.grammar.Kind.the-variants as kind
+use Rattle.tree.specs.declared.own.Own.{Own}
+use Rattle.tree.specs.declared.own.OwnRead.{OwnRead}
+use Rattle.tree.specs.declared.own.OwnRead.the-variants.{Record, Refused}
+use Rattle.tree.specs.declared.parts.Skipped.{Skipped}
+use Rattle.tree.specs.declared.parts.Skipped.the-variants.{Next, NotSkipped}
+use Rattle.events.specs.Views.{ownTrivia, tokenNumber, indexOf}
+use Rattle.events.specs.Views.{standsAt, headOf}
+use Rattle.reading.specs.Places.{Spot, Use, hasComment, mark, placesIn}
+use Rattle.reading.specs.Places.{openingBrace, labelColon, valueHead, importPath, pathItem, registerLetter, expressionHead, closingCharacter, spotNumber}
+use Rattle.reading.specs.Places.{atOpeningBrace, atLabelColon, atRegisterLetter, atValueHead, atExpressionHead, atClosingCharacter}
+use Rattle.losses.specs.declared.firsts.First.{First}
+use Rattle.losses.specs.declared.firsts.First.the-variants.{Never}
+use Rattle.losses.specs.declared.firsts.Firsts.{Firsts}
+use Rattle.losses.specs.declared.search.Searched.{Searched}
+use Rattle.losses.specs.Lost.{firstWith, firstFrom}
+
+-- ---- which use a record shows, by its class and its kind
+
+-- the use that a field's class tells of what stands in it: classes 3, 5 and 8 are a block's `{`, a label's colon and a register; a token (20, 21) that stands in
+-- no list is a value
+abbrev pub classUses : Class → Bool → Tree → List Use
+classUses class listed tree =
+    cond (eqb (classNumber class) 3) (mark (standsAt tree) openingBrace (atOpeningBrace listed tree))
+    (cond (eqb (classNumber class) 5) (mark (standsAt tree) labelColon (atLabelColon tree))
+    (cond (eqb (classNumber class) 8) (mark (standsAt tree) registerLetter (atRegisterLetter tree))
+    (cond ((eqb (classNumber class) 20 || eqb (classNumber class) 21) && not listed) (mark (standsAt (headOf tree)) valueHead (atValueHead tree)) [])))
+
+-- all uses of a record of a class
+abbrev pub seenIn : Class → Bool → Tree → List Use
+seenIn class listed tree = classUses class listed tree ++ placesIn listed tree
+
+-- the uses that a record's kind tells: the head of an `Expression` (9) in a list, the closing character of an operand (37)
+abbrev pub kindUses : Bool → ℕ → List Tree → List Use
+kindUses listed number parts =
+    cond (eqb number 9) (mark (standsAt (headOf (getD parts 0 absent))) expressionHead (atExpressionHead listed (getD parts 0 absent)))
+    (cond (eqb number 37) (mark (standsAt (getD parts 2 absent)) closingCharacter (atClosingCharacter (indexOf (getD parts 3 absent)) (getD parts 2 absent))) [])
+
+-- what a comment on the record itself uses
+abbrev pub ownMarks : Class → ℕ → Bool → ℕ → Bool → List Use
+ownMarks class number listed at used =
+    cond (eqb (classNumber class) 3) (mark at openingBrace (not listed && used))
+    (cond (eqb (classNumber class) 5) (mark at labelColon used)
+    (cond (eqb (classNumber class) 8) (mark at registerLetter used)
+    (mark at importPath (eqb number 41 && used) ++ mark at pathItem (eqb number 26 && used))))
+
+-- and one on its head
+abbrev pub headMarks : Class → ℕ → Bool → ℕ → Bool → List Use
+headMarks class number listed at used =
+    cond (eqb (classNumber class) 20 || eqb (classNumber class) 21)
+    (cond (eqb number 9) (mark at expressionHead (listed && used)) (mark at valueHead (not listed && used))) []
+
+abbrev pub closingMarks : ℕ → List Tree → List Use
+closingMarks number parts =
+    cond (eqb number 37) (mark (standsAt (getD parts 2 absent)) closingCharacter (atClosingCharacter (indexOf (getD parts 3 absent)) (getD parts 2 absent))) []
+
+-- all but those of its parts
+abbrev pub ownUses : Class → Bool → Tree → ℕ → List Tree → List Use
+ownUses class listed tree at parts =
+    ownMarks class (tokenNumber tree) listed at (hasComment (ownTrivia tree))
+    ++ (headMarks class (tokenNumber tree) listed (standsAt (headOf tree)) (hasComment (ownTrivia (headOf tree))) ++ closingMarks (tokenNumber tree) parts)
+
+-- whether the parts of a record of a kind stand in a list
+abbrev pub listedBelow : ℕ → Bool → Bool
+listedBelow number listed = cond (eqb number 24) true (cond (eqb number 2 || (eqb number 3 || eqb number 27)) listed false)
+
+-- ---- the same by numbers: 8 is no place
+
+abbrev pub kindSpot : ℕ → ℕ
+kindSpot number = cond (eqb number 41) 3 (cond (eqb number 26) 4 8)
+
+abbrev pub ownSpot : Class → ℕ → Bool → ℕ
+ownSpot class number listed =
+    cond (eqb (classNumber class) 3) (cond listed 8 0) (cond (eqb (classNumber class) 5) 1 (cond (eqb (classNumber class) 8) 5 (kindSpot number)))
+
+abbrev pub tokenSpot : ℕ → Bool → ℕ
+tokenSpot number listed = cond (eqb number 9) (cond listed 6 8) (cond listed 8 2)
+
+abbrev pub headSpot : Class → ℕ → Bool → ℕ
+headSpot class number listed = cond (eqb (classNumber class) 20 || eqb (classNumber class) 21) (tokenSpot number listed) 8
+
+-- ---- what the first records become
+
+abbrev pub firstOf : Firsts → Spot → First
+firstOf firsts openingBrace = firsts .«opening_brace»
+firstOf firsts labelColon = firsts .«label_colon»
+firstOf firsts valueHead = firsts .«value_head»
+firstOf firsts importPath = firsts .«import_path»
+firstOf firsts pathItem = firsts .«path_item»
+firstOf firsts registerLetter = firsts .«register_letter»
+firstOf firsts expressionHead = firsts .«expression_head»
+firstOf firsts closingCharacter = firsts .«closing_character»
+
+abbrev pub noFirsts : Firsts
+noFirsts = record {
+  «opening_brace» = Never;
+  «label_colon» = Never;
+  «value_head» = Never;
+  «import_path» = Never;
+  «path_item» = Never;
+  «register_letter» = Never;
+  «expression_head» = Never;
+  «closing_character» = Never;
+}
+
+-- with a record at an offset that uses a place
+pub record Takes (after before : Firsts) (from at number : ℕ) : Type 0 where
+  pub each : (spot : Spot) → firstOf after spot ≡ cond (eqb (spotNumber spot) number) (firstWith from (firstOf before spot) at) (firstOf before spot)
+
+-- where it does
+pub record TakesIf (after before : Firsts) (from at number : ℕ) (used : Bool) : Type 0 where
+  pub each : (spot : Spot) → firstOf after spot ≡ cond (used && eqb (spotNumber spot) number) (firstWith from (firstOf before spot) at) (firstOf before spot)
+
+-- with some uses
+pub record TakesAll (after before : Firsts) (from : ℕ) (uses : List Use) : Type 0 where
+  pub each : (spot : Spot) → firstOf after spot ≡ firstFrom from spot (firstOf before spot) uses
+
+-- ---- what is promised of a record that was read without refusal
+
+abbrev pub TokenClass : Class → Type 0
+TokenClass class = (located : Bool) × (rule class ≡ nodes 0 23 located)
+
+abbrev pub TakesHead : Firsts → Firsts → ℕ → ℕ → List ℕ → Class → ℕ → ℕ → Type 0
+TakesHead after before from levels bytes class at number =
+    read levels bytes class at .checked ≡ Passed → TokenClass class
+    → TakesIf after before from (standsAt (headOf (read levels bytes class at .tree))) number (hasComment (ownTrivia (headOf (read levels bytes class at .tree))))
+
+abbrev pub partTrees : ℕ → List ℕ → Class → Own → List Tree
+partTrees levels bytes class own = readParts (read (levels - 1) bytes) (partsDue class own) (own .end) .trees
+
+abbrev pub TakesClosing : Firsts → Firsts → ℕ → ℕ → List ℕ → Own → Type 0
+TakesClosing after before from levels bytes own =
+    (class : Class) (at : ℕ) → readOwn bytes at class levels ≡ Record own → own .kind ≡ kind.Operand → read levels bytes class at .checked ≡ Passed
+    → TakesIf after before from (standsAt (getD (partTrees levels bytes class own) 2 absent)) 7
+    (atClosingCharacter (indexOf (getD (partTrees levels bytes class own) 3 absent)) (getD (partTrees levels bytes class own) 2 absent))
+
+abbrev pub TakesRecord : Firsts → Firsts → ℕ → ℕ → List ℕ → Class → ℕ → Own → Bool → Type 0
+TakesRecord after before from levels bytes class at own listed =
+    readOwn bytes at class levels ≡ Record own → read levels bytes class at .checked ≡ Passed
+    → TakesAll after before from (ownUses class listed (read levels bytes class at .tree) at (partTrees levels bytes class own))
+
+abbrev pub Searches : Searched → Firsts → ℕ → ℕ → List ℕ → Class → ℕ → Bool → Type 0
+Searches searched before from levels bytes class at listed =
+    read levels bytes class at .checked ≡ Passed
+    → (searched .end ≡ read levels bytes class at .end) × TakesAll (searched .firsts) before from (seenIn class listed (read levels bytes class at .tree))
+
+-- ---- the parts of a record
+
+-- the uses of records of these classes, one behind the other
+unfoldable pub usesAlong : Reader → Bool → List Class → ℕ → List Use
+usesAlong reader listed [] place = []
+usesAlong reader listed (class ∷ classes) place =
+    seenIn class listed (reader class place .tree) ++ usesAlong reader listed classes (reader class place .end)
+
+-- the place behind them
+unfoldable pub endAlong : Reader → List Class → ℕ → ℕ
+endAlong reader [] place = place
+endAlong reader (class ∷ classes) place = endAlong reader classes (reader class place .end)
+
+-- the first refusal in them
+unfoldable pub checkedAlong : Reader → List Class → ℕ → Checked
+checkedAlong reader [] place = Passed
+checkedAlong reader (class ∷ classes) place = andThen (reader class place .checked) (checkedAlong reader classes (reader class place .end))
+
+-- ---- a field, and a leaf's index
+
+abbrev pub behindOn : ℕ → Skipped → ℕ
+behindOn at (Next end) = end
+behindOn at (NotSkipped refusal) = at
+
+abbrev pub behindField : ℕ → List ℕ → Class → ℕ → Bool → ℕ
+behindField levels bytes class at stands = cond stands (behindOn at (skipped levels bytes class at)) at
+
+abbrev pub indexIn : List ℕ → OwnRead → ℕ
+indexIn bytes (Record own) = cond (ltb (own .text) (own .end)) (getD bytes (own .text) 0) 0
+indexIn bytes (Refused refusal) = 0

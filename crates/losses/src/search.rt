@@ -1,0 +1,115 @@
+// The search of a tree for the first record that uses a place.
+use crate::firsts;
+use crate::firsts::First;
+use crate::firsts::Firsts;
+use crate::uses;
+use answers::Checked;
+use answers::Refusal;
+use leads;
+use tree::check;
+use tree::check::Part;
+use tree::grammar::Class;
+use tree::own;
+use tree::own::OwnRead;
+ghost use mathlib.Core.Path.{_≡_};
+ghost use Rattle.losses.specs.Lost.{lostFrom};
+ghost use Rattle.losses.specs.Visits.{listedBelow, noFirsts, Searches};
+
+// A record that was searched: the place behind it, and the first records so far.
+pub struct Searched {
+    pub end: usize,
+    pub firsts: Firsts,
+}
+
+// The first record that uses a place: its offset, and its places as bits, 1 for (a) to 128 for (h).
+pub enum Loss {
+    Used(usize, usize),
+    Unused,
+    Refused(Refusal),
+}
+
+// Whether the parts of a record stand in a list: the items of a list (24) do; the block of `Braces` (2) or `Config` (3) and its brace (27) count as their token.
+fn listed_below(number: usize, listed: bool) -> bool
+    ensures { λ r. ⌜ r ≡ listedBelow number listed ⌝ }
+{
+    match number {
+        24 => true,
+        2 => listed,
+        3 => listed,
+        27 => listed,
+        _ => false,
+    }
+}
+
+// The record of a class at a place, with all its parts.
+fn search(
+    tree: &[u8],
+    at: usize,
+    class: Class,
+    levels: usize,
+    listed: bool,
+    from: usize,
+    firsts: Firsts,
+) -> Searched
+    ensures { λ r. ⌜ Searches r firsts from levels (now (tree .entry)) class at listed ⌝ }
+{
+    let read = own::read_own(tree, at, class, levels);
+    let OwnRead::Record(own) = read else {
+        return Searched {
+            end: at,
+            firsts: firsts,
+        };
+    };
+    let below = listed_below(leads::byte_at(tree, at), listed);
+    let mut place = own.end;
+    let mut seen = uses::record_uses(tree, at, class, levels, own, listed, from, firsts);
+    let mut plan = check::plan_of(class, own);
+    loop {
+        let part = check::next_part(plan);
+        let Part::Next(field, rest) = part else {
+            return Searched {
+                end: place,
+                firsts: seen,
+            };
+        };
+        let searched = search(tree, place, field, levels - 1, below, from, seen);
+        place = searched.end;
+        seen = searched.firsts;
+        plan = rest;
+    }
+}
+
+// No record so far.
+fn no_firsts() -> Firsts
+    ensures { λ r. ⌜ r ≡ noFirsts ⌝ }
+{
+    Firsts {
+        opening_brace: First::Never,
+        label_colon: First::Never,
+        value_head: First::Never,
+        import_path: First::Never,
+        path_item: First::Never,
+        register_letter: First::Never,
+        expression_head: First::Never,
+        closing_character: First::Never,
+    }
+}
+
+// The first record at or after an offset that uses one of the eight places, or the refusal of the tree. Called again behind it, this lists all.
+pub fn lost(tree: &[u8], from: usize) -> Loss
+    ensures { λ r. ⌜ r ≡ lostFrom from (now (tree .entry)) ⌝ }
+{
+    let checked = check::check_tree(tree);
+    match checked {
+        Checked::Failed(refusal) => Loss::Refused(refusal),
+        Checked::Passed => {
+            let searched = search(tree, 0, Class::Tokens, 64, false, from, no_firsts());
+            let seen = searched.firsts;
+            let least = firsts::least(seen);
+            match least {
+                First::Never => Loss::Unused,
+                First::At(at) => Loss::Used(at, firsts::letters_at(seen, at)),
+            }
+        }
+    }
+}

@@ -1,0 +1,218 @@
+// The uses of places that a record shows by itself: comments on it, on its head, and an operand's closing character. Places go by their
+// numbers, 0 for (a) to 7 for (h); 8 is none.
+use crate::firsts;
+use crate::firsts::Firsts;
+use leads;
+use leaves::record;
+use tree::grammar::Class;
+use tree::own;
+use tree::own::Own;
+use tree::own::OwnRead;
+use tree::parts;
+use tree::parts::HeadRead;
+use tree::parts::Skipped;
+use tree::parts::TriviumRead;
+ghost use mathlib.Core.Path.{_≡_};
+ghost use mathlib.Core.List.{List};
+ghost use Prim.Native.Nat.{_<_};
+ghost use Rattle.tree.specs.Own.{readOwn};
+ghost use Rattle.tree.specs.Reading.{read};
+ghost use Rattle.tree.specs.declared.own.OwnRead.the-variants as own-is;
+ghost use Rattle.answers.specs.declared.Checked.the-variants.{Passed};
+ghost use Rattle.leaves.specs.Items.{itemsAt};
+ghost use Rattle.reading.specs.Places.{hasComment};
+ghost use Rattle.losses.specs.Visits.{kindSpot, ownSpot, tokenSpot, headSpot, behindField, indexIn, TakesIf, TakesHead, TakesClosing, TakesRecord};
+
+// Whether one of `count` trivia items is a comment: codes 2 and 3 are, the last two.
+fn has_comment(tree: &[u8], at: usize, count: usize) -> bool
+    ensures { λ r. ⌜ r ≡ hasComment (itemsAt (now (tree .entry)) at count) ⌝ }
+{
+    let mut place = at;
+    let mut left = count;
+    while 0 < left {
+        let read = parts::trivium_at(tree, place);
+        let TriviumRead::Item(item) = read else {
+            return false;
+        };
+        if 2 <= item.code {
+            return true;
+        }
+        place = item.end;
+        left -= 1;
+    }
+    false
+}
+
+// The place that a comment on a record of a kind uses.
+fn kind_spot(number: usize) -> usize
+    ensures { λ r. ⌜ r ≡ kindSpot number ⌝ }
+{
+    match number {
+        41 => 3,
+        26 => 4,
+        _ => 8,
+    }
+}
+
+// The place that a comment on a record uses: by the field that it stands in, or by its kind.
+fn own_spot(class: Class, number: usize, listed: bool) -> usize
+    ensures { λ r. ⌜ r ≡ ownSpot class number listed ⌝ }
+{
+    match class {
+        Class::OpenBrace => {
+            if listed {
+                return 8;
+            }
+            0
+        }
+        Class::Colon => 1,
+        Class::IndexRegister => 5,
+        _ => kind_spot(number),
+    }
+}
+
+// The place that a comment on a token's head uses: an `Expression` in a list has (g); any other token that is in no list is a value, and has (c).
+fn token_spot(number: usize, listed: bool) -> usize
+    ensures { λ r. ⌜ r ≡ tokenSpot number listed ⌝ }
+{
+    if number == 9 {
+        if listed {
+            return 6;
+        }
+        return 8;
+    }
+    if listed {
+        return 8;
+    }
+    2
+}
+
+// The place that a comment on a record's head uses.
+fn head_spot(class: Class, number: usize, listed: bool) -> usize
+    ensures { λ r. ⌜ r ≡ headSpot class number listed ⌝ }
+{
+    match class {
+        Class::BareToken => token_spot(number, listed),
+        Class::LocatedToken => token_spot(number, listed),
+        _ => 8,
+    }
+}
+
+// A record at an offset, by its own bytes.
+fn own_use(tree: &[u8], own: Own, at: usize, spot: usize, from: usize, firsts: Firsts) -> Firsts
+    ensures { λ r. ⌜ TakesIf r firsts from at spot (hasComment (itemsAt (now (tree .entry)) (own .trivia) (own .«trivia_count»))) ⌝ }
+{
+    if spot == 8 {
+        return firsts;
+    }
+    if !has_comment(tree, own.trivia, own.trivia_count) {
+        return firsts;
+    }
+    firsts::take(from, firsts, at, spot)
+}
+
+// A token's head.
+fn head_use(
+    tree: &[u8],
+    at: usize,
+    class: Class,
+    levels: usize,
+    spot: usize,
+    from: usize,
+    firsts: Firsts,
+) -> Firsts
+    ensures { λ r. ⌜ (spot ≡ 8 → r ≡ firsts) ⌝ }
+    ensures { λ r. ⌜ TakesHead r firsts from levels (now (tree .entry)) class at spot ⌝ }
+{
+    if spot == 8 {
+        return firsts;
+    }
+    let place = parts::head_place(tree, at, class, levels);
+    let HeadRead::Found(head) = place else {
+        return firsts;
+    };
+    let field = head.class;
+    let read = own::read_own(tree, head.place, field, head.levels);
+    let OwnRead::Record(own) = read else {
+        return firsts;
+    };
+    own_use(tree, own, head.place, spot, from, firsts)
+}
+
+// The place behind a field that may stand or not.
+fn behind(tree: &[u8], at: usize, class: Class, levels: usize, stands: bool) -> usize
+    ensures { λ r. ⌜ r ≡ behindField levels (now (tree .entry)) class at stands ⌝ }
+{
+    if !stands {
+        return at;
+    }
+    let skipped = parts::skip(tree, at, class, levels);
+    match skipped {
+        Skipped::Next(place) => place,
+        Skipped::NotSkipped(_) => at,
+    }
+}
+
+// The first byte of a leaf's text, which of an enum is its index; 0 where there is none.
+fn index_at(tree: &[u8], at: usize, class: Class, levels: usize) -> usize
+    ensures { λ r. ⌜ r ≡ indexIn (now (tree .entry)) (readOwn (now (tree .entry)) at class levels) ⌝ }
+{
+    let read = own::read_own(tree, at, class, levels);
+    match read {
+        OwnRead::Record(own) => {
+            if own.text < own.end {
+                return leads::byte_at(tree, own.text);
+            }
+            0
+        }
+        OwnRead::Refused(_) => 0,
+    }
+}
+
+// An operand's closing character, where it stands and its mode prints none: modes 3 and 4 do.
+fn closing_use(tree: &[u8], own: Own, levels: usize, from: usize, firsts: Firsts) -> Firsts
+    requires { ⌜ 0 < levels ⌝ }
+    ensures { λ r. ⌜ TakesClosing r firsts from levels (now (tree .entry)) own ⌝ }
+{
+    let bits = own.map / 2;
+    if !record::stands(bits, 2) {
+        return firsts;
+    }
+    let below = levels - 1;
+    let lchar = behind(tree, own.end, Class::LocatedExpression, below, true);
+    let rchar = behind(tree, lchar, Class::Char, below, record::stands(bits, 1));
+    let mode = behind(tree, rchar, Class::Char, below, true);
+    let index = index_at(tree, mode, Class::AddressingMode, below);
+    if index == 3 {
+        return firsts;
+    }
+    if index == 4 {
+        return firsts;
+    }
+    firsts::take(from, firsts, rchar, 7)
+}
+
+// All that a record shows by itself.
+pub(crate) fn record_uses(
+    tree: &[u8],
+    at: usize,
+    class: Class,
+    levels: usize,
+    own: Own,
+    listed: bool,
+    from: usize,
+    firsts: Firsts,
+) -> Firsts
+    requires { ⌜ 0 < levels ⌝ }
+    ensures { λ r. ⌜ TakesRecord r firsts from levels (now (tree .entry)) class at own listed ⌝ }
+{
+    let number = leads::byte_at(tree, at);
+    let spot = own_spot(class, number, listed);
+    let by_own = own_use(tree, own, at, spot, from, firsts);
+    let head = head_spot(class, number, listed);
+    let by_head = head_use(tree, at, class, levels, head, from, by_own);
+    if number == 37 {
+        return closing_use(tree, own, levels, from, by_head);
+    }
+    by_head
+}
