@@ -1,7 +1,7 @@
 """Compares a built `replay` with the Rust on chunk lists, and with two readers on trees, that no file holds.
 
     python3 compare.py REPLAY ORACLE [--random N] [--small] [--limits] [--trees N] [--small-trees] [--walks N]
-                       [--formats N] [--parsed FOLDER] [--streams] [--seed S]
+                       [--formats N] [--parsed FOLDER] [--lost N] [--streams] [--seed S]
 
 Chunk lists, for the column setter:
 --random N      N random lists, some of them damaged, with buffers of any fit
@@ -16,6 +16,8 @@ Trees, for the walk to chunks:
 For the tree call:
 --formats N     N random trees, each under options and in rooms and buffers of any fit
 --parsed FOLDER every tree in a folder, as the Rust's parser made them (`oracle parse`), under options in turn
+For the search of lost comments:
+--lost N        N random trees, one of seven damaged, against the model
 All:
 --streams       cut and overlong cases and wrong commands, which end a run of `replay`
 If no part is named: 20,000 random lists and as many random trees.
@@ -52,7 +54,7 @@ def compare_streams(tally, oracle):
         runs.append((whole[:cut], b"".join(answer for answer, end in zip(answers, ends) if end <= cut)))
     # Options, payload, work room and text buffer, each one byte too long.
     tail = four(0) + four(0)
-    for command in (b"J", b"K", b"C", b"F"):
+    for command in (b"J", b"K", b"C", b"F", b"L"):
         for overlong in (
             command + four(17) + bytes(17) + four(0) + tail,
             command + four(1) + b"\0" + four(MOST + 1) + bytes(MOST + 1) + tail,
@@ -60,7 +62,7 @@ def compare_streams(tally, oracle):
             command + four(1) + b"\0" + four(0) + four(0) + four(MOST + 1),
         ):
             runs.append((stored[0] + overlong + stored[1], answers[0]))
-    for other in set(range(256)) - set(b"JKCF"):
+    for other in set(range(256)) - set(b"JKCFL"):
         runs.append((stored[0] + bytes([other]) + stored[1][1:] + stored[2], answers[0]))
     for stream, due in runs:
         got = run([tally.replay], stream)
@@ -82,12 +84,13 @@ def main():
     parser.add_argument("--walks", type=int, default=0)
     parser.add_argument("--formats", type=int, default=0)
     parser.add_argument("--parsed", type=Path)
+    parser.add_argument("--lost", type=int, default=0)
     parser.add_argument("--streams", action="store_true")
     parser.add_argument("--seed", type=int, default=1)
     given = parser.parse_args()
     tally = Tally(given.replay)
     parts = (given.random, given.small, given.limits, given.trees, given.small_trees, given.walks)
-    parts += (given.formats, given.parsed, given.streams)
+    parts += (given.formats, given.parsed, given.lost, given.streams)
     if not any(parts):
         given.random = given.trees = 20000
     if given.random:
@@ -108,6 +111,8 @@ def main():
         trees = [path.read_bytes() for path in sorted(given.parsed.iterdir())]
         part = f"tree calls on {len(trees)} parsed sources, each under six options"
         compare_walks.compare_formats(tally, given.oracle, [tree for tree in trees for _ in range(7)], part)
+    if given.lost:
+        compare_walks.compare_random_lost(tally, given.lost, given.seed)
     if given.streams:
         compare_streams(tally, given.oracle)
     print(f"{tally.differences} differences")

@@ -1,8 +1,9 @@
-"""The walk and the tree call of a built `replay` against the Rust, on trees that no file holds."""
+"""The walk, the tree call and the search for lost comments of a built `replay`, on trees that no file holds: against the
+Rust, for the search against the model."""
 
 from itertools import islice
 
-from streams import ask_format, ask_walk, format_due, walk_due
+from streams import ask_format, ask_walk, format_due, lost_case, lost_due, walk_due
 
 import gen  # after streams, which finds the model's folder
 from gen import encode
@@ -45,3 +46,12 @@ def compare_formats(tally, oracle, trees, part):
 
 def compare_random_formats(tally, oracle, count, seed):
     compare_formats(tally, oracle, islice(random_trees(seed), count), f"tree calls on {count} random trees, seed {seed}")
+
+
+def compare_random_lost(tally, count, seed):
+    g = gen.Gen(seed)
+    trees = (encode(g.any_tree()) for _ in range(count))
+    for batch in batches(enumerate(trees), 10000):
+        given = [tree if number % 7 else g.damaged_tree(tree) for number, tree in batch]
+        tally.compare([lost_case(tree) for tree in given], [lost_due(tree) for tree in given])
+    tally.close(f"searches for lost comments in {count} random trees, seed {seed}")

@@ -3,8 +3,9 @@
     python3 stored_cases.py ORACLE FOLDER [--seed S] [--random N]
 
 writes FOLDER/stdin and FOLDER/stdout: first the chunk lists of list_cases.py for the column setter, then
-the trees of tree_cases.py for the tree's check, then these for the walk and for the tree call. The texts and chunks come from the Rust, through the program
-ORACLE, the refusals from the model of document 01 (model/model.py). Where both speak they must agree:
+the trees of tree_cases.py for the tree's check, then these for the walk, for the tree call and for the search of lost
+comments. The texts and chunks come from the Rust, through the program ORACLE, the refusals and the lost comments from
+the model of document 01 (model/model.py). Where both speak they must agree:
 the model has the texts too, and the oracle a reader of its own for the refusals. The same seed gives
 the same files.
 """
@@ -14,7 +15,7 @@ from collections import Counter
 from pathlib import Path
 
 from streams import MOST, Answer, Case, ask_reader, ask_rust, check_case, check_due, four, join_case, join_due
-from streams import ask_format, ask_walk, format_due, stored_answer, stored_case, walk_due
+from streams import ask_format, ask_walk, format_due, lost_case, lost_due, stored_answer, stored_case, walk_due
 
 import model as m  # after streams, which finds the model's folder
 from list_cases import PLAIN, all_lists
@@ -122,7 +123,9 @@ def main():
     # Every accepted tree, and two of three that are not.
     short = [case.payload for at, (case, answer) in enumerate(trees) if len(case.payload) < 1000 and (answer.number == 0 or at % 3)]
     formats = list(answered_formats(given.oracle, short))
-    made = lists + trees + walks + formats
+    # Every accepted tree, and one of twenty that are not.
+    losses = [(lost_case(tree), lost_due(tree)) for tree in taken]
+    made = lists + trees + walks + formats + losses
     stdin = b"".join(stored_case(case) for case, _ in made) + last_case()
     stdout = b"".join(stored_answer(answer) for _, answer in made)
     (given.folder / "stdin").write_bytes(stdin)
@@ -131,6 +134,7 @@ def main():
     print_counts("trees", trees)
     print_counts("walks", walks)
     print_counts("tree calls", formats)
+    print_counts("searches for lost comments", losses)
     print(len({case.payload for case, _ in formats}), "trees through the whole call")
     rules = Counter(refusal_of(case.payload).why for case, answer in trees if answer.number == 5)
     print("answer 5 by the rule that is broken:", ", ".join(f"{why} {count}" for why, count in sorted(rules.items())))

@@ -7,6 +7,7 @@ from collections import namedtuple
 from pathlib import Path
 
 sys.path.append(str(Path(__file__).parent / "model"))
+import model as m
 
 # The longest payload and buffer that `replay` takes.
 MOST = 1114112
@@ -14,7 +15,8 @@ MOST = 1114112
 # `room` is the length of the text buffer that is lent, `work` that of the work room.
 Case = namedtuple("Case", "command options payload room work", defaults=[0])
 
-# `text` is empty where the number is not 0, and for the command K; it is the chunks for the command C.
+# `text` is empty where the number is not 0, and for the command K; it is the chunks for the command C, and the eight
+# numbers for the command L.
 Answer = namedtuple("Answer", "number value flag text")
 
 
@@ -40,6 +42,11 @@ def walk_case(options, tree, work):
 def format_case(options, tree, work, room):
     """A case of the tree call."""
     return Case(b"F", options, tree, room, work)
+
+
+def lost_case(tree):
+    """A case of the search for lost comments, which takes no options and gives no text."""
+    return Case(b"L", b"", tree, 0)
 
 
 def stored_case(case):
@@ -160,3 +167,14 @@ def check_due(refusal):
     """The answer that is due for a tree with this refusal, or with none."""
     number, place = refusal or (0, 0)
     return Answer(number, place, 0, b"")
+
+
+def lost_due(tree):
+    """The answer that is due for the search for lost comments: for each place the offset of the first record that uses
+    it plus 1, or 0; by the model of document 01."""
+    try:
+        uses = m.place_uses(m.check_tree(tree))
+    except m.Refusal as refusal:
+        return Answer(refusal.number, refusal.place, 0, b"")
+    firsts = [min((at + 1 for at, used in uses if used == letter), default=0) for letter in "abcdefgh"]
+    return Answer(0, 32, 0, b"".join(map(four, firsts)))

@@ -2,6 +2,7 @@
 use answers::Answer;
 use libc::STDIN_FILENO;
 use libc::STDOUT_FILENO;
+use losses::search::Loss;
 use text::numbers;
 use text::stores;
 
@@ -141,6 +142,113 @@ fn answer_format(options: &[u8], bytes: &[u8], work: &mut [u8], text: &mut [u8])
     }
 }
 
+// Writes a number of four bytes, the low byte first.
+fn write_four(number: usize) {
+    let mut bytes = [0u8; 4];
+    bytes[0] = (number % 256) as u8;
+    bytes[1] = (number / 256 % 256) as u8;
+    bytes[2] = (number / 65536 % 256) as u8;
+    bytes[3] = (number / 16777216 % 256) as u8;
+    io::write_all(STDOUT_FILENO, &bytes);
+}
+
+// For each place the offset of its first record plus 1, or 0.
+struct Noted {
+    a: usize,
+    b: usize,
+    c: usize,
+    d: usize,
+    e: usize,
+    f: usize,
+    g: usize,
+    h: usize,
+}
+
+// An offset plus 1, where its record uses the place and none was noted before.
+fn note_first(before: usize, used: bool, at: usize) -> usize {
+    if before != 0 {
+        return before;
+    }
+    if !used {
+        return 0;
+    }
+    if 65535 < at {
+        return 0;
+    }
+    at + 1
+}
+
+// The same for each place of a record.
+fn note_places(before: Noted, at: usize, letters: usize) -> Noted {
+    Noted {
+        a: note_first(before.a, letters % 2 == 1, at),
+        b: note_first(before.b, letters / 2 % 2 == 1, at),
+        c: note_first(before.c, letters / 4 % 2 == 1, at),
+        d: note_first(before.d, letters / 8 % 2 == 1, at),
+        e: note_first(before.e, letters / 16 % 2 == 1, at),
+        f: note_first(before.f, letters / 32 % 2 == 1, at),
+        g: note_first(before.g, letters / 64 % 2 == 1, at),
+        h: note_first(before.h, letters / 128 % 2 == 1, at),
+    }
+}
+
+fn write_noted(all: Noted) {
+    write_four(all.a);
+    write_four(all.b);
+    write_four(all.c);
+    write_four(all.d);
+    write_four(all.e);
+    write_four(all.f);
+    write_four(all.g);
+    write_four(all.h);
+}
+
+// Nothing noted.
+fn no_places() -> Noted {
+    Noted {
+        a: 0,
+        b: 0,
+        c: 0,
+        d: 0,
+        e: 0,
+        f: 0,
+        g: 0,
+        h: 0,
+    }
+}
+
+// A case of the search for lost comments: the first record of each place, found by asking until there is no more.
+fn answer_lost(bytes: &[u8], text: &mut [u8]) {
+    stores::fill(text, 0, text.len(), 165);
+    let mut all = no_places();
+    let mut from: usize = 0;
+    // No tree has more bytes.
+    while from < 65536 {
+        let lost = losses::lost(bytes, from);
+        match lost {
+            Loss::Used(at, letters) => {
+                if at < from {
+                    return;
+                }
+                if 65535 < at {
+                    return;
+                }
+                all = note_places(all, at, letters);
+                from = at + 1;
+            }
+            Loss::Unused => {
+                write_head(Answer::Accepted(32), flag_of(text, 0));
+                write_noted(all);
+                return;
+            }
+            Loss::Refused(refusal) => {
+                write_head(Answer::Refused(refusal), flag_of(text, 0));
+                return;
+            }
+        }
+    }
+}
+
 // Answers a case by its command; false where there is no such command.
 fn answer_command(
     command: u8,
@@ -163,6 +271,10 @@ fn answer_command(
     }
     if command == b'K' {
         answer_check(payload, text);
+        return true;
+    }
+    if command == b'L' {
+        answer_lost(payload, text);
         return true;
     }
     false
