@@ -1,0 +1,7 @@
+pub mod ListPlaces
+pub mod Numbers
+pub mod RoomPlaces
+pub mod Small
+pub mod Stops
+pub mod TreePlaces
+pub mod Within

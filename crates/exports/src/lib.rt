@@ -1,0 +1,106 @@
+// The calls as programs in other languages link them: each slice is a pointer and a length, and the answer one number, 2^32 times the refusal's
+// number plus the text's length or the place. They ask nothing of their caller, and their promises are those of the calls that they wrap.
+use answers::Answer;
+use losses::search::Loss;
+ghost use mathlib.Core.Path.{_≡_};
+ghost use lib.ListN.{length};
+ghost use Rattle.answers.specs.Texts.{answerIn, bufferAfter};
+ghost use Rattle.answers.specs.Numbers.{answerOf};
+ghost use Rattle.text.specs.Stores.{zeros};
+ghost use Rattle.chunks.specs.Reading.{chunksOf};
+ghost use Rattle.join.specs.Setting.{joinOutcome};
+ghost use Rattle.join.specs.Promise.{Promised};
+ghost use Rattle.tree.specs.Checking.{batchChecked};
+ghost use Rattle.tokens.specs.Chunks.{chunksHeld, chunksAnswer, RoomHolds, chunksRoom};
+ghost use Rattle.formatting.specs.Formatting.{formatted};
+ghost use Rattle.formatting.specs.Demands.{Lesson};
+ghost use Rattle.losses.specs.Lost.{lostFrom};
+ghost use Rattle.exports.specs.Packed.{packedOf, Small, lossAnswer};
+
+// An answer as one number.
+fn packed(answer: Answer) -> u64
+    requires { ⌜ Small answer ⌝ }
+    ensures { λ r. ⌜ r ≡ packedOf answer ⌝ }
+{
+    let number = answer.number();
+    let value = answer.value();
+    (4294967296 * number + value) as u64
+}
+
+// `join::join_chunks`: the text of a stored chunk list, or refusal 1, 2, 6, 7 or 9.
+#[no_mangle]
+pub extern "C" fn felgutrosa_join_chunks(chunks: &[u8], options: &[u8], text: &mut [u8]) -> u64
+    ensures { λ r. ⌜ r ≡ packedOf (answerIn (joinOutcome (now (chunks .entry)) (now (options .entry))) (length (now (text .entry)))) ⌝ }
+    ensures { λ _. ⌜ Small (answerIn (joinOutcome (now (chunks .entry)) (now (options .entry))) (length (now (text .entry)))) ⌝ }
+    ensures { λ _. ⌜ now (text .exit) ≡ bufferAfter (joinOutcome (now (chunks .entry)) (now (options .entry))) (now (text .entry)) ⌝ }
+    ensures { λ _. ⌜ Promised (chunksOf (now (chunks .entry))) (joinOutcome (now (chunks .entry)) (now (options .entry))) ⌝ }
+{
+    packed(join::join_chunks(chunks, options, text))
+}
+
+// `tree::check_tree`: whether bytes are a stored tree; 0, or refusal 3, 4, 5 or 7.
+#[no_mangle]
+pub extern "C" fn felgutrosa_check_tree(tree: &[u8]) -> u64
+    ensures { λ r. ⌜ r ≡ packedOf (answerOf (batchChecked (now (tree .entry)))) ⌝ }
+    ensures { λ _. ⌜ Small (answerOf (batchChecked (now (tree .entry)))) ⌝ }
+{
+    let checked = tree::check_tree(tree);
+    packed(checked.answer())
+}
+
+// `tokens::chunks`: the chunks of a stored tree, stored at the start of the work room; or refusal 1, 2, 3, 4, 5, 7 or 8.
+#[no_mangle]
+pub extern "C" fn felgutrosa_chunks(tree: &[u8], options: &[u8], room: &mut [u8]) -> u64
+    ensures { λ r. ⌜ r ≡ packedOf (chunksAnswer (chunksHeld (now (tree .entry)) (now (options .entry)) (length (now (room .entry))))) ⌝ }
+    ensures { λ _. ⌜ Small (chunksAnswer (chunksHeld (now (tree .entry)) (now (options .entry)) (length (now (room .entry))))) ⌝ }
+    ensures { λ _. ⌜ RoomHolds (chunksHeld (now (tree .entry)) (now (options .entry)) (length (now (room .entry)))) (now (room .exit)) ⌝ }
+    ensures { λ _. ⌜ now (room .exit) ≡ chunksRoom (now (tree .entry)) (now (options .entry)) (now (room .entry)) ⌝ }
+{
+    packed(tokens::chunks(tree, options, room))
+}
+
+// `formatting::format`: the text of a stored tree, or refusal 1, 2, 3, 4, 5, 7, 8 or 9. The work room is all zeros afterwards.
+#[no_mangle]
+pub extern "C" fn felgutrosa_format(
+    tree: &[u8],
+    options: &[u8],
+    work: &mut [u8],
+    text: &mut [u8],
+) -> u64
+    ensures { λ r. ⌜ r ≡ packedOf (answerIn (formatted (now (tree .entry)) (now (options .entry)) (length (now (work .entry)))) (length (now (text .entry)))) ⌝ }
+    ensures { λ _. ⌜ Small (answerIn (formatted (now (tree .entry)) (now (options .entry)) (length (now (work .entry)))) (length (now (text .entry)))) ⌝ }
+    ensures { λ _. ⌜ now (text .exit) ≡ bufferAfter (formatted (now (tree .entry)) (now (options .entry)) (length (now (work .entry)))) (now (text .entry)) ⌝ }
+    ensures { λ _. ⌜ now (work .exit) ≡ zeros (length (now (work .entry))) ⌝ }
+    ensures { λ _. ⌜ Lesson (now (tree .entry)) (now (options .entry)) (formatted (now (tree .entry)) (now (options .entry)) (length (now (work .entry)))) ⌝ }
+{
+    packed(formatting::format(tree, options, work, text))
+}
+
+// A record that uses a place, as an answer: 65,536 times its letters plus its offset, and 0 where there is none.
+fn loss_answer(loss: Loss) -> Answer
+    ensures { λ r. ⌜ r ≡ lossAnswer loss ⌝ }
+{
+    match loss {
+        Loss::Unused => Answer::Accepted(0),
+        Loss::Refused(refusal) => Answer::Refused(refusal),
+        Loss::Used(at, letters) => {
+            if 65535 < at {
+                return Answer::Accepted(0);
+            }
+            if 255 < letters {
+                return Answer::Accepted(0);
+            }
+            Answer::Accepted(65536 * letters + at)
+        }
+    }
+}
+
+// `losses::lost`: the first record at or after an offset that uses one of the eight places; or refusal 3, 4, 5 or 7.
+#[no_mangle]
+pub extern "C" fn felgutrosa_lost(tree: &[u8], from: usize) -> u64
+    ensures { λ r. ⌜ r ≡ packedOf (lossAnswer (lostFrom from (now (tree .entry)))) ⌝ }
+    ensures { λ _. ⌜ Small (lossAnswer (lostFrom from (now (tree .entry)))) ⌝ }
+{
+    let loss = losses::lost(tree, from);
+    packed(loss_answer(loss))
+}
