@@ -1,58 +1,69 @@
-"""How a command is measured: instructions, processor time, stack."""
+"""How a case is measured: by the programs of rust/, and by callgrind."""
 
+import os
 import re
-import resource
 import subprocess
-import tempfile
+from collections import namedtuple
 from pathlib import Path
 
-from streams import MOST
+from streams import run
 
-STREAM = 8_000_000  # bytes of cases in one timed run of `replay`
-COUNTED = 4  # cases in one run of `replay` under callgrind
+HOME = Path(__file__).resolve().parent
+REPOSITORY = HOME.parent
+
+Programs = namedtuple("Programs", "oracle time once memory")
+
+# `times` are nanoseconds, `counts` instructions, each by side; `memory` has the bytes that bin/memory.rs names.
+Row = namedtuple("Row", "case text room times counts memory")
+
+# What callgrind counts of a side: the calls inside of this function.
+INSIDE = {
+    ("list", "rust"): "*join_built*",
+    ("list", "port"): "felgutrosa_join_chunks",
+    ("tree", "rust"): "*format_built*",
+    ("tree", "port"): "felgutrosa_format",
+    ("tree", "check"): "felgutrosa_check_tree",
+    ("tree", "walk"): "felgutrosa_chunks",
+}
 
 
-def instructions(command, stdin=b"", inside=None):
-    """Instructions that a command executes; with `inside` only those in calls of that function."""
-    callgrind = ["valgrind", "--tool=callgrind", "--callgrind-out-file=/dev/null"]
-    if inside:
-        callgrind.append(f"--toggle-collect={inside}")
-    done = subprocess.run(callgrind + command, input=stdin, capture_output=True, check=True)
+def build(sources):
+    """Builds the static library, the oracle and the programs of bench/rust."""
+    if "FELGUTROSA_LIB" not in os.environ:
+        subprocess.run(["rt", "staticlib", "exports"], cwd=REPOSITORY, check=True, stdout=subprocess.DEVNULL)
+    folder = Path(os.environ.get("CARGO_TARGET_DIR", REPOSITORY / "target" / "bench")).resolve()
+    environment = dict(os.environ, CARGO_TARGET_DIR=str(folder), MOS_CORE_SRC=str(Path(sources).resolve()))
+    for project in (REPOSITORY / "tools" / "oracle", HOME / "rust"):
+        command = ["cargo", "build", "--release", "--offline", "--quiet"]
+        subprocess.run(command, cwd=project, env=environment, check=True)
+    return Programs(*(str(folder / "release" / name) for name in Programs._fields))
+
+
+def figures(command):
+    """What a program prints: a name and a number on each line."""
+    lines = run(command, b"").decode().splitlines()
+    return {name: float(number) for name, number in map(str.split, lines)}
+
+
+def instructions(command, inside):
+    """Instructions that a command executes in calls of a function."""
+    callgrind = ["valgrind", "--tool=callgrind", "--callgrind-out-file=/dev/null", f"--toggle-collect={inside}"]
+    done = subprocess.run(callgrind + command, capture_output=True, check=True)
     return int(re.search(rb"Collected : (\d+)", done.stderr).group(1))
 
 
-def processor_seconds(command, stdin):
-    """Processor time of a command: other programs on the machine do not add to it."""
-
-    def spent():
-        usage = resource.getrusage(resource.RUSAGE_CHILDREN)
-        return usage.ru_utime + usage.ru_stime
-
-    before = spent()
-    with open(stdin, "rb") as stream:
-        subprocess.run(command, stdin=stream, stdout=subprocess.DEVNULL, check=True)
-    return spent() - before
-
-
-def stack_of(replay, case):
-    """All stack of a run of `replay` with one stored case, but for its two buffers."""
-    with tempfile.NamedTemporaryFile() as out:
-        massif = ["valgrind", "--tool=massif", "--stacks=yes", f"--massif-out-file={out.name}", replay]
-        subprocess.run(massif, input=case, capture_output=True, check=True)
-        found = Path(out.name).read_text()
-    if any(int(heap) for heap in re.findall(r"mem_heap_B=(\d+)", found)):
-        raise SystemExit("replay takes memory from the heap, which is not counted here")
-    return max(int(stack) for stack in re.findall(r"mem_stacks_B=(\d+)", found)) - 2 * MOST
-
-
-def times_of(replay, cases, folder, rounds, between=lambda: None):
-    """The least processor time of a run of `replay` for each stream of cases. Runs of all take turns, and
-    `between` is called once in each round."""
-    files = [folder / f"cases{number}" for number, _ in enumerate(cases)]
-    for file, stored in zip(files, cases):
-        file.write_bytes(stored)
-    least = [float("inf")] * len(cases)
-    for _ in range(rounds):
-        between()
-        least = [min(time, processor_seconds([replay], file)) for time, file in zip(least, files)]
-    return least
+def measured(case, programs, folder, rounds):
+    options_file, input_file = str(folder / "options"), str(folder / "input")
+    Path(options_file).write_bytes(case.options)
+    Path(input_file).write_bytes(case.stored)
+    given = [case.kind, options_file, input_file]
+    room = [] if case.room is None else [str(case.room)]
+    timed = figures([programs.time, *given, str(rounds), *room])
+    text, room_used = int(timed.pop("text")), int(timed.pop("room"))
+    counts = {
+        side: instructions([programs.once, *given, side, *room], inside)
+        for (kind, side), inside in INSIDE.items()
+        if kind == case.kind
+    }
+    held = figures([programs.memory, *given, *room])
+    return Row(case, text, room_used, timed, counts, {name: int(number) for name, number in held.items()})

@@ -1,90 +1,84 @@
-"""The tree's check of the port, on flat and deep trees of the same size."""
-
-from collections import namedtuple
+"""The trees that the tree call is measured on."""
 
 import streams  # finds the model's folder
 import gen
 import model as m
+from cases import DEFAULTS, NO_INDENT, Case
 from gen import encode, two
-from lists import lesson_lines, tree_of
-from measuring import COUNTED, STREAM, instructions, times_of
-from streams import check_case, check_due, join_case, read_answers, run, stored_case
-from tree_shapes import deep_token, height, in_braces, in_definition, in_parentheses
+from sources import block_lines, comment_lines, data_line, filled, label_lines, lesson_in_blocks, lesson_lines
 
-SIZE = 62_000
-NESTED = 19  # blocks round the innermost lines of the lesson, whose leaves then stand at depth 63
+SIZES = (1_024, 8_192, 65_535)
+SHORT_LINE = 8  # values on a line of data
+LEVELS = 19  # blocks in each other, whose innermost records stand at depth 63
+HALF, WHOLE = 9, 18  # blocks in each other where depths are compared
+PARENTHESES = 28  # in each other, whose innermost records stand at depth 63
+FULL_ROOM = 1_048_576
+NEWLINE = [(1, b"")]
 
-# `flat` names the flat tree that a deep one is held against.
-Tree = namedtuple("Tree", "name stored flat")
-Row = namedtuple("Row", "name bytes records levels flat instructions seconds")
-
-
-def padded(tokens, count):
-    """A tree of SIZE bytes: these stored tokens and an error whose text takes the rest."""
-    rest = SIZE - 4 - len(tokens)
-    return b"\x18\0" + two(count + 1) + tokens + encode(gen.error(b"e" * (rest - 6)))
-
-
-def repeated(token):
-    """A tree of one token again and again."""
-    stored = encode(token)
-    count = (SIZE - 4 - 7) // len(stored)
-    return padded(stored * count, count)
+# What stands in a tree made of source, by the number of a piece.
+SHAPES = {
+    "flat": lesson_lines,
+    "deep": lambda number: block_lines(LEVELS),
+    "comments": comment_lines,
+    "tables": lambda number: data_line(SHORT_LINE),
+    "labels": label_lines,
+}
 
 
-def lesson_in_blocks(first):
-    """Lines of the lesson, each time with a block behind them in which the next lines stand."""
-    opened = "".join(lesson_lines(number) + "{\n" for number in range(first, first + NESTED))
-    return opened + lesson_lines(first + NESTED) + "}\n" * NESTED
+def in_parentheses(inner, tagged):
+    """An expression in parentheses, with both tags before them or with none."""
+    parentheses = gen.rec(31, lparen=gen.leaf(b"("), inner=inner, rparen=gen.leaf(b")"))
+    tags = {"tag_not": gen.leaf(b"!"), "tag_neg": gen.leaf(b"-")} if tagged else {}
+    return gen.rec(29, factor=parentheses, **tags)
 
 
-def parsed(oracle, folder, source):
-    """A tree of source text, filled to SIZE."""
-    tree = tree_of(oracle, folder, source)
-    return padded(tree[4:], tree[2] + 256 * tree[3])
+def data_of(levels, tagged):
+    """A line of data with one number in so many parentheses."""
+    expression = gen.num()
+    for _ in range(levels):
+        expression = in_parentheses(expression, tagged)
+    values = gen.lst(gen.arg(expression), type_=m.EXPR_ARGS)
+    return gen.rec(5, values=values, size=gen.leaf(b"\0", NEWLINE, m.DATA_SIZE))
+
+
+def repeated(token, size):
+    """A tree of exactly so many bytes: one token again and again, then instructions, then an error whose text takes
+    the rest."""
+    tokens, count = b"", 0
+    for stored in (encode(token), encode(gen.mn(trivia=NEWLINE))):
+        times = (size - 4 - 7 - len(tokens)) // len(stored)
+        tokens, count = tokens + stored * times, count + times
+    rest = size - 4 - 6 - len(tokens)
+    return b"\x18\0" + two(count + 1) + tokens + encode(gen.error(b"e" * rest))
 
 
 def trees(oracle, folder):
-    """The lesson of the lists, and its lines in nested blocks. Then trees of nothing but short records:
-    instructions, blocks and parentheses have about 3.5 bytes in a record; errors and definitions without
-    texts have 2, which is the least that a record can have. And one long text."""
-    flat_lesson = "".join(map(lesson_lines, range(264)))
-    deep_lesson = "".join(map(lesson_in_blocks, range(0, 240, NESTED + 1)))
-    deepest = m.MAX_DEPTH - 1
-    return [
-        Tree("lesson", parsed(oracle, folder, flat_lesson), None),
-        Tree("lesson in blocks", parsed(oracle, folder, deep_lesson), "lesson"),
-        Tree("instructions", repeated(gen.mn()), None),
-        Tree("blocks", repeated(deep_token(in_braces, deepest)), "instructions"),
-        Tree("parentheses", repeated(deep_token(in_parentheses, deepest)), "instructions"),
-        Tree("errors", repeated(gen.error(None)), None),
-        Tree("definitions", repeated(deep_token(in_definition, deepest)), "errors"),
-        Tree("one text", padded(b"", 0), None),
+    """Every shape in every size."""
+    made = [
+        (name, filled(oracle, folder, piece, size), None) for name, piece in SHAPES.items() for size in SIZES
     ]
+    made += [("tagged factors", repeated(data_of(PARENTHESES, True), size), None) for size in SIZES]
+    made += [(f"{name}, full room", stored, FULL_ROOM) for name, stored, _ in made[: len(SIZES)]]
+    return [Case("tree", name, DEFAULTS, stored, room) for name, stored, room in made]
 
 
-def deepest_case():
-    """A case of as many levels as a tree may have."""
-    return stored_case(check_case(repeated(deep_token(in_parentheses, m.MAX_DEPTH - 1))))
+def depths(oracle, folder):
+    """Pairs of trees of the same size, the second of which is twice as deep."""
+    size = SIZES[-1]
 
+    def lesson(levels):
+        return filled(oracle, folder, lambda number: lesson_in_blocks(levels, number * (levels + 1)), size)
 
-def measure(tree, replay, folder, rounds):
-    """A call is a case that is accepted, less a case of the column setter with the same bytes and no
-    options, which is refused before the bytes are looked at."""
-    accepted = stored_case(check_case(tree.stored))
-    refused = stored_case(join_case(b"", tree.stored, 0))
-    if read_answers(run([replay], accepted)) != ([check_due(None)], b""):
-        raise SystemExit(f"{tree.name}: replay does not accept the tree")
-    count = STREAM // len(accepted)
-    whole, rest = times_of(replay, [accepted * count, refused * count], folder, rounds)
-    counted = [instructions([replay], case * COUNTED) for case in (accepted, refused)]
-    reading = m.check_tree(tree.stored)
-    return Row(
-        tree.name,
-        len(tree.stored),
-        sum(1 for _ in m.records(reading)),
-        height(reading),
-        tree.flat,
-        (counted[0] - counted[1]) / COUNTED,
-        (whole - rest) / count,
-    )
+    def pair(name, options, make, levels):
+        return [Case("tree", f"{name}, {count} deep", options, make(count)) for count in levels]
+
+    def parentheses(tagged):
+        return lambda levels: repeated(data_of(levels, tagged), size)
+
+    half, whole = PARENTHESES // 2, PARENTHESES
+    return [
+        pair("lesson in blocks, indent 0", NO_INDENT, lesson, (HALF, WHOLE)),
+        pair("lesson in blocks, indent 4", DEFAULTS, lesson, (HALF, WHOLE)),
+        pair("parentheses", DEFAULTS, parentheses(False), (half, whole)),
+        pair("tagged factors", DEFAULTS, parentheses(True), (half, whole)),
+    ]
