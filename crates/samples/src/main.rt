@@ -2,6 +2,7 @@
 use answers::Answer;
 use libc::STDOUT_FILENO;
 use options::OptionsRead;
+use text::stores;
 
 // A number behind a space.
 fn show_number(n: usize) {
@@ -189,6 +190,43 @@ fn show_limits() {
     show_join(b"byte 128 in a text", b"\x00\x01\x00\x80", b"\x00", 64);
 }
 
+// Puts a definition without texts at a place of a tree; unless it is the last, its value follows.
+fn put_definition(tree: &mut [u8], at: usize, last: bool) {
+    if last {
+        stores::copy(b"\x06\x06\x19\x00\x19\x00", tree, at);
+        return;
+    }
+    stores::copy(b"\x06\x0e\x19\x00\x19\x00", tree, at);
+}
+
+// Puts definitions whose values are definitions behind a tree's first four bytes: the place behind them.
+fn put_nested(tree: &mut [u8], definitions: usize) -> usize {
+    let mut at: usize = 4;
+    let mut left = definitions;
+    while 0 < left {
+        if 400 < at {
+            return 0;
+        }
+        put_definition(tree, at, left == 1);
+        at += 6;
+        left -= 1;
+    }
+    at
+}
+
+// The tree call on a file of one definition; the leaves of the innermost stand two levels deeper than there are definitions.
+fn show_nested(name: &[u8], definitions: usize) {
+    let mut bytes = [0u8; 400];
+    bytes[0] = 24;
+    bytes[2] = 1;
+    let length = put_nested(&mut bytes, definitions);
+    let mut work = [0u8; 512];
+    let mut text = [0u8; 64];
+    if length <= 400 {
+        show_tree(name, &bytes[..length], b"\x00", &mut work, &mut text);
+    }
+}
+
 // The tree call: the sample, and what is refused before and behind the walk.
 fn show_trees() {
     let nop = b"\x18\x00\x01\x00\x0d\x02\x19\x02\x01\x00\x21";
@@ -205,6 +243,8 @@ fn show_trees() {
     );
     show_format(b"tree: nop in a work room of 5", nop, b"\x00", 5, 64);
     show_format(b"tree: nop in a buffer of 22", nop, b"\x00", 6, 22);
+    show_nested(b"tree of 64 levels", 62);
+    show_nested(b"tree of 65 levels", 63);
 }
 
 fn main() {
