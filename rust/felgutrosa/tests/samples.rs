@@ -233,5 +233,5 @@ fn a_lost_comment_is_told() {
     assert_eq!(lost(&tree, 12), Ok(None));
     assert_eq!(lost(NOP, 0), Ok(None));
     assert_eq!(lost(&[], 0), refused(Reason::TreeLength, 0));
-    assert_eq!(lost(&tree[..12], 0), refused(Reason::TreeLayout, 12));
+    assert_eq!(lost(&tree[..12], 0), refused(Reason::TreeLayout, 11));
 }

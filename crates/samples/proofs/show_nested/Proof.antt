@@ -1,3 +1,4 @@
+-- A tree in an array of 400 bytes, cut to its length.
 use native.Mathlib.Omega.{arith}
 use lib.ListN.{length-take}
 use borrow.Author.Needs.{needs}
