@@ -86,11 +86,11 @@ CALLS = [
     ("losses", [(581, 563), (569, 563)]),
 ]
 
-# the time of a check on two cores, rounded; the four lowest were only seen to take a few seconds
+# the time of a check in seconds, in a run of the whole gate, two crates at a time
 CHECK_TIMES = {
-    "answers": "a few s", "text": "a few s", "options": "a few s", "chunks": "a few s", "join": "58 s", "tree": "57 s",
-    "events": "8 s", "leaves": "37 s", "leads": "18 s", "expressions": "75 s", "tokens": "105 s", "reading": "8 s",
-    "losses": "40 s", "formatting": "30 s", "exports": "60 s", "samples": "50 s", "replay": "50 s",
+    "answers": 5, "text": 15, "options": 17, "chunks": 29, "join": 113, "tree": 91, "reader": 15, "printing": 19,
+    "tree_laws": 5, "events": 12, "leaves": 66, "reading": 11, "leads": 34, "expressions": 167, "tokens": 162,
+    "losses": 46, "formatting": 40, "exports": 46, "wording": 89, "samples": 70, "replay": 124, "lesson": 118,
 }
 
 LIBRARIES = {"io", "libc"}
@@ -193,7 +193,7 @@ def size_table(uses):
     yield "|---|---:|---:|---:|---:|---:|---:|"
     rows = {name: size_row(name) for name in uses}
     for name, sizes in rows.items():
-        yield f"| `{name}` | " + " | ".join(f"{size:,}" for size in sizes) + f" | {CHECK_TIMES.get(name, '–')} |"
+        yield f"| `{name}` | " + " | ".join(f"{size:,}" for size in sizes) + f" | {CHECK_TIMES.get(name, '–')} s |"
     yield "| in all | " + " | ".join(f"{sum(column):,}" for column in zip(*rows.values())) + " | |"
 
 
