@@ -14,7 +14,7 @@ from streams import Case, stored_case
 
 import gen
 import model
-from model import COMMENTS, LIST, PATH_ITEM, TOKENS, encode_options, head_of
+from model import COMMENTS, LIST, encode_options
 
 # The largest work room and text buffer that the program has, and its commands: the text, the records, the chunks, the losses.
 WORK, TEXT = 1048576, 2097152
@@ -63,39 +63,10 @@ def chunk_lines(stored):
 
 
 def losses(tree):
-    """The records that use a place, by offset: the letters, in order."""
+    """The records that use a place, by offset, each with its letters in order."""
     used = {}
-
-    def visit(rec, in_list):
-        for item in rec.items:
-            visit(item, item.kind in TOKENS)
-        if rec.kind in TOKENS:
-            if in_list and rec.kind == 9:
-                note("g", head_of(rec))
-            if rec.kind in (4, 6) and rec["value"] is not None and rec["value"].kind != 9:
-                note("c", head_of(rec["value"]))
-            if rec.kind == 14:
-                note("b", rec["colon"])
-        for child in rec.fields.values():
-            if child is None:
-                continue
-            if child.kind == 27 and not (rec.kind in (2, 3) and in_list):
-                note("a", child["lparen"])
-            visit(child, False)
-        if rec.kind == 41:
-            note("d", rec)
-        if rec.kind == PATH_ITEM:
-            note("e", rec)
-        if rec.kind == 38:
-            note("f", rec["register"])
-        if rec.kind == 37 and rec["rchar"] is not None and rec["addressing_mode"].text[0] not in (3, 4):
-            used.setdefault(rec["rchar"].off, (rec["rchar"], set()))[1].add("h")
-
-    def note(letter, rec):
-        if rec.comments():
-            used.setdefault(rec.off, (rec, set()))[1].add(letter)
-
-    visit(tree, False)
+    for rec, letter in model.place_records(tree):
+        used.setdefault(rec.off, (rec, set()))[1].add(letter)
     return [(rec, "".join(sorted(letters))) for _, (rec, letters) in sorted(used.items())]
 
 
