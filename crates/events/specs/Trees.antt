@@ -182,74 +182,99 @@ operandEvents mode rchar suffix =
 -- ---- the events of a tree: its context, where it stands, whether its own trivia are printed
 
 unfoldable pub eventsIn : Context → Place → Bool → Tree → Events
-eventsIn c place shown absent = nothing
-eventsIn c place shown (refused refusal) = stop refusal
-eventsIn c place shown (node offset trivia tree) = cond shown (triviaEvents c trivia) nothing ▹ eventsIn c place true tree
-eventsIn c place shown nil = endEvents c place
-eventsIn c place shown (cons item items) =
-    itemEvents c place item (eventsIn c (leaf plain) false item) (eventsIn c place true item) (λ next. eventsIn c next true items)
-eventsIn c place shown (Align tag value) = eventsIn c (leaf plain) false tag ▹ blank c ▹ eventsIn c (leaf plain) true value
-eventsIn c place shown (Assert tag value message) = eventsIn c (leaf plain) false tag ▹ blank c ▹ eventsIn c (leaf plain) true value ▹ space ▹ eventsIn c (leaf plain) true message
-eventsIn c place shown (Braces block) = eventsIn c (leaf plain) true block
-eventsIn c place shown (Config block) = eventsIn c (leaf plain) true block
-eventsIn c place shown (ConfigPair key eq value) = eventsIn c (leaf plain) false key ▹ blank c ▹ eventsIn c (leaf plain) true eq ▹ blank c ▹ eventsIn c (leaf plain) true value
-eventsIn c place shown (Data values size) = skipping values ▹ eventsIn c (leaf dataSize) false size ▹ blank c ▹ eventsIn c arguments true values
-eventsIn c place shown (Definition tag id value) = eventsIn c (leaf plain) false tag ▹ blank c ▹ eventsIn c (leaf plain) true id ▹ blank c ▹ eventsIn c (leaf plain) true value
-eventsIn c place shown (Eof unit) = skipping unit
-eventsIn c place shown (Error text) = eventsIn c (leaf plain) false text
-eventsIn c place shown (Expression expression) = eventsIn c (leaf plain) true expression
-eventsIn c place shown (If tagIf value then tagElse otherwise) =
-    eventsIn c (leaf plain) false tagIf ▹ blank c ▹ eventsIn c (leaf plain) true value ▹ blank c ▹ eventsIn c (leaf plain) true then
-    ▹ cond (stands tagElse) (elseEvents c (c .options .braces .position) (eventsIn c (leaf plain) true tagElse) (eventsIn c (leaf plain) true otherwise)) nothing
-eventsIn c place shown (Import tag args source filename block) =
-    eventsIn c (leaf plain) false tag ▹ blank c ▹ eventsIn c imports true args ▹ blank c ▹ eventsIn c (leaf plain) true source ▹ blank c
-    ▹ eventsIn c (leaf plain) true filename ▹ space ▹ eventsIn c (leaf plain) true block
-eventsIn c place shown (File tag filename) = eventsIn c (leaf plain) false tag ▹ blank c ▹ eventsIn c (leaf plain) true filename
-eventsIn c place shown (Instruction mnemonic′ operand) = eventsIn c (leaf mnemonic) false mnemonic′ ▹ space ▹ eventsIn c (leaf plain) true operand ▹ clear
-eventsIn c place shown (Label id colon block) = eventsIn c labelled false id ▹ skipping colon ▹ eventsIn c (leaf plain) true block
-eventsIn c place shown (Loop tag expr block) = eventsIn c (leaf plain) false tag ▹ blank c ▹ eventsIn c (leaf plain) true expr ▹ blank c ▹ eventsIn c (leaf plain) true block
-eventsIn c place shown (MacroDefinition tag id lparen args rparen block) =
-    eventsIn c (leaf plain) false tag ▹ blank c ▹ eventsIn c (leaf plain) true id ▹ eventsIn c (leaf plain) true lparen
-    ▹ eventsIn c arguments true args ▹ eventsIn c (leaf plain) true rparen ▹ space ▹ eventsIn c (leaf plain) true block
-eventsIn c place shown (MacroInvocation id lparen args rparen) =
-    eventsIn c (leaf plain) false id ▹ eventsIn c (leaf plain) true lparen ▹ eventsIn c arguments true args ▹ eventsIn c (leaf plain) true rparen
-eventsIn c place shown (ProgramCounterDefinition star eq value) = eventsIn c (leaf plain) false star ▹ blank c ▹ eventsIn c (leaf plain) true eq ▹ blank c ▹ eventsIn c (leaf plain) true value
-eventsIn c place shown (Segment tag id block) = eventsIn c (leaf plain) false tag ▹ blank c ▹ eventsIn c (leaf plain) true id ▹ blank c ▹ eventsIn c (leaf plain) true block
-eventsIn c place shown (Test tag id block) = eventsIn c (leaf plain) false tag ▹ space ▹ eventsIn c (leaf plain) true id ▹ space ▹ eventsIn c (leaf plain) true block
-eventsIn c place shown (Text tag encoding′ text) = eventsIn c (leaf plain) false tag ▹ space ▹ eventsIn c (leaf encoding) true encoding′ ▹ space ▹ eventsIn c (leaf plain) true text
-eventsIn c place shown (Trace tag lparen args rparen) =
-    eventsIn c (leaf plain) false tag ▹ space ▹ eventsIn c (leaf plain) true lparen ▹ eventsIn c arguments true args
-    ▹ eventsIn c (leaf plain) true rparen
-eventsIn c place shown (VariableDefinition ty id eq value) =
-    eventsIn c (leaf variableType) false ty ▹ blank c ▹ eventsIn c (leaf plain) true id ▹ blank c ▹ eventsIn c (leaf plain) true eq ▹ blank c
-    ▹ eventsIn c (leaf plain) true value
-eventsIn c place shown (Vec items) = eventsIn c place true items
-eventsIn c place shown (Leaf text) = leafEvents c place text
-eventsIn c place shown (PathItem text) = word c (123 ∷ []) ▹ word c text ▹ word c (125 ∷ [])
-eventsIn c place shown (Block lparen inner rparen) =
-    opening c (c .options .braces .position) (eventsIn c (leaf plain) false lparen)
-    ▹ eventsIn (deeper c) (tokens true first (blockEnd rparen)) true inner ▹ trim ▹ newline c ▹ eventsIn c (leaf plain) false rparen
-eventsIn c place shown (BinaryExpression op lhs rhs) = skipping op ▹ eventsIn c (leaf plain) true lhs ▹ blank c ▹ eventsIn c (leaf operator) true op ▹ blank c ▹ eventsIn c (leaf plain) true rhs
-eventsIn c place shown (Factor factor tagNot tagNeg) =
-    cond (stands tagNot || stands tagNeg) (skipping factor) nothing
-    ▹ eventsIn c (leaf plain) true tagNot ▹ eventsIn c (leaf plain) true tagNeg ▹ eventsIn c (leaf plain) true factor
-eventsIn c place shown (CurrentProgramCounter star) = eventsIn c (leaf plain) true star
-eventsIn c place shown (ExprParens lparen inner rparen) = eventsIn c (leaf plain) true lparen ▹ eventsIn c (leaf plain) true inner ▹ eventsIn c (leaf plain) true rparen
-eventsIn c place shown (FunctionCall name lparen args rparen) =
-    eventsIn c (leaf plain) true name ▹ eventsIn c (leaf plain) true lparen ▹ eventsIn c arguments true args ▹ eventsIn c (leaf plain) true rparen
-eventsIn c place shown (IdentifierValue path modifier′) =
-    cond (stands modifier′) (skipping path) nothing ▹ eventsIn c (leaf modifier) true modifier′ ▹ eventsIn c (leaf plain) true path
-eventsIn c place shown (Number ty value) = eventsIn c (leaf numberType) true ty ▹ eventsIn c (leaf plain) true value
-eventsIn c place shown (StringFactor string) = eventsIn c (leaf plain) true string
-eventsIn c place shown (InterpolatedString lquote items) = eventsIn c (leaf plain) true lquote ▹ eventsIn c inString true items ▹ word c (34 ∷ [])
-eventsIn c place shown (Operand expr lchar rchar mode suffix) =
-    cond (stands lchar) (skipping expr) nothing ▹ eventsIn c (leaf plain) true lchar ▹ eventsIn c (leaf plain) true expr
-    ▹ skipping rchar ▹ skipping mode ▹ operandEvents (indexOf mode) (eventsIn c (leaf plain) true rchar) (eventsIn c (leaf plain) true suffix)
-eventsIn c place shown (RegisterSuffix comma register′) = eventsIn c (leaf plain) true comma ▹ space ▹ eventsIn c (leaf register) true register′ ▹ clear
-eventsIn c place shown (ImportAs tag path) = eventsIn c (leaf plain) true tag ▹ blank c ▹ eventsIn c (leaf plain) true path
-eventsIn c place shown (ImportAll star alias) = eventsIn c (leaf plain) true star ▹ space ▹ eventsIn c (leaf plain) true alias ▹ clear
-eventsIn c place shown (SpecificImportArg path alias) = eventsIn c (leaf plain) true path ▹ space ▹ eventsIn c (leaf plain) true alias
-eventsIn c place shown (ArgItem value comma) = eventsIn c (leaf plain) (valueShown place) value ▹ eventsIn c (leaf plain) true comma ▹ space
+eventsIn context place shown absent = nothing
+eventsIn context place shown (refused refusal) = stop refusal
+eventsIn context place shown (node offset trivia tree) = cond shown (triviaEvents context trivia) nothing ▹ eventsIn context place true tree
+eventsIn context place shown nil = endEvents context place
+eventsIn context place shown (cons item items) =
+    itemEvents context place item (eventsIn context (leaf plain) false item) (eventsIn context place true item) (λ next. eventsIn context next true items)
+eventsIn context place shown (Align tag value) = eventsIn context (leaf plain) false tag ▹ blank context ▹ eventsIn context (leaf plain) true value
+eventsIn context place shown (Assert tag value message) =
+    eventsIn context (leaf plain) false tag ▹ blank context ▹ eventsIn context (leaf plain) true value ▹ space
+    ▹ eventsIn context (leaf plain) true message
+eventsIn context place shown (Braces block) = eventsIn context (leaf plain) true block
+eventsIn context place shown (Config block) = eventsIn context (leaf plain) true block
+eventsIn context place shown (ConfigPair key eq value) =
+    eventsIn context (leaf plain) false key ▹ blank context ▹ eventsIn context (leaf plain) true eq ▹ blank context
+    ▹ eventsIn context (leaf plain) true value
+eventsIn context place shown (Data values size) = skipping values ▹ eventsIn context (leaf dataSize) false size ▹ blank context ▹ eventsIn context arguments true values
+eventsIn context place shown (Definition tag id value) =
+    eventsIn context (leaf plain) false tag ▹ blank context ▹ eventsIn context (leaf plain) true id ▹ blank context
+    ▹ eventsIn context (leaf plain) true value
+eventsIn context place shown (Eof unit) = skipping unit
+eventsIn context place shown (Error text) = eventsIn context (leaf plain) false text
+eventsIn context place shown (Expression expression) = eventsIn context (leaf plain) true expression
+eventsIn context place shown (If tagIf value then tagElse otherwise) =
+    eventsIn context (leaf plain) false tagIf ▹ blank context ▹ eventsIn context (leaf plain) true value ▹ blank context
+    ▹ eventsIn context (leaf plain) true then
+    ▹ cond (stands tagElse)
+    (elseEvents context (context .options .braces .position) (eventsIn context (leaf plain) true tagElse) (eventsIn context (leaf plain) true otherwise))
+    nothing
+eventsIn context place shown (Import tag args source filename block) =
+    eventsIn context (leaf plain) false tag ▹ blank context ▹ eventsIn context imports true args ▹ blank context
+    ▹ eventsIn context (leaf plain) true source ▹ blank context ▹ eventsIn context (leaf plain) true filename ▹ space
+    ▹ eventsIn context (leaf plain) true block
+eventsIn context place shown (File tag filename) = eventsIn context (leaf plain) false tag ▹ blank context ▹ eventsIn context (leaf plain) true filename
+eventsIn context place shown (Instruction mnemonic′ operand) =
+    eventsIn context (leaf mnemonic) false mnemonic′ ▹ space ▹ eventsIn context (leaf plain) true operand ▹ clear
+eventsIn context place shown (Label id colon block) = eventsIn context labelled false id ▹ skipping colon ▹ eventsIn context (leaf plain) true block
+eventsIn context place shown (Loop tag expr block) =
+    eventsIn context (leaf plain) false tag ▹ blank context ▹ eventsIn context (leaf plain) true expr ▹ blank context
+    ▹ eventsIn context (leaf plain) true block
+eventsIn context place shown (MacroDefinition tag id lparen args rparen block) =
+    eventsIn context (leaf plain) false tag ▹ blank context ▹ eventsIn context (leaf plain) true id ▹ eventsIn context (leaf plain) true lparen
+    ▹ eventsIn context arguments true args ▹ eventsIn context (leaf plain) true rparen ▹ space ▹ eventsIn context (leaf plain) true block
+eventsIn context place shown (MacroInvocation id lparen args rparen) =
+    eventsIn context (leaf plain) false id ▹ eventsIn context (leaf plain) true lparen ▹ eventsIn context arguments true args
+    ▹ eventsIn context (leaf plain) true rparen
+eventsIn context place shown (ProgramCounterDefinition star eq value) =
+    eventsIn context (leaf plain) false star ▹ blank context ▹ eventsIn context (leaf plain) true eq ▹ blank context
+    ▹ eventsIn context (leaf plain) true value
+eventsIn context place shown (Segment tag id block) =
+    eventsIn context (leaf plain) false tag ▹ blank context ▹ eventsIn context (leaf plain) true id ▹ blank context
+    ▹ eventsIn context (leaf plain) true block
+eventsIn context place shown (Test tag id block) =
+    eventsIn context (leaf plain) false tag ▹ space ▹ eventsIn context (leaf plain) true id ▹ space ▹ eventsIn context (leaf plain) true block
+eventsIn context place shown (Text tag encoding′ text) =
+    eventsIn context (leaf plain) false tag ▹ space ▹ eventsIn context (leaf encoding) true encoding′ ▹ space
+    ▹ eventsIn context (leaf plain) true text
+eventsIn context place shown (Trace tag lparen args rparen) =
+    eventsIn context (leaf plain) false tag ▹ space ▹ eventsIn context (leaf plain) true lparen ▹ eventsIn context arguments true args
+    ▹ eventsIn context (leaf plain) true rparen
+eventsIn context place shown (VariableDefinition ty id eq value) =
+    eventsIn context (leaf variableType) false ty ▹ blank context ▹ eventsIn context (leaf plain) true id ▹ blank context
+    ▹ eventsIn context (leaf plain) true eq ▹ blank context ▹ eventsIn context (leaf plain) true value
+eventsIn context place shown (Vec items) = eventsIn context place true items
+eventsIn context place shown (Leaf text) = leafEvents context place text
+eventsIn context place shown (PathItem text) = word context (123 ∷ []) ▹ word context text ▹ word context (125 ∷ [])
+eventsIn context place shown (Block lparen inner rparen) =
+    opening context (context .options .braces .position) (eventsIn context (leaf plain) false lparen)
+    ▹ eventsIn (deeper context) (tokens true first (blockEnd rparen)) true inner ▹ trim ▹ newline context ▹ eventsIn context (leaf plain) false rparen
+eventsIn context place shown (BinaryExpression op lhs rhs) =
+    skipping op ▹ eventsIn context (leaf plain) true lhs ▹ blank context ▹ eventsIn context (leaf operator) true op ▹ blank context
+    ▹ eventsIn context (leaf plain) true rhs
+eventsIn context place shown (Factor factor tagNot tagNeg) =
+    cond (stands tagNot || stands tagNeg) (skipping factor) nothing ▹ eventsIn context (leaf plain) true tagNot
+    ▹ eventsIn context (leaf plain) true tagNeg ▹ eventsIn context (leaf plain) true factor
+eventsIn context place shown (CurrentProgramCounter star) = eventsIn context (leaf plain) true star
+eventsIn context place shown (ExprParens lparen inner rparen) =
+    eventsIn context (leaf plain) true lparen ▹ eventsIn context (leaf plain) true inner ▹ eventsIn context (leaf plain) true rparen
+eventsIn context place shown (FunctionCall name lparen args rparen) =
+    eventsIn context (leaf plain) true name ▹ eventsIn context (leaf plain) true lparen ▹ eventsIn context arguments true args
+    ▹ eventsIn context (leaf plain) true rparen
+eventsIn context place shown (IdentifierValue path modifier′) =
+    cond (stands modifier′) (skipping path) nothing ▹ eventsIn context (leaf modifier) true modifier′ ▹ eventsIn context (leaf plain) true path
+eventsIn context place shown (Number ty value) = eventsIn context (leaf numberType) true ty ▹ eventsIn context (leaf plain) true value
+eventsIn context place shown (StringFactor string) = eventsIn context (leaf plain) true string
+eventsIn context place shown (InterpolatedString lquote items) = eventsIn context (leaf plain) true lquote ▹ eventsIn context inString true items ▹ word context (34 ∷ [])
+eventsIn context place shown (Operand expr lchar rchar mode suffix) =
+    cond (stands lchar) (skipping expr) nothing ▹ eventsIn context (leaf plain) true lchar ▹ eventsIn context (leaf plain) true expr ▹ skipping rchar
+    ▹ skipping mode ▹ operandEvents (indexOf mode) (eventsIn context (leaf plain) true rchar) (eventsIn context (leaf plain) true suffix)
+eventsIn context place shown (RegisterSuffix comma register′) = eventsIn context (leaf plain) true comma ▹ space ▹ eventsIn context (leaf register) true register′ ▹ clear
+eventsIn context place shown (ImportAs tag path) = eventsIn context (leaf plain) true tag ▹ blank context ▹ eventsIn context (leaf plain) true path
+eventsIn context place shown (ImportAll star alias) = eventsIn context (leaf plain) true star ▹ space ▹ eventsIn context (leaf plain) true alias ▹ clear
+eventsIn context place shown (SpecificImportArg path alias) = eventsIn context (leaf plain) true path ▹ space ▹ eventsIn context (leaf plain) true alias
+eventsIn context place shown (ArgItem value comma) = eventsIn context (leaf plain) (valueShown place) value ▹ eventsIn context (leaf plain) true comma ▹ space
 
 -- the events of a file: a token list of which no newline is dropped, with no end of its own
 abbrev pub eventsOf : Context → Tree → Events
