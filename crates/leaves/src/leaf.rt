@@ -26,7 +26,7 @@ ghost use Rattle.leaves.specs.Texts.{styleOf};
 ghost use Rattle.leaves.specs.Leaves.{LeafClass, ownEvents, ownEnd};
 ghost use Rattle.leaves.specs.Records.{PrintsRecord, PrintsField};
 
-// The chunks of trivia that may be shown or not.
+// The chunks of trivia that may be shown or not. Most records have none: they are not worth a call.
 pub(crate) fn shown_trivia(
     tree: &[u8],
     at: usize,
@@ -38,6 +38,9 @@ pub(crate) fn shown_trivia(
 ) -> CodeFormatter
     ensures { λ r. ⌜ run (cond shown (triviaEvents context (itemsAt (now (tree .entry)) at count)) nothing) (going (now (room .entry)) state) ≡ going (now (room .exit)) r ⌝ }
 {
+    if count == 0 {
+        return state;
+    }
     if shown {
         return trivia::format_trivia(tree, at, count, context, room, state);
     }

@@ -209,7 +209,7 @@ fn read_parts(tree: &[u8], class: Class, own: Own, levels: usize, fault: usize) 
     }
 }
 
-// The record of a class at a place, with all its parts.
+// The record of a class at a place, with all its parts. A leaf, which is most of what a walk skips, ends here.
 pub(crate) fn read_record(
     tree: &[u8],
     at: usize,
@@ -224,6 +224,9 @@ pub(crate) fn read_record(
         return RecordRead::Refused(own::refusal_of(read));
     };
     let seen = own_fault(tree, own, fault);
+    if !has_parts(own) {
+        return RecordRead::Whole(own.end, seen);
+    }
     read_parts(tree, class, own, levels, seen)
 }
 
