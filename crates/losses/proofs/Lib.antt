@@ -12,3 +12,4 @@ pub mod Shown
 pub mod Searching
 pub mod Answered
 pub mod Telling
+pub mod Listing
