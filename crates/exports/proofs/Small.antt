@@ -19,8 +19,8 @@ use Rattle.chunks.specs.Stored.{Chunk, storedList}
 use Rattle.chunks.specs.Reading.{chunksOf}
 use Rattle.chunks.specs.Judging.{chunksChecked}
 use Rattle.chunks.proofs.Judging.{passed-short}
-use Rattle.join.specs.Setting.{marginsOf, textOf, unlessFailed, outcomeOn, joinOutcome}
-use Rattle.join.specs.Promise.{Promised}
+use Rattle.columns.specs.Setting.{marginsOf, textOf, unlessFailed, outcomeOn, joinOutcome}
+use Rattle.columns.specs.Promise.{Promised}
 use Rattle.tree.specs.Checking.{readFile, batchChecked}
 use Rattle.tree.specs.Tree.{Tree}
 use Rattle.printing.specs.Holding.{Held, held, refused}

@@ -25,8 +25,8 @@ use Rattle.printing.specs.Holding.{Held, held, refused, hold, heldTexts}
 use Rattle.printing.proofs.Held.{hold-ink}
 use Rattle.events.specs.Accepted.{Acceptable}
 use Rattle.reading.proofs.Files.{file-ink, file-ink-eight}
-use Rattle.join.specs.Setting.{marginsOf, textOf, joinOutcome}
-use Rattle.join.specs.Promise.{Promised, Faithful}
+use Rattle.columns.specs.Setting.{marginsOf, textOf, joinOutcome}
+use Rattle.columns.specs.Promise.{Promised, Faithful}
 use Rattle.tokens.specs.Chunks.{fileEvents, heldUnless, chunksHeld, chunksAnswer, RoomHolds}
 use Rattle.formatting.specs.Formatting.{outcomeOf, formatted}
 use Rattle.formatting.specs.Demands.{Kept, LessonUnder, Lesson}

@@ -17,10 +17,10 @@ use Rattle.chunks.specs.Stored.{Chunk, storedIndent, storedHead, storedChunk, s
 use Rattle.chunks.specs.Reading.{textAt, chunkAt, chunksFrom, storedChunks, chunksAt}
 use Rattle.chunks.specs.Judging.{endFrom, layoutChecked, chunksChecked}
 use Rattle.chunks.specs.Judging as judging
-use Rattle.join.specs.Pieces.{cut, piecesOf, pieces}
-use Rattle.join.specs.Layout.{ignored, added, add, ends, standalone, setLine, keeps, after, keptLines}
-use Rattle.join.specs.Setting.{linesKept, textOf, joinOutcome}
-use Rattle.join.specs.Samples.{Sample, samples, usual}
+use Rattle.columns.specs.Pieces.{cut, piecesOf, pieces}
+use Rattle.columns.specs.Layout.{ignored, added, add, ends, standalone, setLine, keeps, after, keptLines}
+use Rattle.columns.specs.Setting.{linesKept, textOf, joinOutcome}
+use Rattle.columns.specs.Samples.{Sample, samples, usual}
 use Rattle.tree.specs.Tree.{built, chain}
 use Rattle.tree.specs.Own.{fieldsFit, mapFits, sizedEnd, triviumEnd, triviaEnd, triviaRead, textEnd, restOf, ownAt, readOwn}
 use Rattle.tree.specs.Reading.{triviaFrom, triviaTexts, fieldsDue, partsDue, readParts, read}

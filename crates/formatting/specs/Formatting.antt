@@ -6,7 +6,7 @@ use Rattle.options.specs.Stored.{readOptions}
 use Rattle.options.specs.declared.OptionsRead.{OptionsRead}
 use Rattle.options.specs.declared.OptionsRead.the-variants.{Options, Refused}
 use Rattle.printing.specs.Holding.{Held, held, refused}
-use Rattle.join.specs.Setting.{marginsOf, textOf}
+use Rattle.columns.specs.Setting.{marginsOf, textOf}
 use Rattle.tokens.specs.Chunks.{chunksHeld}
 
 -- the text of what is held

@@ -11,9 +11,9 @@ use borrow.Author.Tests.{ne-eqb, lt-ltb, leb-true, eqb-true, eqb-false}
 use Rattle.text.specs.Ink.{allBlank, trimEnd, leadingBlanks, inkEnd, spaces}
 use Rattle.text.proofs.Choices.{cond-both, by-test}
 use Rattle.text.proofs.Ink.{blank-append, spaces-blank, trim-blank, trim-append-ink, trim-take, ink-end-some, leading-lt, blank-front}
-use Rattle.join.specs.Layout.{Line, indentOf, standalone, setLine, Before, keeps, after}
+use Rattle.columns.specs.Layout.{Line, indentOf, standalone, setLine, Before, keeps, after}
 use Rattle.join.specs.Walk.{Narrow, Inked, cutOf, grownBy, CutFits}
-use Rattle.join.specs.declared.margins.Margins.{Margins}
+use Rattle.columns.specs.declared.Margins.{Margins}
 use Rattle.join.specs.declared.line.Measure.{Measure}
 use Rattle.join.specs.declared.lines.Past.{Past}
 use Rattle.join.specs.declared.lines.Cut.{Cut}

@@ -13,12 +13,12 @@ use Rattle.options.specs.declared.Alignment.{Alignment}
 use Rattle.options.specs.declared.Alignment.the-variants.{Left, Right}
 use Rattle.chunks.specs.declared.stored.ChunkType.{ChunkType}
 use Rattle.chunks.specs.declared.stored.ChunkType.the-variants.{Code, Label, Comment}
-use Rattle.join.specs.Pieces.{Piece}
-use Rattle.join.specs.Layout.{aligned, labelled, coded, commented, ignoredIn, ignored, laid}
+use Rattle.columns.specs.Pieces.{Piece}
+use Rattle.columns.specs.Layout.{aligned, labelled, coded, commented, ignoredIn, ignored, laid}
 use Rattle.join.specs.Walk.{Narrow, layAligned, layLabel, layCode, layComment, layOf}
-use Rattle.join.specs.declared.margins.Margins.{Margins}
-use Rattle.join.specs.declared.piece.Follows.{Follows}
-use Rattle.join.specs.declared.piece.Follows.the-variants.{Nothing, Newline, Other}
+use Rattle.columns.specs.declared.Margins.{Margins}
+use Rattle.columns.specs.declared.Follows.{Follows}
+use Rattle.columns.specs.declared.Follows.the-variants.{Nothing, Newline, Other}
 use Rattle.join.specs.declared.piece.Lay.{Lay}
 use Rattle.join.proofs.Pieces.{newline-lone}
 

@@ -9,10 +9,3 @@ pub mod Storing
 pub mod Walking
 pub mod Cuts
 pub mod Running
-pub mod Texts
-pub mod Ink
-pub mod Neatness
-pub mod Length
-pub mod Promises
-pub mod Samples
-pub mod Moving

@@ -12,7 +12,7 @@ use Rattle.text.specs.Lines.{onto, hasNewline, newlineAt, isNewline}
 use Rattle.text.proofs.Choices.{by-test}
 use Rattle.text.proofs.Lines.{newline-at-lt, newline-at-none}
 use Rattle.text.proofs.Parts.{part-slice}
-use Rattle.join.specs.Pieces.{Piece, cut, piecesOf, pieces}
+use Rattle.columns.specs.Pieces.{Piece, cut, piecesOf, pieces}
 use Rattle.join.specs.Walk.{Standing, piecesAt, pieceLength, pieceAt, Passed}
 use Rattle.join.specs.declared.piece.Spot.{Spot}
 

@@ -22,10 +22,10 @@ use Rattle.chunks.proofs.Reading.{chunk-laid, chunk-fits, chunk-end, chunks-at-
 use Rattle.chunks.proofs.Reading as reading
 use Rattle.chunks.proofs.Judging.{end-found, end-none}
 use Rattle.text.specs.Lines.{isNewline}
-use Rattle.join.specs.Pieces.{cut, following, piecesOf, pieces}
-use Rattle.join.specs.Layout.{isLast}
+use Rattle.columns.specs.Pieces.{cut, following, piecesOf, pieces}
+use Rattle.columns.specs.Layout.{isLast}
 use Rattle.join.specs.Walk.{Laid, Standing, piecesAt, Reached, Passed}
-use Rattle.join.specs.declared.piece.Follows.the-variants.{Newline, Other}
+use Rattle.columns.specs.declared.Follows.the-variants.{Newline, Other}
 use Rattle.join.specs.declared.piece.Spot.{Spot}
 use Rattle.join.proofs.Pieces.{newline-lone, slice-one}
 

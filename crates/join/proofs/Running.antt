@@ -17,11 +17,11 @@ use Rattle.text.proofs.Parts.{part-slice}
 use Rattle.text.proofs.Ink.{trim-append-blank, ink-end-le}
 use Rattle.text.proofs.Buffers.{sets-append, stored-append}
 use Rattle.chunks.specs.Reading.{chunksOf}
-use Rattle.join.specs.Pieces.{Piece, cut, piecesOf, pieces}
-use Rattle.join.specs.Layout.{Line, fresh, Before, add, ends, keeps, after, withLine, keptLines, setLine}
-use Rattle.join.specs.Setting.{linesKept, textOf}
+use Rattle.columns.specs.Pieces.{Piece, cut, piecesOf, pieces}
+use Rattle.columns.specs.Layout.{Line, fresh, Before, add, ends, keeps, after, withLine, keptLines, setLine}
+use Rattle.columns.specs.Setting.{linesKept, textOf}
 use Rattle.join.specs.Walk.{Narrow, Standing, Reached, piecesAt, First, firstLine, lineAt, LineWalked, puts, cutOf, lineStart, grownBy, front, cutBytes, CutFits, Showing, windowTo, Tried, astray}
-use Rattle.join.specs.declared.margins.Margins.{Margins}
+use Rattle.columns.specs.declared.Margins.{Margins}
 use Rattle.join.specs.declared.piece.Spot.{Spot}
 use Rattle.join.specs.declared.line.Walked.{Walked}
 use Rattle.join.specs.declared.line.Window.{Window}

@@ -17,12 +17,12 @@ use Rattle.chunks.specs.declared.stored.ChunkType.{ChunkType}
 use Rattle.chunks.specs.declared.stored.ChunkType.the-variants.{Code, Label, Comment}
 use Rattle.text.specs.Lines.{newlineAt}
 use Rattle.chunks.specs.Reading.{chunksAt}
-use Rattle.join.specs.Pieces.{following}
-use Rattle.join.specs.Layout.{ignored, laid, added, ends}
+use Rattle.columns.specs.Pieces.{following}
+use Rattle.columns.specs.Layout.{ignored, laid, added, ends}
 use Rattle.join.specs.Walk.{Narrow, Standing, Passed, layAligned, layOf, pieceAt, Stepped, Whole, LoneNewline}
-use Rattle.join.specs.declared.margins.Margins.{Margins}
-use Rattle.join.specs.declared.piece.Follows.{Follows}
-use Rattle.join.specs.declared.piece.Follows.the-variants.{Nothing, Newline, Other}
+use Rattle.columns.specs.declared.Margins.{Margins}
+use Rattle.columns.specs.declared.Follows.{Follows}
+use Rattle.columns.specs.declared.Follows.the-variants.{Nothing, Newline, Other}
 use Rattle.join.specs.declared.piece.Lay.{Lay}
 use Rattle.join.specs.declared.piece.PieceEnd.{PieceEnd}
 use Rattle.join.specs.declared.piece.Spot.{Spot}

@@ -9,13 +9,13 @@ use lib.Seq.{length-slice}
 use lib.Dec.{eqb}
 use Rattle.text.specs.Ink.{allBlank, leadingBlanks, trimEnd}
 use Rattle.text.proofs.Choices.{by-test, true-false}
-use Rattle.join.specs.Layout.{Line, fresh, add, added, ends, indentWith, indentOf}
+use Rattle.columns.specs.Layout.{Line, fresh, add, added, ends, indentWith, indentOf}
 use Rattle.join.specs.Walk.{Standing, Stepped, Measured, LineWalked, piecesAt, pieceAt, firstLine, lineAt, taken, Longer, Ran, puts, Showing, RanShown, Inked, Fits}
-use Rattle.join.specs.declared.margins.Margins.{Margins}
+use Rattle.columns.specs.declared.Margins.{Margins}
 use Rattle.join.specs.declared.piece.Spot.{Spot}
 use Rattle.join.specs.declared.piece.Step.{Step}
-use Rattle.join.specs.declared.line.Indent.{Indent}
-use Rattle.join.specs.declared.line.Indent.the-variants.{Unset, Set}
+use Rattle.columns.specs.declared.Indent.{Indent}
+use Rattle.columns.specs.declared.Indent.the-variants.{Unset, Set}
 use Rattle.join.specs.declared.line.Measure.{Measure}
 use Rattle.join.specs.declared.line.Window.{Window}
 use Rattle.join.proofs.Measures.{inked-behind}

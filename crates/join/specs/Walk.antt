@@ -14,17 +14,17 @@ use Rattle.chunks.specs.Reading.{storedChunks, chunksAt}
 use Rattle.chunks.specs.Judging.{endFrom}
 use Rattle.chunks.specs.declared.stored.ChunkType.{ChunkType}
 use Rattle.chunks.specs.declared.stored.ChunkType.the-variants.{Code, Label, Comment}
-use Rattle.join.specs.Pieces.{Piece, cut, piecesOf, pieces, following}
-use Rattle.join.specs.Layout.{Line, fresh, indentOf, add, added, ends}
-use Rattle.join.specs.declared.margins.Margins.{Margins}
-use Rattle.join.specs.declared.piece.Follows.{Follows}
-use Rattle.join.specs.declared.piece.Follows.the-variants.{Nothing, Newline, Other}
+use Rattle.columns.specs.Pieces.{Piece, cut, piecesOf, pieces, following}
+use Rattle.columns.specs.Layout.{Line, fresh, indentOf, add, added, ends}
+use Rattle.columns.specs.declared.Margins.{Margins}
+use Rattle.columns.specs.declared.Follows.{Follows}
+use Rattle.columns.specs.declared.Follows.the-variants.{Nothing, Newline, Other}
 use Rattle.join.specs.declared.piece.Spot.{Spot}
 use Rattle.join.specs.declared.piece.Lay.{Lay}
 use Rattle.join.specs.declared.piece.Step.{Step}
 use Rattle.join.specs.declared.line.Measure.{Measure}
-use Rattle.join.specs.declared.line.Indent.{Indent}
-use Rattle.join.specs.declared.line.Indent.the-variants.{Unset, Set}
+use Rattle.columns.specs.declared.Indent.{Indent}
+use Rattle.columns.specs.declared.Indent.the-variants.{Unset, Set}
 use Rattle.join.specs.declared.line.Window.{Window}
 use Rattle.join.specs.declared.line.Walked.{Walked}
 use Rattle.join.specs.declared.lines.Past.{Past}

@@ -2,7 +2,6 @@
 pub mod clear;
 pub mod line;
 pub mod lines;
-pub mod margins;
 pub mod piece;
 pub mod setter;
 pub mod store;

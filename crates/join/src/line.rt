@@ -1,9 +1,10 @@
 // One line: measured, and written through a window.
-use crate::margins::Margins;
 use crate::piece;
 use crate::piece::Spot;
 use crate::piece::Step;
 use crate::store;
+use columns::Indent;
+use columns::Margins;
 use text::scans;
 ghost use mathlib.Core.Path.{_≡_};
 ghost use mathlib.Core.List.{List, _++_};
@@ -12,21 +13,15 @@ ghost use Prim.Native.Nat.{ℕ, _+_, _-_, _*_, _≤_, _<_, min, max};
 ghost use lib.ListN.{length};
 ghost use lib.Seq.{slice};
 ghost use Rattle.text.specs.Ink.{spaces};
-ghost use Rattle.join.specs.Layout.{indentOf};
+ghost use Rattle.columns.specs.Layout.{indentOf};
 ghost use Rattle.join.specs.Walk.{Narrow, Standing, Measured, Fits, taken, lineAt, LineWalked, Ran, RanShown, Showing, puts, Room, Empty};
-ghost use Rattle.join.specs.declared.line.Indent.the-variants.{Set};
+ghost use Rattle.columns.specs.declared.Indent.the-variants.{Set};
 
 // A line's length, the blanks before its first ink, and the place behind its last ink (0 for none).
 pub struct Measure {
     pub length: usize,
     pub leading: usize,
     pub ink_end: usize,
-}
-
-// The indent that a line takes from the first chunk to start on it.
-pub enum Indent {
-    Unset,
-    Set(usize),
 }
 
 // `count` spaces more.

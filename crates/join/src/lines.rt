@@ -3,10 +3,10 @@ use crate::line;
 use crate::line::Measure;
 use crate::line::Walked;
 use crate::line::Window;
-use crate::margins::Margins;
 use crate::piece;
 use crate::piece::Spot;
 use chunks::stored::ChunkType;
+use columns::Margins;
 use text::stores;
 ghost use mathlib.Core.Path.{_≡_};
 ghost use mathlib.Core.Bool.{true, cond};
@@ -16,7 +16,7 @@ ghost use lib.Seq.{sets};
 ghost use Rattle.text.specs.Ink.{inkEnd};
 ghost use Rattle.text.specs.Stores.{storedBuffer};
 ghost use Rattle.chunks.specs.Reading.{chunksOf};
-ghost use Rattle.join.specs.Setting.{textOf};
+ghost use Rattle.columns.specs.Setting.{textOf};
 ghost use Rattle.join.specs.Walk.{Narrow, Laid, Standing, lineAt, LineWalked, cutOf, lineStart, grownBy, front, cutBytes, CutFits, Room, windowTo, Tried, astray};
 
 // The text so far: its length, whether it has a line, whether the last line kept is blank, and whether a standalone comment came last.

@@ -1,8 +1,9 @@
 // The pieces of a chunk list: each chunk is cut after every newline. How each is laid on a line of a known length.
 use crate::clear;
-use crate::margins::Margins;
 use chunks::stored::ChunkType;
 use chunks::stored::StoredChunk;
+use columns::Follows;
+use columns::Margins;
 use options::Alignment;
 use text::numbers;
 use text::scans;
@@ -16,15 +17,8 @@ ghost use Rattle.text.specs.Numbers.{numberAt};
 ghost use Rattle.text.specs.Lines.{newlineAt};
 ghost use Rattle.chunks.specs.Reading.{typeOf, chunkAt, chunksAt, ChunkFits};
 ghost use Rattle.chunks.specs.declared.stored.ChunkAt.the-variants.{Found};
-ghost use Rattle.join.specs.Pieces.{following};
+ghost use Rattle.columns.specs.Pieces.{following};
 ghost use Rattle.join.specs.Walk.{Narrow, Laid, Standing, Reached, Passed, layLabel, layCode, layComment, layOf, pieceLength, Stepped, Whole, LoneNewline};
-
-// What follows a chunk: none, a chunk that is exactly a newline, or another chunk.
-pub enum Follows {
-    Nothing,
-    Newline,
-    Other,
-}
 
 // Where a walk stands: at `at` in the chunk whose text is list[start..end]; past the last chunk all three are the list's length.
 pub struct Spot {

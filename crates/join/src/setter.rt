@@ -1,20 +1,19 @@
 // The column setter over arbitrary bytes.
 use crate::lines;
-use crate::margins;
-use crate::margins::Margins;
 use answers::Answer;
 use answers::Checked;
 use answers::Reason;
 use answers::Refusal;
 use chunks::list;
+use columns::Margins;
 use options::OptionsRead;
 ghost use mathlib.Core.Path.{_≡_};
 ghost use lib.ListN.{length};
 ghost use Rattle.answers.specs.Texts.{answerIn, bufferAfter};
 ghost use Rattle.chunks.specs.Reading.{chunksOf};
 ghost use Rattle.chunks.specs.Judging.{chunksChecked};
-ghost use Rattle.join.specs.Setting.{textOf, unlessFailed, joinOutcome};
-ghost use Rattle.join.specs.Promise.{Promised};
+ghost use Rattle.columns.specs.Setting.{textOf, unlessFailed, joinOutcome};
+ghost use Rattle.columns.specs.Promise.{Promised};
 ghost use Rattle.join.specs.Walk.{Narrow};
 
 // The setter at given margins: refusals 6, 7 and 9.
@@ -47,7 +46,7 @@ pub fn join_chunks(chunks: &[u8], options: &[u8], text: &mut [u8]) -> Answer
 {
     let read = options::read_options(options);
     match read {
-        OptionsRead::Options(options) => join_with(chunks, margins::margins_of(options), text),
+        OptionsRead::Options(options) => join_with(chunks, columns::margins_of(options), text),
         OptionsRead::Refused(refusal) => Answer::Refused(refusal),
     }
 }

@@ -3,7 +3,7 @@ use Prim.Native.Nat.{_-_}
 use native.Mathlib.Omega.{arith}
 use lib.ListN.{length}
 use Rattle.chunks.specs.Reading.{chunksOf}
-use Rattle.join.specs.Setting.{textOf}
+use Rattle.columns.specs.Setting.{textOf}
 use Rattle.join.proofs.Running.{Running, running-start, running-length, line-small, running-on}
 use Rattle.join.proofs.lines.measure_lines.Statement.{statement}
 use Rattle.join.proofs.lines.measure_lines.Tie as tie

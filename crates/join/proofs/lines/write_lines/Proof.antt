@@ -4,7 +4,7 @@ use Prim.Native.Nat.{_-_}
 use native.Mathlib.Omega.{arith}
 use lib.ListN.{length}
 use Rattle.chunks.specs.Reading.{chunksOf}
-use Rattle.join.specs.Setting.{textOf}
+use Rattle.columns.specs.Setting.{textOf}
 use Rattle.join.proofs.Running.{Holding, holding-start, holding-done, line-fits, line-small, astray-room, holding-on}
 use Rattle.join.proofs.lines.write_lines.Statement.{statement}
 use Rattle.join.proofs.lines.write_lines.Tie as tie

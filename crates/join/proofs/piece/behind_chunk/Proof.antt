@@ -2,7 +2,7 @@
 use mathlib.Core.Path.{sym, ap, _∙_}
 use borrow.Author.Tests.{eq-eqb, ne-eqb}
 use borrow.Author.Needs.{needs}
-use Rattle.join.specs.Pieces.{following}
+use Rattle.columns.specs.Pieces.{following}
 use Rattle.join.proofs.Places.{follows-nothing, follows-one, follows-other}
 use Rattle.join.proofs.piece.behind_chunk.Statement.{statement}
 use Rattle.join.proofs.piece.behind_chunk.Tie as tie

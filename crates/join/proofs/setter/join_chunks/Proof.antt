@@ -1,7 +1,7 @@
 -- By the options that are read: their refusal, or what the setter answers at their margins, which are bytes.
 use mathlib.Core.Path.{refl, sym, _∙_}
 use borrow.Author.Needs.{needs}
-use Rattle.join.specs.Setting.{joinOutcome}
+use Rattle.columns.specs.Setting.{joinOutcome}
 use Rattle.join.proofs.setter.join_chunks.Statement.{statement}
 use Rattle.join.proofs.setter.join_chunks.Tie as tie
 

@@ -9,9 +9,9 @@ use lib.Dec.{leb}
 use Rattle.chunks.specs.declared.stored.ChunkType.{ChunkType}
 use Rattle.chunks.specs.declared.stored.ChunkType.the-variants.{Code, Label, Comment}
 use Rattle.text.specs.Lines.{isNewline}
-use Rattle.join.specs.Pieces.{Piece}
-use Rattle.join.specs.Layout.{Line, fresh, add, ends}
-use Rattle.join.specs.declared.margins.Margins.{Margins}
+use Rattle.columns.specs.Pieces.{Piece}
+use Rattle.columns.specs.Layout.{Line, fresh, add, ends}
+use Rattle.columns.specs.declared.Margins.{Margins}
 
 -- ---- the line that pieces make
 

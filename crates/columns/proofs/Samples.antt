@@ -14,11 +14,11 @@ use Rattle.options.specs.Stored.{standing, valuesChecked, storedOptions, readOp
 use Rattle.chunks.specs.Stored.{storedIndent, storedHead, storedChunk, storedList}
 use Rattle.chunks.specs.Reading.{textAt, chunkAt, chunksFrom, storedChunks, chunksAt}
 use Rattle.chunks.specs.Judging.{endFrom, layoutChecked, textsChecked, chunksChecked}
-use Rattle.join.specs.Pieces.{cut, piecesOf, pieces}
-use Rattle.join.specs.Layout.{ignored, added, add, ends, standalone, setLine, keeps, after, keptLines}
-use Rattle.join.specs.Setting.{linesKept, textOf, joinOutcome}
+use Rattle.columns.specs.Pieces.{cut, piecesOf, pieces}
+use Rattle.columns.specs.Layout.{ignored, added, add, ends, standalone, setLine, keeps, after, keptLines}
+use Rattle.columns.specs.Setting.{linesKept, textOf, joinOutcome}
 use Rattle.text.specs.Literals.{ascii}
-use Rattle.join.specs.Samples.{Sample, samples}
+use Rattle.columns.specs.Samples.{Sample, samples}
 
 -- a buffer of so many marks
 abbrev marks : ℕ → List ℕ

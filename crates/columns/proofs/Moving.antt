@@ -17,14 +17,14 @@ use Rattle.options.specs.declared.Alignment.the-variants.{Left, Right}
 use Rattle.chunks.specs.declared.stored.ChunkType.{ChunkType}
 use Rattle.chunks.specs.declared.stored.ChunkType.the-variants.{Code, Label, Comment}
 use Rattle.text.specs.Lines.{isNewline}
-use Rattle.join.specs.Pieces.{Piece}
-use Rattle.join.specs.Layout.{aligned, labelled, commented, ignoredIn, ignored, laid, added, Line, fresh, indentWith, add, isLast, ends, Before, keptLines}
-use Rattle.join.specs.Moving.{lineOn, lineOf, openOn, stillOpen, isLabel, isCode, loneNewline, allNewlines, oneLabelAlone}
-use Rattle.join.specs.declared.margins.Margins.{Margins}
-use Rattle.join.specs.declared.line.Indent.the-variants.{Set}
-use Rattle.join.specs.declared.piece.Follows.{Follows}
-use Rattle.join.specs.declared.piece.Follows.the-variants.{Nothing, Newline, Other}
-use Rattle.join.proofs.Texts.{textsOf, Each, added-between}
+use Rattle.columns.specs.Pieces.{Piece}
+use Rattle.columns.specs.Layout.{aligned, labelled, commented, ignoredIn, ignored, laid, added, Line, fresh, indentWith, add, isLast, ends, Before, keptLines}
+use Rattle.columns.specs.Moving.{lineOn, lineOf, openOn, stillOpen, isLabel, isCode, loneNewline, allNewlines, oneLabelAlone}
+use Rattle.columns.specs.declared.Margins.{Margins}
+use Rattle.columns.specs.declared.Indent.the-variants.{Set}
+use Rattle.columns.specs.declared.Follows.{Follows}
+use Rattle.columns.specs.declared.Follows.the-variants.{Nothing, Newline, Other}
+use Rattle.columns.proofs.Texts.{textsOf, Each, added-between}
 
 -- each piece has a text
 abbrev pub AllSome : List Piece → Type 0

@@ -12,9 +12,9 @@ use Rattle.options.specs.declared.OptionsRead.the-variants.{Options, Refused}
 use Rattle.chunks.specs.Stored.{Chunk}
 use Rattle.chunks.specs.Reading.{chunksOf}
 use Rattle.chunks.specs.Judging.{chunksChecked}
-use Rattle.join.specs.Pieces.{pieces}
-use Rattle.join.specs.Layout.{Line, fresh, atStart, keptLines, setLine}
-use Rattle.join.specs.declared.margins.Margins.{Margins}
+use Rattle.columns.specs.Pieces.{pieces}
+use Rattle.columns.specs.Layout.{Line, fresh, atStart, keptLines, setLine}
+use Rattle.columns.specs.declared.Margins.{Margins}
 
 -- the lines kept, as laid out
 unfoldable pub linesKept : Margins → List Chunk → List Line

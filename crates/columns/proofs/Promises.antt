@@ -13,17 +13,16 @@ use Rattle.chunks.specs.Reading.{chunksOf}
 use Rattle.chunks.specs.Judging.{chunksChecked}
 use Rattle.chunks.proofs.Judging.{passed-short}
 use Rattle.chunks.proofs.RoundTrip.{accepted-stored}
-use Rattle.join.specs.Setting.{textOf}
-use Rattle.join.specs.Promise.{Faithful}
-use Rattle.join.specs.Walk.{Narrow}
-use Rattle.join.specs.declared.margins.Margins.{Margins}
-use Rattle.join.proofs.Ink.{text-ink}
-use Rattle.join.proofs.Neatness.{text-blanks, text-empties}
-use Rattle.join.proofs.Length.{text-short}
+use Rattle.columns.specs.Setting.{textOf}
+use Rattle.columns.specs.Promise.{Faithful}
+use Rattle.columns.specs.declared.Margins.{Margins}
+use Rattle.columns.proofs.Ink.{text-ink}
+use Rattle.columns.proofs.Neatness.{text-blanks, text-empties}
+use Rattle.columns.proofs.Length.{text-short}
 
 -- the text of a list that was accepted keeps the ink, is neat, and is short
-pub text-faithful : (margins : Margins) (list : List ℕ) → Narrow margins → Bytes list → chunksChecked list ≡ Passed → Faithful (chunksOf list) (textOf margins (chunksOf list))
-text-faithful margins list narrow bytes passed =
+pub text-faithful : (margins : Margins) (list : List ℕ) → margins .label ≤ 255 → margins .code ≤ 255 → Bytes list → chunksChecked list ≡ Passed → Faithful (chunksOf list) (textOf margins (chunksOf list))
+text-faithful margins list narrow-label narrow-code bytes passed =
     let chunks = chunksOf list in
     let stored = accepted-stored list bytes passed in
     let good = stored .1 in
@@ -31,7 +30,7 @@ text-faithful margins list narrow bytes passed =
       ink = text-ink margins chunks good;
       blanks = text-blanks margins chunks;
       empties = text-empties margins chunks;
-      short = text-short margins (narrow .label) (narrow .code) chunks good (rw (stored .0) (passed-short list passed));
+      short = text-short margins narrow-label narrow-code chunks good (rw (stored .0) (passed-short list passed));
     }
 
 -- a text that is longer than its buffer leaves the buffer

@@ -6,8 +6,8 @@ use lib.Dec.{eqb}
 use Rattle.text.specs.Lines.{onto, isNewline}
 use Rattle.chunks.specs.Stored.{Chunk}
 use Rattle.chunks.specs.declared.stored.ChunkType.{ChunkType}
-use Rattle.join.specs.declared.piece.Follows.{Follows}
-use Rattle.join.specs.declared.piece.Follows.the-variants.{Nothing, Newline, Other}
+use Rattle.columns.specs.declared.Follows.{Follows}
+use Rattle.columns.specs.declared.Follows.the-variants.{Nothing, Newline, Other}
 
 unfoldable pub cut : List ℕ → List (List ℕ)
 cut [] = []

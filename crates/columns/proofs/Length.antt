@@ -17,14 +17,14 @@ use Rattle.text.proofs.Ink.{ink-end-le}
 use Rattle.chunks.specs.Stored.{Chunk, storedChunk, storedList, AllWellFormed}
 use Rattle.chunks.specs.declared.stored.ChunkType.{ChunkType}
 use Rattle.chunks.proofs.Forms.{chunk-length}
-use Rattle.join.specs.Pieces.{Piece, cut, piecesOf, pieces, following}
-use Rattle.join.specs.Layout.{added, Line, fresh, indentWith, indentOf, add, standalone, placed, setLine, Before, atStart, keptLines}
-use Rattle.join.specs.Setting.{linesKept, textOf}
-use Rattle.join.specs.declared.margins.Margins.{Margins}
-use Rattle.join.specs.declared.line.Indent.{Indent}
-use Rattle.join.specs.declared.line.Indent.the-variants.{Unset, Set}
-use Rattle.join.specs.declared.piece.Follows.{Follows}
-use Rattle.join.proofs.Texts.{textsOf, flat-cut, Each, each-piece, added-between, keptBefore, kept-cases}
+use Rattle.columns.specs.Pieces.{Piece, cut, piecesOf, pieces, following}
+use Rattle.columns.specs.Layout.{added, Line, fresh, indentWith, indentOf, add, standalone, placed, setLine, Before, atStart, keptLines}
+use Rattle.columns.specs.Setting.{linesKept, textOf}
+use Rattle.columns.specs.declared.Margins.{Margins}
+use Rattle.columns.specs.declared.Indent.{Indent}
+use Rattle.columns.specs.declared.Indent.the-variants.{Unset, Set}
+use Rattle.columns.specs.declared.Follows.{Follows}
+use Rattle.columns.proofs.Texts.{textsOf, flat-cut, Each, each-piece, added-between, keptBefore, kept-cases}
 
 -- ---- what pieces may cost
 

@@ -14,11 +14,11 @@ use Rattle.options.specs.declared.Alignment.the-variants.{Left, Right}
 use Rattle.chunks.specs.Stored.{Chunk}
 use Rattle.chunks.specs.declared.stored.ChunkType.{ChunkType}
 use Rattle.chunks.specs.declared.stored.ChunkType.the-variants.{Code, Label, Comment}
-use Rattle.join.specs.Pieces.{Piece, cut, piecesOf, pieces, following}
-use Rattle.join.specs.Layout.{aligned, commented, laid, ignored, added, Line, fresh, add, ends, standalone, Before, keeps, after, keptLines}
-use Rattle.join.specs.declared.margins.Margins.{Margins}
-use Rattle.join.specs.declared.piece.Follows.{Follows}
-use Rattle.join.specs.declared.piece.Follows.the-variants.{Nothing, Newline, Other}
+use Rattle.columns.specs.Pieces.{Piece, cut, piecesOf, pieces, following}
+use Rattle.columns.specs.Layout.{aligned, commented, laid, ignored, added, Line, fresh, add, ends, standalone, Before, keeps, after, keptLines}
+use Rattle.columns.specs.declared.Margins.{Margins}
+use Rattle.columns.specs.declared.Follows.{Follows}
+use Rattle.columns.specs.declared.Follows.the-variants.{Nothing, Newline, Other}
 
 -- ---- pieces by their texts
 

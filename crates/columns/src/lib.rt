@@ -1,8 +1,8 @@
-// What the setter reads of the options.
+// What the text of a chunk list is, set in columns: the types that its definitions name, and what is read of the options. The code that sets it is crate `join`.
 use options::Alignment;
 use options::FormattingOptions;
 ghost use mathlib.Core.Path.{_≡_};
-ghost use Rattle.join.specs.Setting.{marginsOf};
+ghost use Rattle.columns.specs.Setting.{marginsOf};
 
 // The label margin L, the code margin C, and how a label is aligned in its margin.
 pub struct Margins {
@@ -11,7 +11,20 @@ pub struct Margins {
     pub alignment: Alignment,
 }
 
-pub(crate) fn margins_of(options: FormattingOptions) -> Margins
+// What follows a chunk: none, a chunk that is exactly a newline, or another chunk.
+pub enum Follows {
+    Nothing,
+    Newline,
+    Other,
+}
+
+// The indent that a line takes from the first chunk to start on it.
+pub enum Indent {
+    Unset,
+    Set(usize),
+}
+
+pub fn margins_of(options: FormattingOptions) -> Margins
     ensures { λ r. ⌜ r ≡ marginsOf options ⌝ }
 {
     let whitespace = options.whitespace;

@@ -14,12 +14,12 @@ use Rattle.text.proofs.Choices.{cond-both, by-test, true-false, and-true-right}
 use Rattle.text.proofs.Ink.{ink-blank, blank-no-ink, spaces-blank, newline-blank, trim-blank, trim-some, trim-ink, trim-append-ink, trim-append-blank, trim-ends}
 use Rattle.text.proofs.Lines.{newline-append, newline-spaces, lines-joined}
 use Rattle.chunks.specs.Stored.{Chunk}
-use Rattle.join.specs.Pieces.{Piece, pieces}
-use Rattle.join.specs.Layout.{added, Line, fresh, indentOf, add, isLast, ends, standalone, placed, setLine, Before, atStart, keeps, keptLines}
-use Rattle.join.specs.Setting.{linesKept, textOf}
-use Rattle.join.specs.declared.margins.Margins.{Margins}
-use Rattle.join.proofs.Texts.{textsOf, Each, each-piece, added-between, kept-cases}
-use Rattle.join.proofs.Ink.{set-ink}
+use Rattle.columns.specs.Pieces.{Piece, pieces}
+use Rattle.columns.specs.Layout.{added, Line, fresh, indentOf, add, isLast, ends, standalone, placed, setLine, Before, atStart, keeps, keptLines}
+use Rattle.columns.specs.Setting.{linesKept, textOf}
+use Rattle.columns.specs.declared.Margins.{Margins}
+use Rattle.columns.proofs.Texts.{textsOf, Each, each-piece, added-between, kept-cases}
+use Rattle.columns.proofs.Ink.{set-ink}
 
 -- ---- tidy bytes: no newline is left once trailing blanks are cut
 

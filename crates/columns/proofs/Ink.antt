@@ -2,11 +2,11 @@
 --   text-ink : (margins : Margins) (chunks : List Chunk) → AllWellFormed chunks → ink (textOf margins chunks) ≡ inks (texts chunks)
 use mathlib.Core.Path.{_≡_, refl, sym, ap, _∙_}
 use mathlib.Core.List.{List, [], _∷_, _++_, map, append-assoc}
-use mathlib.Core.Bool.{Bool, true, false, not, _&&_}
+use mathlib.Core.Bool.{Bool, true, false, not}
 use Prim.Native.Nat.{ℕ, _+_, _≤_}
 use native.Mathlib.Omega.{arith}
 use lib.ListN.{length, take, drop, take-append-drop}
-use lib.Dec.{eqb, ltb, leb}
+use lib.Dec.{eqb, ltb}
 use borrow.Author.Tests.{eqb-true}
 use Rattle.text.specs.Ink.{ink, inks, blank, allBlank, spaces}
 use Rattle.text.specs.Lines.{onto, isNewline}
@@ -16,19 +16,19 @@ use Rattle.text.proofs.Lines.{ink-joined}
 use Rattle.chunks.specs.Stored.{Chunk, AllWellFormed}
 use Rattle.chunks.specs.declared.stored.ChunkType.{ChunkType}
 use Rattle.chunks.specs.declared.stored.ChunkType.the-variants.{Code, Label, Comment}
-use Rattle.join.specs.Pieces.{Piece, cut, piecesOf, pieces, following}
-use Rattle.join.specs.Layout.{ignoredIn, ignored, added, Line, fresh, indentOf, add, isLast, ends, standalone, placed, setLine, Before, atStart, keeps, keptLines}
-use Rattle.join.specs.Setting.{linesKept, textOf}
-use Rattle.join.specs.Promise.{texts}
-use Rattle.join.specs.declared.margins.Margins.{Margins}
-use Rattle.join.specs.declared.piece.Follows.{Follows}
-use Rattle.join.proofs.Texts.{textsOf, flat-cut, texts-pieces, added-between, kept-cases}
+use Rattle.columns.specs.Pieces.{Piece, cut, piecesOf, pieces, following}
+use Rattle.columns.specs.Layout.{ignoredIn, ignored, added, Line, fresh, indentOf, add, isLast, ends, standalone, placed, setLine, Before, atStart, keeps, keptLines}
+use Rattle.columns.specs.Setting.{linesKept, textOf}
+use Rattle.columns.specs.Promise.{texts}
+use Rattle.columns.specs.declared.Margins.{Margins}
+use Rattle.columns.specs.declared.Follows.{Follows}
+use Rattle.columns.proofs.Texts.{textsOf, flat-cut, texts-pieces, added-between, kept-cases}
 
 -- ---- a piece
 
 -- only a newline is ignored
 ignored-newline : (ty : ChunkType) (margins : Margins) (n : ℕ) (text : List ℕ) → ignoredIn ty margins n text ≡ true → isNewline text ≡ true
-ignored-newline Code margins n text e = and-true-left (isNewline text) (ltb 0 n && leb n (margins .label)) e
+ignored-newline Code margins n text e = and-true-left (isNewline text) _ e
 ignored-newline Label margins n text e = true-false (sym e)
 ignored-newline Comment margins n text e = true-false (sym e)
 
