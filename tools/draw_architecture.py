@@ -32,7 +32,8 @@ BOXES = {
     "events": (397, 416, 172, 58, "a tree's events, as data"),
     "printing": (581, 416, 172, 58, "state, pushes, `run`"),
     "chunks": (795, 404, 130, 70, "stored chunk:|read, judge, append"),
-    "join": (967, 284, 156, 62, "the column setter"),
+    "join": (967, 284, 156, 58, "the column setter"),
+    "columns": (967, 416, 156, 58, "what its text is; laws"),
     "reader": (20, 532, 124, 66, "bytes and a place"),
     "tree_laws": (160, 532, 190, 66, "laws: bytes and trees|one to one"),
     "reading": (385, 532, 184, 66, "laws: reading order,|the eight places, ink"),
@@ -86,9 +87,9 @@ CALLS = [
     ("losses", [(581, 563), (569, 563)]),
 ]
 
-# the time of a check in seconds, in a run of the whole gate, two crates at a time
+# the time of a check in seconds, in a run of the whole gate, two crates at a time; of `columns` alone
 CHECK_TIMES = {
-    "answers": 5, "text": 15, "options": 17, "chunks": 29, "join": 113, "tree": 91, "reader": 15, "printing": 19,
+    "answers": 5, "text": 15, "options": 17, "chunks": 29, "columns": 3, "join": 113, "tree": 91, "reader": 15, "printing": 19,
     "tree_laws": 5, "events": 12, "leaves": 66, "reading": 11, "leads": 34, "expressions": 167, "tokens": 162,
     "losses": 46, "formatting": 40, "exports": 46, "wording": 89, "samples": 70, "replay": 124, "lesson": 118,
 }
@@ -154,7 +155,7 @@ def drawn(uses):
         parts.append(box(left, top, width, height, "#eef3fa", "#9db7d8", rx=6))
         parts.append(words(left + 12, top + 21, name, 12, fill="#1f5fa8"))
     for count, step in enumerate(STEPS):
-        parts.append(words(975, 376 + 32 * count, f"{count + 1}. {step}", 12))
+        parts.append(words(975, 364 + 20 * count, f"{count + 1}. {step}", 12))
     parts += [way(points, "#777777", "call", stroke_dasharray="4 3") for name, points in CALLS if name in uses]
     for left, top, width, height, text in DATA:
         parts.append(box(left, top, width, height, "#fbf1e6", "#b5651d", rx=16))
