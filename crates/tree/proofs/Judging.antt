@@ -6,7 +6,7 @@ use Prim.Native.Nat.{ℕ, _+_, _≤_, _<_}
 use native.Mathlib.Omega.{arith}
 use lib.Dec.{ltb}
 use lib.ListN.{length}
-use borrow.Author.Tests.{lt-ltb, le-ltb, ne-eqb}
+use borrow.Author.Tests.{lt-ltb, le-ltb}
 use Rattle.answers.specs.declared.Refusal.{Refusal}
 use Rattle.answers.specs.declared.Reason.the-variants.{TreeLayout, NotAscii}
 use Rattle.answers.specs.declared.Checked.{Checked}
@@ -16,7 +16,7 @@ use Rattle.text.specs.Accepted.{acceptedText, faultAt}
 use Rattle.text.proofs.Accepted.{fault-some}
 use Rattle.text.proofs.Choices.{by-test}
 use Rattle.tree.specs.Reading.{Placed}
-use Rattle.tree.specs.Checking.{readFile, endChecked, textsChecked, treeChecked}
+use Rattle.tree.specs.Checking.{readFile, lengthChecked, endChecked, textsChecked, treeChecked}
 use Rattle.tree.specs.Walk.{faultFrom, recordOn, recordRead}
 use Rattle.tree.specs.declared.grammar.Class.the-variants.{Tokens}
 use Rattle.tree.specs.declared.check.RecordRead.{RecordRead}
@@ -56,14 +56,14 @@ judged-on : (bytes : List ℕ) (end : ℕ) (texts : List Placed) → ((text : Pl
 judged-on bytes end texts inside Passed = by-test (ltb end (length bytes)) (λ t. rw t) (λ t. rw t (texts-judged bytes (length bytes) texts (omega arith) inside))
 judged-on bytes end texts inside (Failed refusal) = refl
 
-module _ (limit levels : ℕ) (bytes : List ℕ) (some : length bytes ≡ 0 → ⊥) (short : length bytes ≤ limit)
+module _ (limit levels : ℕ) (bytes : List ℕ) (sized : lengthChecked limit bytes ≡ Passed)
     (read-file : RecordRead) (same : read-file ≡ recordRead bytes (length bytes) (readFile levels bytes)) where
   -- a file whose length is right is judged by its record
   judged-file : (found : RecordRead) → read-file ≡ found → treeChecked limit levels bytes ≡ judged bytes found
   unfolding treeChecked recordRead
   judged-file found is =
       let file = readFile levels bytes in
-      simp (ne-eqb _ _ some, le-ltb _ _ short)
+      rw sized
       (judged-on bytes (file .end) (file .texts) (texts-inside bytes levels Tokens 0) (file .checked) ∙ ap (judged bytes) (sym same ∙ is))
 
   -- a record is refused

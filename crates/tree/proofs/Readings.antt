@@ -5,7 +5,7 @@ use Prim.Native.Nat.{ℕ, zero, suc}
 use lib.ListN.{length}
 use lib.Dec.{leb}
 use Rattle.answers.specs.declared.Refusal.{Refusal}
-use Rattle.answers.specs.declared.Checked.the-variants.{Passed}
+use Rattle.answers.specs.declared.Checked.the-variants.{Passed, Failed}
 use Rattle.answers.specs.Numbers.{andThen}
 use Rattle.tree.specs.Own.{readOwn}
 use Rattle.tree.specs.Reading.{Reading, Reader, partsDue, readParts, recordOf, readOn, unread, read}
@@ -62,3 +62,13 @@ file-passed limit levels bytes e =
     let second = both-passed (reading .checked) (andThen (endChecked bytes (reading .end)) (textsChecked (reading .texts))) (first .1) in
     let third = both-passed (endChecked bytes (reading .end)) (textsChecked (reading .texts)) (second .1) in
     record { size = first .0; layout = second .0; end = third .0; texts = third .1 }
+
+-- and where every check passed the tree did
+pub passed-file : (limit levels : ℕ) (bytes : List ℕ) → FilePassed limit levels bytes → treeChecked limit levels bytes ≡ Passed
+unfolding treeChecked
+passed-file limit levels bytes file = rw (file .size, file .layout, file .end, file .texts)
+
+-- a tree of a wrong length is refused for that alone
+pub length-failed : (limit levels : ℕ) (bytes : List ℕ) (why : Refusal) → lengthChecked limit bytes ≡ Failed why → treeChecked limit levels bytes ≡ Failed why
+unfolding treeChecked
+length-failed limit levels bytes why failed = rw failed

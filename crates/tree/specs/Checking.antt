@@ -1,8 +1,9 @@
 -- The check of a tree: refusals 3, 4, 5 and 7 of document 01, with the limits on length and depth as arguments.
 use Prim.Native.Nat.{ℕ, _+_}
 use mathlib.Core.List.{List, [], _∷_}
-use mathlib.Core.Bool.{cond}
+use mathlib.Core.Bool.{Bool, cond}
 use lib.ListN.{length}
+use lib.Seq.{slice}
 use lib.Dec.{eqb, ltb}
 use Rattle.answers.specs.declared.Checked.{Checked}
 use Rattle.answers.specs.declared.Checked.the-variants.{Passed, Failed}
@@ -32,6 +33,10 @@ textsChecked [] = Passed
 textsChecked (text ∷ texts) =
     cond (acceptedText (text .bytes)) (textsChecked texts)
     (Failed (record { reason = NotAscii; place = text .place + faultAt (text .bytes) }))
+
+-- no byte behind the count of the file's list is above 127, so none of a text is
+abbrev pub plainTree : List ℕ → Bool
+plainTree bytes = acceptedText (slice 4 (length bytes) bytes)
 
 -- in checking order; "of 4 and 5 the one met first in reading is given"
 unfoldable pub treeChecked : ℕ → ℕ → List ℕ → Checked

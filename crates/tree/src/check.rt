@@ -17,11 +17,10 @@ ghost use mathlib.Core.Bool.{true, false};
 ghost use Prim.Native.Nat.{ℕ, _<_, _≤_, _+_, _-_};
 ghost use lib.ListN.{length};
 ghost use lib.Seq.{slice};
-ghost use Rattle.text.specs.Accepted.{acceptedText};
 ghost use Rattle.tree.specs.Grammar.{Slot};
 ghost use Rattle.tree.specs.Own.{OwnFits, triviaEnd};
 ghost use Rattle.tree.specs.Reading.{Due, slotClass, partsDue, textsOf, triviaTexts, read};
-ghost use Rattle.tree.specs.Checking.{readFile, treeChecked, batchChecked};
+ghost use Rattle.tree.specs.Checking.{readFile, plainTree, lengthChecked, treeChecked, batchChecked};
 ghost use Rattle.tree.specs.Walk.{slotCode, Plans, standing, NextOf, planSize, sizeWith, faultWith, faultFrom, recordRead, walked, walkerOf};
 ghost use Rattle.tree.specs.declared.own.Span.the-variants.{Behind};
 
@@ -231,12 +230,12 @@ pub(crate) fn read_record(
 }
 
 // Whether no byte behind the count of the file's list is above 127. One look at all of them takes less than one at each text.
-fn is_plain(tree: &[u8]) -> bool
-    ensures { λ r. ⌜ (r ≡ true → acceptedText (slice 4 (length (now (tree .entry))) (now (tree .entry))) ≡ true) ⌝ }
+pub fn is_plain(tree: &[u8]) -> bool
+    ensures { λ r. ⌜ r ≡ plainTree (now (tree .entry)) ⌝ }
 {
     let end = tree.len();
     if end < 4 {
-        return false;
+        return true;
     }
     scans::is_accepted(&tree[4..end])
 }
@@ -265,9 +264,9 @@ fn failed(reason: Reason, place: usize) -> Checked
     })
 }
 
-// Whether bytes are a stored tree of at most `limit` bytes and `levels` levels: refusals 3, 4, 5 and 7.
-pub fn check_within(tree: &[u8], limit: usize, levels: usize) -> Checked
-    ensures { λ r. ⌜ r ≡ treeChecked limit levels (now (tree .entry)) ⌝ }
+// Whether a tree has bytes, and at most `limit` of them: refusal 3.
+pub fn check_length(tree: &[u8], limit: usize) -> Checked
+    ensures { λ r. ⌜ r ≡ lengthChecked limit (now (tree .entry)) ⌝ }
 {
     let end = tree.len();
     if end == 0 {
@@ -275,6 +274,18 @@ pub fn check_within(tree: &[u8], limit: usize, levels: usize) -> Checked
     }
     if limit < end {
         return failed(Reason::TreeLength, 0);
+    }
+    Checked::Passed
+}
+
+// Whether bytes are a stored tree of at most `limit` bytes and `levels` levels: refusals 3, 4, 5 and 7.
+pub fn check_within(tree: &[u8], limit: usize, levels: usize) -> Checked
+    ensures { λ r. ⌜ r ≡ treeChecked limit levels (now (tree .entry)) ⌝ }
+{
+    let end = tree.len();
+    let sized = check_length(tree, limit);
+    if let Checked::Failed(_) = sized {
+        return sized;
     }
     let read = read_file(tree, levels);
     match read {

@@ -1,15 +1,15 @@
--- The scan tells it where there are bytes behind the count.
+-- The scan tells it where there are bytes behind the count; where there are none, none is above 127.
 use mathlib.Core.Path.{sym, ap, _∙_}
 use lib.ListN.{length}
 use Rattle.text.specs.Accepted.{acceptedText}
 use Rattle.text.proofs.Parts.{part-slice}
-use Rattle.text.proofs.Choices.{true-false}
+use Rattle.tree.proofs.Plain.{short-plain}
 use borrow.Author.Needs.{needs}
 use Rattle.tree.proofs.check.is_plain.Statement.{statement}
 use Rattle.tree.proofs.check.is_plain.Tie as tie
 
 returns : tie.Need-returns
-returns c = λ e. true-false (sym e)
+returns c = sym (short-plain (c .before .before .args .tree .now) (c .if1 .taken))
 
 part-is-accepted-start : tie.Need-part-is-accepted-start
 part-is-accepted-start c = search needs
@@ -23,7 +23,7 @@ is-accepted-requires c κs = search needs
 returns-2 : tie.Need-returns-2
 returns-2 c =
     let bytes = c .before .before .before .before .args .tree .now in
-    λ e. ap acceptedText (sym (part-slice 4 (length bytes) bytes)) ∙ sym (c .is-accepted .ensures) ∙ e
+    c .is-accepted .ensures ∙ ap acceptedText (part-slice 4 (length bytes) bytes)
 
 pub is-plain-spec : {M : Type 1} → statement M
 is-plain-spec =

@@ -1,5 +1,5 @@
 -- In a plain tree no text changes what was found, so the file's record is the one that is read with a byte found.
-use mathlib.Core.Path.{_∙_}
+use mathlib.Core.Path.{sym, _∙_}
 use borrow.Author.Tests.{not-false}
 use Rattle.tree.proofs.Plain.{file-plain}
 use borrow.Author.Needs.{needs}
@@ -26,13 +26,13 @@ enum-told c = search needs
 
 returns-2 : tie.Need-returns-2
 returns-2 c =
-    let plain = c .before .before .before .before .is-plain .ensures (not-false _ (c .before .before .before .if1 .left)) in
+    let plain = sym (c .before .before .before .before .is-plain .ensures) ∙ not-false _ (c .before .before .before .if1 .left) in
     let told = c .enum-told .given .1 in
     told ∙ file-plain _ plain _ _ _ (c .before .before .read-record2 .ensures) _ told
 
 returns-3 : tie.Need-returns-3
 returns-3 c =
-    let plain = c .before .before .before .before .before .is-plain .ensures (not-false _ (c .before .before .before .before .if1 .left)) in
+    let plain = sym (c .before .before .before .before .before .is-plain .ensures) ∙ not-false _ (c .before .before .before .before .if1 .left) in
     file-plain _ plain _ _ _ (c .before .before .before .read-record2 .ensures) _ (c .before .read .given .1)
 
 pub read-file-spec : {M : Type 1} → statement M
