@@ -45,7 +45,7 @@ use Rattle.tree.proofs.OwnBytes.{leafNumber}
 use Rattle.tree.proofs.Readings.{no-record}
 use Rattle.events.specs.Views.{ownTrivia, headOf, headTrivia, tokenNumber, stands, hasBlock, bitAt, blockBit}
 use Rattle.events.specs.Refusals.{firstRefusal, ownRefusal, headRefusal}
-use Rattle.events.proofs.OwnParts.{Fielded, token-number, record-headed, record-fields}
+use Rattle.events.proofs.OwnParts.{Fielded, token-number, both-stand, record-headed, record-fields}
 use Rattle.events.proofs.Refusals.{skip-passed, skip-refused}
 
 -- ---- what is claimed
@@ -527,6 +527,18 @@ module _ (levels : ℕ) (bytes : List ℕ) (class : Class) (at : ℕ) (own : Own
       let slots : List Slot = fields (own .kind) (rule class .value) in
       ap (λ (parts : List Due). stands (getD (readParts (read levels bytes) parts (own .end) .trees) place absent)) (record-fields bytes at class (suc levels) own is list .parts)
       ∙ field-stands (read levels bytes) (read-stands levels bytes) slots (own .map / 2) (own .end) place (rw same inside)
+
+  -- "`tag_else` and `else_` stand together or not at all"
+  pub else-stands : own .kind ≡ variant.If
+      → stands (getD (readParts (read levels bytes) (partsDue class own) (own .end) .trees) 3 absent)
+      ≡ stands (getD (readParts (read levels bytes) (partsDue class own) (own .end) .trees) 4 absent)
+  unfolding tokenNumber built
+  else-stands same =
+      let ten : 10 ≡ getD bytes at 0 = token-number (getD bytes at 0) variant.If [] [] (known-kind levels bytes class at own is ∙ ap Known same) in
+      let list : eqb (getD bytes at 0) 24 ≡ false = rw (← ten) refl in
+      let ends = record-fields bytes at class (suc levels) own is list .ends (rw (← ten) refl) in
+      part-stands variant.If 3 list same (omega arith) ∙ both-stand (own .map / 2) (rw (← ten) at ends)
+      ∙ sym (part-stands variant.If 4 list same (omega arith))
 
   -- the block of a record whose own bytes were read
   block-record : hasBlock (recordTree levels bytes class at own is) ≡ blockBit (getD bytes at 0) (own .map / 2)

@@ -6,3 +6,5 @@ pub mod Accepted
 pub mod OwnParts
 pub mod Refusals
 pub mod Heads
+pub mod Passed
+pub mod Judged

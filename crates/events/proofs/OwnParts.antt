@@ -6,13 +6,14 @@ use mathlib.Core.Path.{_≡_, refl, sym, ap, _∙_}
 use mathlib.Core.Logic.{_⊎_, inl, inr, ⊎-elim}
 use mathlib.Core.List.{List, [], append-nil}
 use mathlib.Core.Bool.{true, false}
-use Prim.Native.Nat.{ℕ, _+_, _/_}
+use Prim.Native.Nat.{ℕ, _+_, _/_, _%_}
+use native.Mathlib.Omega.{arith}
 use lib.ListN.{getD}
 use lib.Dec.{eqb}
 use borrow.Author.Tests.{eqb-true, eq-eqb}
 use Rattle.text.proofs.Choices.{by-test, true-false}
 use Rattle.tree.specs.Grammar.{kindOf, rule, fields}
-use Rattle.tree.specs.Own.{fieldsFit, ownOf, readOwn}
+use Rattle.tree.specs.Own.{fieldsFit, elseFits, ownOf, readOwn}
 use Rattle.tree.specs.Reading.{fieldsDue, partsDue}
 use Rattle.tree.specs.Stored.{storedWith}
 use Rattle.tree.specs.Tree.{Tree, built}
@@ -26,7 +27,7 @@ use Rattle.tree.specs.declared.own.TriviaSpan.{TriviaSpan}
 use Rattle.tree.proofs.KindLayout.{kindNumber, kind-number}
 use Rattle.tree.proofs.OwnBytes.{Headed, leafNumber, own-cases}
 use Rattle.tree.proofs.RoundTrip.{no-items, node-fits}
-use Rattle.events.specs.Views.{tokenNumber}
+use Rattle.events.specs.Views.{tokenNumber, bitAt}
 
 -- ---- numbers
 
@@ -88,6 +89,15 @@ leaf-other number leaf =
     (λ q. rw (eqb-true number 25 q))
     (λ q. let is : number ≡ 26 = eqb-true number 26 (rw q at leaf) in rw is)
 
+-- both fields behind the first branch of an `If` stand or none
+pub both-stand : (bits : ℕ) → elseFits 10 bits ≡ true → bitAt 3 bits ≡ bitAt 4 bits
+unfolding bitAt
+both-stand bits fits =
+    let same : bits / 8 % 2 ≡ bits / 16 % 2 = eqb-true _ _ fits in
+    let third : bits / 2 / 2 / 2 % 2 ≡ bits / 8 % 2 = omega arith in
+    let fourth : bits / 2 / 2 / 2 / 2 % 2 ≡ bits / 16 % 2 = omega arith in
+    rw (third ∙ same, fourth)
+
 -- ---- parts
 
 -- a record that is no list: its fields are due, and where it is no leaf its map fits them
@@ -95,6 +105,7 @@ pub record Fielded (bytes : List ℕ) (at : ℕ) (class : Class) (own : Own) : T
   pub other : eqb (getD bytes at 0) 24 ≡ false
   pub parts : partsDue class own ≡ fieldsDue (fields (own .kind) (rule class .value)) (own .map / 2)
   pub fits : leafNumber (getD bytes at 0) ≡ false → fieldsFit (fields (own .kind) (rule class .value)) (own .map / 2) ≡ true
+  pub ends : leafNumber (getD bytes at 0) ≡ false → elseFits (getD bytes at 0) (own .map / 2) ≡ true
 
 -- the kind of a record that was read is that of its byte, and may stand there
 pub record-headed : (bytes : List ℕ) (at : ℕ) (class : Class) (levels : ℕ) (own : Own) → readOwn bytes at class levels ≡ Record own
@@ -118,6 +129,7 @@ module _ (bytes : List ℕ) (at : ℕ) (class : Class) where
     other = list;
     parts = rw (no-items (rule class .items)) (append-nil (fieldsDue (fields kind (rule class .value)) (getD bytes (at + 1) 0 / 2)));
     fits = λ leaf. node-fits (rule class) (getD bytes at 0) kind (getD bytes (at + 1) 0) (headed .fits) list leaf .1;
+    ends = λ leaf. node-fits (rule class) (getD bytes at 0) kind (getD bytes (at + 1) 0) (headed .fits) list leaf .0;
   }
 
   -- a record that was read is a list or has its fields

@@ -2,7 +2,7 @@
 --   held-within : (tree options : List ℕ) (size : ℕ) → HeldWithin (chunksHeld tree options size)
 use mathlib.Core.Path.{_≡_, refl}
 use mathlib.Core.List.{List, [], _∷_}
-use mathlib.Core.Bool.{Bool, true, false, cond}
+use mathlib.Core.Bool.{Bool, true, false}
 use Prim.Native.Nat.{ℕ, zero, suc, _+_, _≤_}
 use native.Mathlib.Omega.{arith}
 use lib.ListN.{length}
@@ -22,6 +22,7 @@ use Rattle.chunks.proofs.Forms.{chunk-length}
 use Rattle.printing.specs.Events.{Events}
 use Rattle.printing.specs.Running.{withSpace}
 use Rattle.printing.specs.Holding.{Held, held, refused, heldLength, holdChunk, withoutNewlines, hold, Storable}
+use Rattle.printing.proofs.Stops.{Free, none, pushes, spaces, clears, trims, _and_}
 use Rattle.events.proofs.Accepted.{length-passed}
 use Rattle.events.proofs.Storable.{file-storable}
 use Rattle.tree.specs.Checking.{batchChecked}
@@ -30,7 +31,7 @@ use Rattle.tokens.specs.Chunks.{fileEvents, heldUnless, heldWith, chunksHeld}
 use Rattle.exports.proofs.Within.{Within}
 use Rattle.exports.proofs.ListPlaces.{ReadWithin, options-within}
 use Rattle.exports.proofs.TreePlaces.{tree-within}
-use Rattle.exports.proofs.Stops.{Free, none, pushes, spaces, clears, trims, _and_, file-free}
+use Rattle.exports.proofs.Stops.{file-free}
 
 -- what is held fits the longest list, and a refusal's place is small
 abbrev pub HeldWithin : Held → Type 0

@@ -1,8 +1,8 @@
 -- The events of a tree without refusal do not stop.
 --   file-free : (bytes : List ℕ) (options : FormattingOptions) → batchChecked bytes ≡ Passed → Free (fileEvents options bytes)
-use mathlib.Core.Path.{_≡_, refl, _∙_}
+use mathlib.Core.Path.{_≡_, _∙_}
 use mathlib.Core.List.{List, [], _∷_}
-use mathlib.Core.Bool.{Bool, true, false, cond, not, _&&_, _||_}
+use mathlib.Core.Bool.{Bool, true, false, cond, not, _||_}
 use Prim.Native.Nat.{ℕ}
 use lib.ListN.{getD}
 use lib.Dec.{eqb}
@@ -13,7 +13,6 @@ use Rattle.options.specs.declared.BracePosition.{BracePosition}
 use Rattle.options.specs.declared.BracePosition.the-variants.{SameLine, NewLine}
 use Rattle.options.specs.declared.FormattingOptions.{FormattingOptions}
 use Rattle.text.proofs.Choices.{cond-both}
-use Rattle.chunks.specs.declared.stored.ChunkType.{ChunkType}
 use Rattle.tree.specs.Tree.{Tree, Trivium, absent, refused, node, nil, cons, Align, Assert, Braces, Config, ConfigPair, Data, Definition, Eof, Error}
 use Rattle.tree.specs.Tree.{Expression, If, Import, File, Instruction, Label, Loop, MacroDefinition, MacroInvocation, ProgramCounterDefinition}
 use Rattle.tree.specs.Tree.{Segment, Test, Text, Trace, VariableDefinition, Vec, Leaf, PathItem, Block, BinaryExpression, Factor}
@@ -23,25 +22,18 @@ use Rattle.tree.specs.Checking.{readFile, batchChecked}
 use Rattle.tree.specs.declared.grammar.Class.the-variants.{Tokens}
 use Rattle.tree.proofs.Cases.{failed-passed, both-passed}
 use Rattle.tree.proofs.Readings.{file-passed}
-use Rattle.printing.specs.Events.{Events, nothing, push, space, clear, trim, stop, _▹_}
+use Rattle.printing.specs.Events.{Events}
 use Rattle.printing.specs.declared.Context.{Context}
-use Rattle.events.specs.Printed.{Style, plain, mnemonic, register, operator, dataSize, encoding, variableType, numberType, modifier}
+use Rattle.printing.proofs.Stops.{Free, none, pushes, spaces, clears, trims, _and_}
+use Rattle.events.specs.Printed.{plain, mnemonic, register, operator, dataSize, encoding, variableType, numberType, modifier}
 use Rattle.events.specs.Views.{ownTrivia, headTrivia, tokenNumber, stands, hasBlock, indexOf}
 use Rattle.events.specs.Refusals.{firstRefusal, ownRefusal, headRefusal}
 use Rattle.events.specs.Trees.{stopAt, skipping, triviumEvents, triviaEvents, onlyNewline, leadEvents, listTrivia, breaks, Before, first, behind, breakBefore}
 use Rattle.events.specs.Trees.{Closing, fileEnd, blockEnd, Place, leaf, labelled, arguments, imports, inString, tokens, closingEvents, endEvents, itemEvents}
 use Rattle.events.specs.Trees.{leafEvents, valueShown, deeper, opening, elseEvents, operandEvents, eventsIn}
 use Rattle.events.proofs.Refusals.{read-refusal}
+use Rattle.events.proofs.Passed.{own-passed, head-passed}
 use Rattle.tokens.specs.Chunks.{fileEvents}
-
-infixr 50 _and_
-pub data Free : Events → Type 0 where
-  none : Free nothing
-  pushes : {ty : ChunkType} {context : Context} {text : List ℕ} → Free (push ty context text)
-  spaces : Free space
-  clears : Free clear
-  trims : Free trim
-  _and_ : {first next : Events} → Free first → Free next → Free (first ▹ next)
 
 -- ---- of judgements in order that passed each did
 
@@ -58,116 +50,6 @@ five a b c d f e = let p = both-passed a (andThen b (andThen c (andThen d f))) e
 six : (a b c d f g : Checked) → andThen a (andThen b (andThen c (andThen d (andThen f g)))) ≡ Passed
     → (a ≡ Passed) × ((b ≡ Passed) × ((c ≡ Passed) × ((d ≡ Passed) × ((f ≡ Passed) × (g ≡ Passed)))))
 six a b c d f g e = let p = both-passed a (andThen b (andThen c (andThen d (andThen f g)))) e in (p .0, five b c d f g (p .1))
-
--- ---- a tree without refusal has none in its own bytes, and none on the way to its head
-
-own-passed : (tree : Tree) → firstRefusal tree ≡ Passed → ownRefusal tree ≡ Passed
-unfolding firstRefusal ownRefusal
-own-passed absent e = refl
-own-passed (refused refusal) e = failed-passed e
-own-passed (node place trivia tree) e = refl
-own-passed nil e = refl
-own-passed (cons item items) e = refl
-own-passed (Align tag value) e = refl
-own-passed (Assert tag value message) e = refl
-own-passed (Braces block) e = refl
-own-passed (Config block) e = refl
-own-passed (ConfigPair key eq value) e = refl
-own-passed (Data values size) e = refl
-own-passed (Definition tag id value) e = refl
-own-passed (Eof unit) e = refl
-own-passed (Error text) e = refl
-own-passed (Expression expression) e = refl
-own-passed (If tagIf value then tagElse otherwise) e = refl
-own-passed (Import tag args source filename block) e = refl
-own-passed (File tag filename) e = refl
-own-passed (Instruction mnemonic′ operand) e = refl
-own-passed (Label id colon block) e = refl
-own-passed (Loop tag expr block) e = refl
-own-passed (MacroDefinition tag id lparen args rparen block) e = refl
-own-passed (MacroInvocation id lparen args rparen) e = refl
-own-passed (ProgramCounterDefinition star eq value) e = refl
-own-passed (Segment tag id block) e = refl
-own-passed (Test tag id block) e = refl
-own-passed (Text tag encoding′ text) e = refl
-own-passed (Trace tag lparen args rparen) e = refl
-own-passed (VariableDefinition ty id eq value) e = refl
-own-passed (Vec items) e = refl
-own-passed (Leaf text) e = refl
-own-passed (PathItem text) e = refl
-own-passed (Block lparen inner rparen) e = refl
-own-passed (BinaryExpression op lhs rhs) e = refl
-own-passed (Factor factor tagNot tagNeg) e = refl
-own-passed (CurrentProgramCounter star) e = refl
-own-passed (ExprParens lparen inner rparen) e = refl
-own-passed (FunctionCall name lparen args rparen) e = refl
-own-passed (IdentifierValue path modifier′) e = refl
-own-passed (Number ty value) e = refl
-own-passed (StringFactor string) e = refl
-own-passed (InterpolatedString lquote items) e = refl
-own-passed (Operand expr lchar rchar mode suffix) e = refl
-own-passed (RegisterSuffix comma register′) e = refl
-own-passed (ImportAs tag path) e = refl
-own-passed (ImportAll star alias) e = refl
-own-passed (SpecificImportArg path alias) e = refl
-own-passed (ArgItem value comma) e = refl
-
-head-passed : (tree : Tree) → firstRefusal tree ≡ Passed → headRefusal tree ≡ Passed
-unfolding firstRefusal headRefusal
-head-passed absent e = refl
-head-passed (refused refusal) e = failed-passed e
-head-passed (node place trivia tree) e = head-passed tree e
-head-passed nil e = refl
-head-passed (cons item items) e = refl
-head-passed (Align tag value) e = let p = both-passed (firstRefusal tag) (firstRefusal value) e in own-passed tag (p .0)
-head-passed (Assert tag value message) e = let p = three (firstRefusal tag) (firstRefusal value) (firstRefusal message) e in own-passed tag (p .0)
-head-passed (Braces block) e = head-passed block e
-head-passed (Config block) e = head-passed block e
-head-passed (ConfigPair key eq value) e = let p = three (firstRefusal key) (firstRefusal eq) (firstRefusal value) e in own-passed key (p .0)
-head-passed (Data values size) e = let p = both-passed (firstRefusal values) (firstRefusal size) e in rw (p .0, own-passed size (p .1))
-head-passed (Definition tag id value) e = let p = three (firstRefusal tag) (firstRefusal id) (firstRefusal value) e in own-passed tag (p .0)
-head-passed (Eof unit) e = own-passed unit e
-head-passed (Error text) e = own-passed text e
-head-passed (Expression expression) e = head-passed expression e
-head-passed (If tagIf value then tagElse otherwise) e =
-    let p = five (firstRefusal tagIf) (firstRefusal value) (firstRefusal then) (firstRefusal tagElse) (firstRefusal otherwise) e in
-    own-passed tagIf (p .0)
-head-passed (Import tag args source filename block) e =
-    let p = five (firstRefusal tag) (firstRefusal args) (firstRefusal source) (firstRefusal filename) (firstRefusal block) e in
-    own-passed tag (p .0)
-head-passed (File tag filename) e = let p = both-passed (firstRefusal tag) (firstRefusal filename) e in own-passed tag (p .0)
-head-passed (Instruction mnemonic′ operand) e = let p = both-passed (firstRefusal mnemonic′) (firstRefusal operand) e in own-passed mnemonic′ (p .0)
-head-passed (Label id colon block) e = let p = three (firstRefusal id) (firstRefusal colon) (firstRefusal block) e in own-passed id (p .0)
-head-passed (Loop tag expr block) e = let p = three (firstRefusal tag) (firstRefusal expr) (firstRefusal block) e in own-passed tag (p .0)
-head-passed (MacroDefinition tag id lparen args rparen block) e =
-    let p = six (firstRefusal tag) (firstRefusal id) (firstRefusal lparen) (firstRefusal args) (firstRefusal rparen) (firstRefusal block) e in
-    own-passed tag (p .0)
-head-passed (MacroInvocation id lparen args rparen) e = let p = four (firstRefusal id) (firstRefusal lparen) (firstRefusal args) (firstRefusal rparen) e in own-passed id (p .0)
-head-passed (ProgramCounterDefinition star eq value) e = let p = three (firstRefusal star) (firstRefusal eq) (firstRefusal value) e in own-passed star (p .0)
-head-passed (Segment tag id block) e = let p = three (firstRefusal tag) (firstRefusal id) (firstRefusal block) e in own-passed tag (p .0)
-head-passed (Test tag id block) e = let p = three (firstRefusal tag) (firstRefusal id) (firstRefusal block) e in own-passed tag (p .0)
-head-passed (Text tag encoding′ text) e = let p = three (firstRefusal tag) (firstRefusal encoding′) (firstRefusal text) e in own-passed tag (p .0)
-head-passed (Trace tag lparen args rparen) e = let p = four (firstRefusal tag) (firstRefusal lparen) (firstRefusal args) (firstRefusal rparen) e in own-passed tag (p .0)
-head-passed (VariableDefinition ty id eq value) e = let p = four (firstRefusal ty) (firstRefusal id) (firstRefusal eq) (firstRefusal value) e in own-passed ty (p .0)
-head-passed (Vec items) e = refl
-head-passed (Leaf text) e = refl
-head-passed (PathItem text) e = refl
-head-passed (Block lparen inner rparen) e = let p = three (firstRefusal lparen) (firstRefusal inner) (firstRefusal rparen) e in own-passed lparen (p .0)
-head-passed (BinaryExpression op lhs rhs) e = let p = three (firstRefusal op) (firstRefusal lhs) (firstRefusal rhs) e in rw (p .0, own-passed lhs (p .1 .0))
-head-passed (Factor factor tagNot tagNeg) e = let p = three (firstRefusal factor) (firstRefusal tagNot) (firstRefusal tagNeg) e in own-passed factor (p .0)
-head-passed (CurrentProgramCounter star) e = refl
-head-passed (ExprParens lparen inner rparen) e = refl
-head-passed (FunctionCall name lparen args rparen) e = refl
-head-passed (IdentifierValue path modifier′) e = refl
-head-passed (Number ty value) e = refl
-head-passed (StringFactor string) e = refl
-head-passed (InterpolatedString lquote items) e = refl
-head-passed (Operand expr lchar rchar mode suffix) e = refl
-head-passed (RegisterSuffix comma register′) e = refl
-head-passed (ImportAs tag path) e = refl
-head-passed (ImportAll star alias) e = refl
-head-passed (SpecificImportArg path alias) e = refl
-head-passed (ArgItem value comma) e = refl
 
 -- ---- what surrounds trees
 

@@ -26,7 +26,7 @@ use Rattle.leaves.proofs.Leaves.{own-items}
 use Rattle.reading.specs.Places.{hasComment}
 use Rattle.losses.specs.Visits.{TokenClass, TakesIf, TakesHead}
 use Rattle.losses.specs.declared.firsts.Firsts.{Firsts}
-use Rattle.losses.proofs.Passed.{head-passed}
+use Rattle.events.proofs.Passed.{head-passed}
 use Rattle.losses.proofs.Records.{node-read}
 
 module _ (levels : ℕ) (bytes : List ℕ) (class : Class) (at : ℕ) {place : HeadRead} (same : place ≡ headAt levels bytes class at) where

@@ -1,6 +1,5 @@
 pub mod Table
 pub mod Along
-pub mod Passed
 pub mod Arms
 pub mod Comments
 pub mod Steps

@@ -38,7 +38,7 @@ use Rattle.reading.specs.Places.{atClosingCharacter}
 use Rattle.losses.specs.Visits.{behindField, indexIn, partTrees, Takes, TakesClosing}
 use Rattle.losses.specs.declared.firsts.Firsts.{Firsts}
 use Rattle.losses.proofs.Steps.{takes-used, takes-unused}
-use Rattle.losses.proofs.Passed.{own-passed}
+use Rattle.events.proofs.Passed.{own-passed}
 use Rattle.losses.proofs.Records.{node-read, inner-number}
 
 -- ---- fields, one behind the other

@@ -27,7 +27,7 @@ use Rattle.losses.specs.Visits.{firstOf, seenIn, listedBelow, usesAlong,
 use Rattle.losses.specs.declared.firsts.First.{First}
 use Rattle.losses.specs.declared.firsts.Firsts.{Firsts}
 use Rattle.losses.specs.declared.search.Searched.{Searched}
-use Rattle.losses.proofs.Passed.{own-passed}
+use Rattle.events.proofs.Passed.{own-passed}
 use Rattle.losses.proofs.Along.{parts-end, parts-checked}
 use Rattle.losses.proofs.Marks.{from-append, all-then}
 use Rattle.losses.proofs.Records.{record-uses}

@@ -2,3 +2,4 @@ pub mod Pushing
 pub mod Running
 pub mod Holding
 pub mod Held
+pub mod Stops

@@ -4,7 +4,7 @@ use mathlib.Core.Path.{_≡_, refl, sym, ap, _∙_}
 use mathlib.Core.Logic.{⊎-elim}
 use mathlib.Core.List.{List, [], _∷_}
 use mathlib.Core.Bool.{Bool, true, false, cond, _&&_}
-use Prim.Native.Nat.{ℕ, zero, suc, _+_, _-_, _/_, _%_, _<_, _≤_}
+use Prim.Native.Nat.{ℕ, zero, suc, _-_, _/_, _%_, _<_, _≤_}
 use lib.ListN.{getD, replicate}
 use lib.Dec.{eqb, leb}
 use native.Mathlib.Omega.{arith}
@@ -17,7 +17,7 @@ use Rattle.options.specs.declared.BracePosition.{BracePosition}
 use Rattle.options.specs.declared.BracePosition.the-variants.{SameLine, NewLine}
 use Rattle.tree.specs.Tree.{absent, built, chain}
 use Rattle.tree.specs.Grammar.{kindOf, rule, fields}
-use Rattle.tree.specs.Own.{elseFits, readOwn}
+use Rattle.tree.specs.Own.{readOwn}
 use Rattle.tree.specs.Reading.{Reader, due, fieldsDue, partsDue, readParts, read}
 use Rattle.tree.specs.declared.grammar.Class.{Class}
 use Rattle.tree.specs.declared.grammar.Class.the-variants.{Word, BareToken, BlockRecord, LocatedExpression, Tokens}
@@ -29,8 +29,7 @@ use Rattle.tree.specs.declared.own.Own.{Own}
 use Rattle.tree.specs.declared.own.OwnRead.{OwnRead}
 use Rattle.tree.specs.declared.own.OwnRead.the-variants as own-is
 use Rattle.tree.proofs.KindLayout.{kind-number}
-use Rattle.tree.proofs.OwnBytes.{leafNumber, own-cases}
-use Rattle.tree.proofs.RoundTrip.{node-fits}
+use Rattle.tree.proofs.OwnBytes.{leafNumber}
 use Rattle.printing.specs.Events.{Events, nothing, _▹_}
 use Rattle.printing.specs.Running.{Run, going, ended, run, placeOf, outcome, settled, Shown, Prints}
 use Rattle.printing.specs.declared.CodeFormatter.{CodeFormatter}
@@ -41,7 +40,7 @@ use Rattle.printing.proofs.Running.{alike, run-full, refused-before, done-befor
 use Rattle.events.specs.Printed.{plain}
 use Rattle.events.specs.Trees.{first, behind, tokens, leaf, oneOf, elseEvents, closingEvents, eventsIn}
 use Rattle.events.specs.Views.{tokenNumber, bitAt}
-use Rattle.events.proofs.OwnParts.{record-headed}
+use Rattle.events.proofs.OwnParts.{both-stand, record-headed, record-fields}
 use Rattle.leaves.specs.Lists.{itemTrees, itemsEnd}
 use Rattle.leaves.specs.Records.{fieldTrees, fieldsEnd, Opens}
 use Rattle.leaves.specs.declared.record.Opened.{Opened}
@@ -280,22 +279,6 @@ module _ (context : Context) (levels : ℕ) (bytes : List ℕ) (at : ℕ) {answe
 
 -- ---- what the own bytes of a token say of it
 
--- a map is the second byte
-map-read : (bytes : List ℕ) (at levels : ℕ) (class : Class) (own : Own) → readOwn bytes at class levels ≡ own-is.Record own → own .map ≡ getD bytes (at + 1) 0
-map-read bytes at levels class own =
-    own-cases bytes at class (λ (own : Own). own .map ≡ getD bytes (at + 1) 0)
-    (λ kind trivia headed number room. refl) (λ kind trivia end headed leaf stands text. refl) (λ kind trivia headed list no-text. refl)
-    levels own
-
--- both fields behind the first branch stand or none
-both-stand : (bits : ℕ) → elseFits 10 bits ≡ true → bitAt 3 bits ≡ bitAt 4 bits
-unfolding bitAt
-both-stand bits fits =
-    let same : bits / 8 % 2 ≡ bits / 16 % 2 = eqb-true _ _ fits in
-    let third : bits / 2 / 2 / 2 % 2 ≡ bits / 8 % 2 = omega arith in
-    let fourth : bits / 2 / 2 / 2 / 2 % 2 ≡ bits / 16 % 2 = omega arith in
-    rw (third ∙ same, fourth)
-
 -- the rules of both classes
 pub token-rule : (located : Bool) → (rule (tokenClass located) .items ≡ NoList) × (rule (tokenClass located) .last ≡ 23) × (rule (tokenClass located) .value ≡ LocatedExpression)
 token-rule true = (refl, refl, refl)
@@ -331,12 +314,12 @@ module _ {context : Context} {shown : Bool} {levels : ℕ} {bytes : List ℕ} {o
         let last23 = token-rule located .1 in
         let small : getD bytes at 0 ≤ 23 = omega (arith, number, range, last23) in
         let other = no-list (getD bytes at 0) small in
-        let fits = node-fits (rule (tokenClass located)) (getD bytes at 0) (own .kind) (getD bytes (at + 1) 0) (headed .fits) (other .0) (other .1) .0 in
+        let fits = record-fields bytes at (tokenClass located) levels own read-there (other .0) .ends (other .1) in
         record {
           small = small;
           known = headed .kindIs;
           fielded = rw (number, other .0, other .1);
-          ends = λ ten. rw (map-read bytes at levels (tokenClass located) own read-there) (both-stand _ (rw ten at fits));
+          ends = λ ten. both-stand (own .map / 2) (rw ten at fits);
         }
 
 -- ---- a token list
