@@ -23,7 +23,7 @@ BOXES = {
     "replay": (557, 50, 175, 66, "a program: answers|a stream of cases"),
     "lesson": (748, 50, 185, 66, "the command"),
     "wording": (949, 50, 186, 66, "what the command says"),
-    "formatting": (160, 152, 975, 54, "`format`: options, check, walk, join; then the work room is cleared"),
+    "formatting": (160, 152, 975, 54, "`format`: options, walk, a check where the walk does not settle it, join; then the work room is cleared"),
     "tree": (172, 284, 166, 104, "grammar of the 43|kinds, own bytes,|read, skip, head"),
     "tokens": (397, 284, 172, 58, "tokens, blocks, `chunks`"),
     "expressions": (581, 284, 172, 58, "strings, imports, operands"),

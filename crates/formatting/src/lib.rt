@@ -14,7 +14,7 @@ fn format_in(tree: &[u8], options: &[u8], work: &mut [u8], text: &mut [u8]) -> A
     ensures { λ _. ⌜ now (text .exit) ≡ bufferAfter (formatted (now (tree .entry)) (now (options .entry)) (length (now (work .entry)))) (now (text .entry)) ⌝ }
     ensures { λ _. ⌜ Lesson (now (tree .entry)) (now (options .entry)) (formatted (now (tree .entry)) (now (options .entry)) (length (now (work .entry)))) ⌝ }
 {
-    let walked = tokens::chunks(tree, options, work);
+    let walked = tokens::chunks_in_one_pass(tree, options, work);
     let Answer::Accepted(used) = walked else {
         return walked;
     };

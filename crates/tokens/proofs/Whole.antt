@@ -1,9 +1,9 @@
 -- The walk over a whole tree leaves the chunks that are held, or ends with the refusal that holding them meets.
---   whole-done : a run that went on, whole-ended : one that did not, whole-failed : a tree that was not accepted
+--   whole-walked : of a tree that was accepted, whole-failed : of one that was not
 use mathlib.Core.Path.{_≡_, refl, sym, ap, _∙_}
 use mathlib.Core.List.{List, [], reverse}
-use mathlib.Core.Bool.{Bool, false}
-use Prim.Native.Nat.{ℕ, _≤_}
+use mathlib.Core.Bool.{false}
+use Prim.Native.Nat.{ℕ}
 use native.Mathlib.Omega.{arith}
 use lib.ListN.{length, take, length-take}
 use Rattle.answers.specs.declared.Answer.{Answer}
@@ -13,20 +13,19 @@ use Rattle.answers.specs.declared.Refusal.{Refusal}
 use Rattle.options.specs.Types.{Narrow}
 use Rattle.options.specs.declared.FormattingOptions.{FormattingOptions}
 use Rattle.options.specs.declared.OptionsRead.the-variants as options-are
-use Rattle.chunks.specs.Stored.{Chunk, storedList}
-use Rattle.chunks.specs.Appending.{capacity}
+use Rattle.chunks.specs.Stored.{storedList}
 use Rattle.tree.specs.Checking.{batchChecked}
 use Rattle.tree.proofs.Readings.{file-passed}
-use Rattle.printing.specs.Running.{Run, going, ended, atStart, run, settled, outcome, Shown}
-use Rattle.printing.specs.Holding.{Held, held, refused, hold, Same, Holds}
+use Rattle.printing.specs.Running.{going, ended, atStart, run, settled, outcome}
+use Rattle.printing.specs.Holding.{Held, held, refused, hold, Same}
 use Rattle.printing.specs.declared.CodeFormatter.{CodeFormatter}
 use Rattle.printing.specs.declared.Printed.{Printed}
 use Rattle.printing.specs.declared.Printed.the-variants.{Done, Refused}
 use Rattle.printing.proofs.Holding.{holds-nothing, same}
-use Rattle.events.specs.Accepted.{Acceptable}
 use Rattle.events.proofs.Storable.{file-storable}
 use Rattle.events.proofs.Accepted.{length-passed, file-accepted}
-use Rattle.tokens.specs.Chunks.{fileEvents, heldWith, chunksAnswer, RoomHolds, roomOf, roomWith}
+use Rattle.tokens.specs.Chunks.{fileEvents, heldWith, chunksAnswer, RoomHolds, roomWith}
+use Rattle.tokens.specs.Settling.{Walks, printedAnswer}
 
 -- what is promised under given options
 pub record Whole (options : FormattingOptions) (tree room : List ℕ) (said : Answer) (left : List ℕ) : Type 0 where
@@ -48,7 +47,7 @@ module _ (options : FormattingOptions) (tree room : List ℕ) where
         (file-storable 64 tree (length-passed 65535 tree (file .size)) options (omega arith) (narrow .indent)) (holds-nothing room)
 
     -- where it went on
-    pub whole-done : (left : List ℕ) (state : CodeFormatter) → going left state ≡ settled (run (fileEvents options tree) (going room atStart))
+    whole-done : (left : List ℕ) (state : CodeFormatter) → going left state ≡ settled (run (fileEvents options tree) (going room atStart))
         → Whole options tree room (answer.Accepted (state .used)) left
     whole-done left state ran = go (hold (length room) (fileEvents options tree) (held [] false)) refl (rw (← ran) at agrees)
       where
@@ -67,7 +66,7 @@ module _ (options : FormattingOptions) (tree room : List ℕ) where
         go (refused why) is both = absurd both
 
     -- where it ended
-    pub whole-ended : (left : List ℕ) (why : Refusal) → ended left why ≡ settled (run (fileEvents options tree) (going room atStart))
+    whole-ended : (left : List ℕ) (why : Refusal) → ended left why ≡ settled (run (fileEvents options tree) (going room atStart))
         → Whole options tree room (answer.Refused why) left
     whole-ended left why ran = go (hold (length room) (fileEvents options tree) (held [] false)) refl (rw (← ran) at agrees)
       where
@@ -77,19 +76,12 @@ module _ (options : FormattingOptions) (tree room : List ℕ) where
         go (refused reason) is both =
             record { answered = rw (passed, is) (ap answer.Refused (both .1)); holds = rw (passed, is) tt; whole = rw (passed, ← ran) refl }
 
-    -- ---- what the printer of the file's list showed
-
-    module _ {printed : Printed} {left : List ℕ} {start : CodeFormatter} {end : ℕ} (new : start ≡ atStart)
-        (shown : Shown printed left (fileEvents options tree) (going room start) end)
+    -- so of the walk over the file, whatever it answered
+    pub whole-walked : {printed : Printed} {left : List ℕ} → Walks printed left options tree room → Whole options tree room (printedAnswer printed) left
+    whole-walked {printed} {left} walks = go printed refl
       where
-        -- from the state at the start
-        shown-run : outcome printed left ≡ settled (run (fileEvents options tree) (going room atStart))
-        shown-run = rw new at (shown .state)
-
-        -- it was done
-        pub shown-done : {state : CodeFormatter} {at : ℕ} → printed ≡ Done state at → Whole options tree room (answer.Accepted (state .used)) left
-        shown-done {state} is = whole-done left state (ap (λ (p : Printed). outcome p left) (sym is) ∙ shown-run)
-
-        -- it was refused
-        pub shown-refused : {why : Refusal} → printed ≡ Refused why → Whole options tree room (answer.Refused why) left
-        shown-refused {why} is = whole-ended left why (ap (λ (p : Printed). outcome p left) (sym is) ∙ shown-run)
+        go : (is : Printed) → printed ≡ is → Whole options tree room (printedAnswer printed) left
+        go (Done state at) is =
+            rw is (whole-done left state (ap (λ (p : Printed). outcome p left) (sym is) ∙ walks .state))
+        go (Refused why) is =
+            rw is (whole-ended left why (ap (λ (p : Printed). outcome p left) (sym is) ∙ walks .state))

@@ -13,7 +13,7 @@ use Rattle.options.specs.declared.FormattingOptions.{FormattingOptions}
 use Rattle.options.specs.declared.OptionsRead.{OptionsRead}
 use Rattle.options.specs.declared.OptionsRead.the-variants as options-are
 use Rattle.chunks.specs.Stored.{Chunk, storedList}
-use Rattle.tree.specs.Checking.{readFile, batchChecked}
+use Rattle.tree.specs.Checking.{readFile, lengthChecked, batchChecked}
 use Rattle.printing.specs.Events.{Events}
 use Rattle.printing.specs.Running.{Run, going, ended, atStart, run, settled}
 use Rattle.printing.specs.Holding.{Held, held, refused, hold}
@@ -64,3 +64,14 @@ roomWith (options-are.Refused why) tree room = room
 
 unfoldable pub chunksRoom : List ℕ → List ℕ → List ℕ → List ℕ
 chunksRoom tree options room = roomWith (readOptions options) tree room
+
+-- ---- the walk before the check
+
+-- the whole room: untouched after 1 to 3, else as the run of the events leaves it
+abbrev pub onePassWith : OptionsRead → List ℕ → List ℕ → List ℕ
+onePassWith (options-are.Options options) tree room =
+    roomUnless (lengthChecked 65535 tree) (roomOf (settled (run (fileEvents options tree) (going room atStart)))) room
+onePassWith (options-are.Refused why) tree room = room
+
+unfoldable pub onePassRoom : List ℕ → List ℕ → List ℕ → List ℕ
+onePassRoom tree options room = onePassWith (readOptions options) tree room

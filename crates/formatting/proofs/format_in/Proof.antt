@@ -6,8 +6,8 @@ use borrow.Author.Needs.{needs}
 use Rattle.formatting.proofs.format_in.Statement.{statement}
 use Rattle.formatting.proofs.format_in.Tie as tie
 
-chunks-requires : tie.Need-chunks-requires
-chunks-requires c κs = search needs
+chunks-in-one-pass-requires : tie.Need-chunks-in-one-pass-requires
+chunks-in-one-pass-requires c κs = search needs
 
 enum-known-walked : tie.Need-enum-known-walked
 enum-known-walked c = search needs
@@ -21,20 +21,20 @@ same-length c = search needs
 returns : tie.Need-returns
 returns c =
     let walked = c .before .before .before .before in
-    let lesson = refused-lesson _ _ _ (walked .chunks .ensures .0) (c .enum-told .given .1) in
+    let lesson = refused-lesson _ _ _ (walked .chunks-in-one-pass .ensures .0) (c .enum-told .given .1) in
     (lesson .answered, (lesson .buffer, lesson .lesson))
 
 slice-reshare-prefix-join-chunks : tie.Need-slice-reshare-prefix-join-chunks
 slice-reshare-prefix-join-chunks c =
     let is = c .before in
     let walked = is .before .before .before .before in
-    used-fits _ _ _ _ (walked .chunks .ensures .0) (is .walked .given .1) (walked .chunks .ensures .1 .0)
+    used-fits _ _ _ _ (walked .chunks-in-one-pass .ensures .0) (is .walked .given .1) (walked .chunks-in-one-pass .ensures .1 .0)
 
 slice-aggregate-join-chunks : tie.Need-slice-aggregate-join-chunks
 slice-aggregate-join-chunks c =
     let is = c .before .before in
     let walked = is .before .before .before .before in
-    let fits = used-fits _ _ _ _ (walked .chunks .ensures .0) (is .walked .given .1) (walked .chunks .ensures .1 .0) in
+    let fits = used-fits _ _ _ _ (walked .chunks-in-one-pass .ensures .0) (is .walked .given .1) (walked .chunks-in-one-pass .ensures .1 .0) in
     simp length-take (omega arith)
 
 join-chunks-requires : tie.Need-join-chunks-requires
@@ -53,7 +53,7 @@ returns-2 c =
     let walked = is .before .before .before .before in
     let said = joined .join-chunks .ensures in
     let lesson =
-    joined-lesson _ _ _ _ (walked .chunks .ensures .0) (is .walked .given .1) (walked .chunks .ensures .1 .0)
+    joined-lesson _ _ _ _ (walked .chunks-in-one-pass .ensures .0) (is .walked .given .1) (walked .chunks-in-one-pass .ensures .1 .0)
     (said .0) (said .1 .0) (said .1 .1) in
     (lesson .answered, (lesson .buffer, lesson .lesson))
 
@@ -61,7 +61,7 @@ pub format-in-spec : {M : Type 1} → statement M
 format-in-spec =
     tie.close
     (tie.spec
-    chunks-requires
+    chunks-in-one-pass-requires
     enum-known-walked
     enum-told
     same-length

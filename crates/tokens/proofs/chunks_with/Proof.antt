@@ -1,7 +1,6 @@
--- A tree that is not accepted is refused before anything is pushed; else the printer of the file's list showed what is held.
-use mathlib.Core.Path.{refl, sym, _∙_}
-use native.Mathlib.Omega.{arith}
-use Rattle.tokens.proofs.Whole.{whole-failed, shown-done, shown-refused}
+-- A tree that is not accepted is refused before anything is pushed; else the walk showed what is held.
+use mathlib.Core.Path.{sym, _∙_}
+use Rattle.tokens.proofs.Whole.{whole-failed, whole-walked}
 use borrow.Author.Needs.{needs}
 use Rattle.tokens.proofs.chunks_with.Statement.{statement}
 use Rattle.tokens.proofs.chunks_with.Tie as tie
@@ -21,51 +20,23 @@ returns c =
 enum-told : tie.Need-enum-told
 enum-told c = search needs
 
-new-requires : tie.Need-new-requires
-new-requires c κs = search needs
+walk-file-requires : tie.Need-walk-file-requires
+walk-file-requires c κs = search needs
 
-format-tokens-requires : tie.Need-format-tokens-requires
-format-tokens-requires c κs =
-    let start = c .before .before .before .before .before .before .before in
-    (start .pre .indent, omega arith)
-
-enum-known-printed : tie.Need-enum-known-printed
-enum-known-printed c = search needs
-
-enum-known-printed-2 : tie.Need-enum-known-printed-2
-enum-known-printed-2 c = search needs
+printed-answer-requires : tie.Need-printed-answer-requires
+printed-answer-requires c κs = search needs
 
 same-length : tie.Need-same-length
 same-length c = search needs
 
 returns-2 : tie.Need-returns-2
 returns-2 c =
-    let is = c .before in
-    let walked = is .before .before .before .before in
-    let new = walked .before .before in
-    let told = new .before in
+    let walked = c .before .before .before in
+    let told = walked .before .before in
     let checked = told .before .before in
     let start = checked .before .before .before in
-    let whole =
-    shown-done _ _ _ (start .pre) (sym (checked .check-tree .ensures) ∙ told .enum-told .given .1)
-    (new .new .ensures) (walked .format-tokens .ensures .from 0 refl) (is .printed .given .1) in
-    (whole .answered, (whole .holds, whole .whole))
-
-same-length-2 : tie.Need-same-length-2
-same-length-2 c = search needs
-
-returns-3 : tie.Need-returns-3
-returns-3 c =
-    let is = c .before in
-    let walked = is .before .before .before .before in
-    let new = walked .before .before in
-    let told = new .before in
-    let checked = told .before .before in
-    let start = checked .before .before .before in
-    let whole =
-    shown-refused _ _ _ (start .pre) (sym (checked .check-tree .ensures) ∙ told .enum-told .given .1)
-    (new .new .ensures) (walked .format-tokens .ensures .from 0 refl) (is .printed2 .given .1) in
-    (whole .answered, (whole .holds, whole .whole))
+    let whole = whole-walked _ _ _ (start .pre) (sym (checked .check-tree .ensures) ∙ told .enum-told .given .1) (walked .walk-file .ensures) in
+    (c .printed-answer .ensures ∙ whole .answered, (whole .holds, whole .whole))
 
 pub chunks-with-spec : {M : Type 1} → statement M
 chunks-with-spec =
@@ -75,11 +46,7 @@ chunks-with-spec =
     enum-known-checked
     returns
     enum-told
-    new-requires
-    format-tokens-requires
-    enum-known-printed
-    enum-known-printed-2
+    walk-file-requires
+    printed-answer-requires
     same-length
-    returns-2
-    same-length-2
-    returns-3)
+    returns-2)

@@ -1,0 +1,49 @@
+-- The two cases of the definition.
+use mathlib.Core.Path.{refl, sym, _∙_}
+use Rattle.tokens.specs.Chunks.{chunksHeld, onePassRoom}
+use borrow.Author.Needs.{needs}
+use Rattle.tokens.proofs.chunks_in_one_pass.Statement.{statement}
+use Rattle.tokens.proofs.chunks_in_one_pass.Tie as tie
+
+read-options-requires : tie.Need-read-options-requires
+read-options-requires c κs = search needs
+
+enum-known-read : tie.Need-enum-known-read
+enum-known-read c = search needs
+
+one-pass-with-requires : tie.Need-one-pass-with-requires
+one-pass-with-requires c κs =
+    let is = c .before .before in
+    rw (is .read .given .1) at (is .before .before .read-options .ensures .1)
+
+enum-known-read-2 : tie.Need-enum-known-read-2
+enum-known-read-2 c = search needs
+
+same-length : tie.Need-same-length
+same-length c = search needs
+
+returns : tie.Need-returns
+unfolding chunksHeld onePassRoom
+returns c =
+    let walked = c .before .before in
+    let is = walked .before .before .before in
+    let same = sym (is .before .before .read-options .ensures .0) ∙ is .read .given .1 in
+    rw same (walked .one-pass-with .ensures)
+
+returns-2 : tie.Need-returns-2
+unfolding chunksHeld onePassRoom
+returns-2 c =
+    let same = sym (c .before .before .before .read-options .ensures .0) ∙ c .before .read2 .given .1 in
+    rw same (refl, (tt, refl))
+
+pub chunks-in-one-pass-spec : {M : Type 1} → statement M
+chunks-in-one-pass-spec =
+    tie.close
+    (tie.spec
+    read-options-requires
+    enum-known-read
+    one-pass-with-requires
+    enum-known-read-2
+    same-length
+    returns
+    returns-2)
