@@ -8,12 +8,15 @@ use crate::own;
 use crate::own::Own;
 use crate::own::OwnRead;
 use crate::own::Span;
+use answers::Reason;
 use answers::Refusal;
 use text::numbers;
 ghost use mathlib.Core.Path.{_≡_};
 ghost use Prim.Native.Nat.{_<_};
 ghost use Rattle.tree.specs.Grammar.{rule, fields};
+ghost use Rattle.tree.specs.Own.{readOwn};
 ghost use Rattle.tree.specs.Parts.{skipped, triviumAt, firstClass, secondField, fieldHead, innerHead, headAt};
+ghost use Rattle.tree.specs.declared.own.OwnRead.the-variants as OwnRead;
 
 // The place behind a record.
 pub enum Skipped {
@@ -139,14 +142,16 @@ fn inner_head(tree: &[u8], at: usize, class: Class, levels: usize) -> HeadRead
     field_head(tree, numbers::wide(tree[at]), class, own, levels)
 }
 
-// The head of a token's record.
-pub fn head_place(tree: &[u8], at: usize, class: Class, levels: usize) -> HeadRead
-    ensures { λ r. ⌜ r ≡ headAt levels (now (tree .entry)) class at ⌝ }
+// The head of a token's record whose own bytes were read; where none can have been read there is no head.
+pub fn head_behind(tree: &[u8], at: usize, class: Class, levels: usize, own: Own) -> HeadRead
+    ensures { λ r. ⌜ (readOwn (now (tree .entry)) at class levels ≡ OwnRead.Record own → r ≡ headAt levels (now (tree .entry)) class at) ⌝ }
 {
-    let read = own::read_own(tree, at, class, levels);
-    let OwnRead::Record(own) = read else {
-        return HeadRead::NoHead(own::refusal_of(read));
-    };
+    if levels == 0 || tree.len() <= at {
+        return HeadRead::NoHead(Refusal {
+            reason: Reason::TreeLayout,
+            place: at,
+        });
+    }
     let number = numbers::wide(tree[at]);
     if number == 2 || number == 3 {
         return inner_head(tree, own.end, Class::BlockRecord, levels - 1);
@@ -155,4 +160,15 @@ pub fn head_place(tree: &[u8], at: usize, class: Class, levels: usize) -> HeadRe
         return inner_head(tree, own.end, Class::BareExpression, levels - 1);
     }
     field_head(tree, number, class, own, levels)
+}
+
+// The head of a token's record.
+pub fn head_place(tree: &[u8], at: usize, class: Class, levels: usize) -> HeadRead
+    ensures { λ r. ⌜ r ≡ headAt levels (now (tree .entry)) class at ⌝ }
+{
+    let read = own::read_own(tree, at, class, levels);
+    let OwnRead::Record(own) = read else {
+        return HeadRead::NoHead(own::refusal_of(read));
+    };
+    head_behind(tree, at, class, levels, own)
 }
