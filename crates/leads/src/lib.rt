@@ -15,23 +15,27 @@ use tree::parts;
 use tree::parts::HeadRead;
 ghost use mathlib.Core.Path.{_≡_};
 ghost use mathlib.Core.List.{[], _∷_};
-ghost use Prim.Native.Nat.{_+_};
 ghost use lib.ListN.{getD};
-ghost use Rattle.tree.specs.Reading.{triviaOf, read};
-ghost use Rattle.tree.specs.declared.own.Own.{Own};
-ghost use Rattle.tree.specs.declared.own.OwnRead.the-variants as OwnRead;
+ghost use Rattle.tree.specs.Reading.{read};
 ghost use Rattle.tree.specs.declared.grammar.Class.the-variants as class;
 ghost use Rattle.printing.specs.Running.{going, run, Prints};
 ghost use Rattle.events.specs.Views.{blockBit};
 ghost use Rattle.events.specs.Trees as Trees;
 ghost use Rattle.events.specs.Trees.{listTrivia, breakBefore};
 ghost use Rattle.leaves.specs.Items.{itemsAt};
-ghost use Rattle.leads.specs.Leads.{beforeOf, headRefusalOf, headOwn, leadIn};
+ghost use Rattle.leads.specs.Leads.{beforeOf, headRefusalOf, LeadsIn};
 
 // What stood before a token in its list: whether it is the first, and the number of the kind of the one before.
 pub struct Before {
     pub first: bool,
     pub previous: usize,
+}
+
+// A token whose lead-in was printed: its own bytes, the place of its head, and the state behind the lead-in; or the answer where the walk
+// ended before the token.
+pub enum Lead {
+    Ready(Own, usize, CodeFormatter),
+    Over(Printed),
 }
 
 // Whether a number is one of two.
@@ -164,19 +168,6 @@ fn refused_head(found: HeadRead) -> Refusal
     }
 }
 
-// The own bytes of a token's head.
-fn head_of(tree: &[u8], levels: usize, at: usize) -> OwnRead
-    ensures { λ r. ⌜ r ≡ headOwn levels (now (tree .entry)) at ⌝ }
-    ensures { λ r. ⌜ ((own : Own) → r ≡ OwnRead.Record own → itemsAt (now (tree .entry)) (own .trivia) (own .«trivia_count») ≡ triviaOf (now (tree .entry)) own) ⌝ }
-{
-    let found = parts::head_place(tree, at, Class::BareToken, levels);
-    let HeadRead::Found(head) = found else {
-        return OwnRead::Refused(refused_head(found));
-    };
-    let class = head.class;
-    own::read_own(tree, head.place, class, head.levels)
-}
-
 // The byte at a place; 0 past the end.
 pub fn byte_at(tree: &[u8], at: usize) -> usize
     ensures { λ r. ⌜ r ≡ getD (now (tree .entry)) at 0 ⌝ }
@@ -187,20 +178,7 @@ pub fn byte_at(tree: &[u8], at: usize) -> usize
     numbers::wide(tree[at])
 }
 
-// The byte behind a place; 0 past the end.
-fn byte_behind(tree: &[u8], at: usize) -> usize
-    ensures { λ r. ⌜ r ≡ getD (now (tree .entry)) (at + 1) 0 ⌝ }
-{
-    if tree.len() <= at {
-        return 0;
-    }
-    if tree.len() - at < 2 {
-        return 0;
-    }
-    numbers::wide(tree[at + 1])
-}
-
-// What stands before a token: the trivia of its head, then a newline by the rule.
+// What stands before a token: the trivia of its head, then a newline by the rule. What is read of the token on the way is handed on.
 pub fn format_lead_in(
     tree: &[u8],
     room: &mut [u8],
@@ -209,25 +187,33 @@ pub fn format_lead_in(
     drops: bool,
     stood: Before,
     last: Printed,
-) -> Printed
-    ensures { λ r. ⌜ Prints r (now (room .exit)) last (now (room .entry)) (λ at. leadIn context drops (beforeOf stood) (read levels (now (tree .entry)) class.BareToken at .tree)) (λ at. at) ⌝ }
+) -> Lead
+    ensures { λ r. ⌜ LeadsIn r (now (room .exit)) last (now (room .entry)) context drops (beforeOf stood) levels (now (tree .entry)) ⌝ }
 {
     let Printed::Done(state, at) = last else {
-        return last;
+        return Lead::Over(last);
     };
     if state.full != 0 {
-        return state.finish(at);
+        return Lead::Over(state.finish(at));
     }
-    let head = head_of(tree, levels, at);
-    let OwnRead::Record(own) = head else {
-        return Printed::Refused(own::refusal_of(head));
+    let read = own::read_own(tree, at, Class::BareToken, levels);
+    let OwnRead::Record(token) = read else {
+        return Lead::Over(Printed::Refused(own::refusal_of(read)));
+    };
+    let found = parts::head_behind(tree, at, Class::BareToken, levels, token);
+    let HeadRead::Found(head) = found else {
+        return Lead::Over(Printed::Refused(refused_head(found)));
+    };
+    let class = head.class;
+    let opened = own::read_own(tree, head.place, class, head.levels);
+    let OwnRead::Record(own) = opened else {
+        return Lead::Over(Printed::Refused(own::refusal_of(opened)));
     };
     let number = byte_at(tree, at);
-    let bits = byte_behind(tree, at) / 2;
-    let block = has_block(number, bits);
+    let block = has_block(number, token.map / 2);
     let shown = list_trivia(tree, room, context, own, drops, state);
     let next = break_before(room, context, stood, number, block, shown);
-    next.finish(at)
+    Lead::Ready(token, head.place, next)
 }
 
 // What stands behind the last token of a block: the trivia of its `}`, and a newline as before an end.

@@ -26,7 +26,6 @@ use Rattle.tree.specs.declared.grammar.Kind.{Kind}
 use Rattle.tree.specs.declared.grammar.Kind.the-variants as variant
 use Rattle.tree.specs.declared.grammar.KindRead.the-variants.{Known}
 use Rattle.tree.specs.declared.own.Own.{Own}
-use Rattle.tree.specs.declared.own.OwnRead.{OwnRead}
 use Rattle.tree.specs.declared.own.OwnRead.the-variants as own-is
 use Rattle.tree.proofs.KindLayout.{kind-number}
 use Rattle.tree.proofs.OwnBytes.{leafNumber}
@@ -36,9 +35,9 @@ use Rattle.printing.specs.declared.CodeFormatter.{CodeFormatter}
 use Rattle.printing.specs.declared.Context.{Context}
 use Rattle.printing.specs.declared.Printed.{Printed}
 use Rattle.printing.specs.declared.Printed.the-variants.{Done, Refused}
-use Rattle.printing.proofs.Running.{alike, run-full, refused-before, done-before, handed-on, _thence_}
+use Rattle.printing.proofs.Running.{alike, run-ended, refused-before, done-before, _thence_}
 use Rattle.events.specs.Printed.{plain}
-use Rattle.events.specs.Trees.{first, behind, tokens, leaf, oneOf, elseEvents, closingEvents, eventsIn}
+use Rattle.events.specs.Trees.{first, tokens, leaf, oneOf, elseEvents, closingEvents, eventsIn}
 use Rattle.events.specs.Views.{tokenNumber, bitAt}
 use Rattle.events.proofs.OwnParts.{both-stand, record-headed, record-fields}
 use Rattle.leaves.specs.Lists.{itemTrees, itemsEnd}
@@ -47,12 +46,11 @@ use Rattle.leaves.specs.declared.record.Opened.{Opened}
 use Rattle.leaves.specs.declared.record.Opened.the-variants as opened-is
 use Rattle.leaves.proofs.Fielded.{bare, opened-range, opened-by-number, opened-list}
 use Rattle.leaves.proofs.Records.{read-record}
-use Rattle.leads.specs.Leads.{beforeOf, headOwn, leadIn}
+use Rattle.leads.specs.Leads.{beforeOf}
 use Rattle.leads.specs.declared.Before as code
-use Rattle.leads.proofs.Leads.{token-read, lead-stopped}
 use Rattle.expressions.proofs.Stands.{field-stands}
 use Rattle.tokens.specs.Fronts.{isPlain, frontEvents, frontEnd}
-use Rattle.tokens.specs.Inner.{tokenClass, innerOf, Ends, elseFront, branchEvents, branchesEnd}
+use Rattle.tokens.specs.Inner.{tokenClass, innerOf, Ends, elseFront, branchEvents, branchesEnd, listedEvents}
 use Rattle.tokens.specs.Tokens.{closingAt, PrintsTokens, eachEvents}
 use Rattle.tokens.specs.declared.walk.Inner.{Inner}
 use Rattle.tokens.specs.declared.walk.Inner.the-variants.{Nothing, Block, Token, Branches}
@@ -71,6 +69,12 @@ pub stays-refused : {answer : Printed} {room : List ℕ} {events : Events} {end 
 stays-refused {answer} {events = events} {end = end} is =
     let there = some-place answer in
     refused-before {events = λ at. events} {end = λ at. end} is .from (there .0) (there .1)
+
+-- where a run has ended all events are alike
+ended-alike : {answer : Printed} {room left : List ℕ} {events others : Events} {why : Refusal} {end : ℕ} → Shown answer room events (ended left why) end
+    → Shown answer room others (ended left why) end
+ended-alike {left = left} {events} {others} {why} shown =
+    record { state = shown .state ∙ ap settled (run-ended events left why ∙ sym (run-ended others left why)); next = shown .next }
 
 -- ---- by the number
 
@@ -397,6 +401,14 @@ restEvents context block levels bytes before left at =
     let end = itemsEnd (read (levels - 1) bytes) BareToken left at in
     eventsIn context (tokens (block && before .first) (beforeOf before) (closingAt block levels bytes end)) true (chain (itemTrees (read (levels - 1) bytes) BareToken left at))
 
+-- behind a refusal it is all one which token stood before
+rest-behind : (context : Context) (block : Bool) (levels : ℕ) (bytes : List ℕ) {answer : Printed} {after : List ℕ} (token : Printed) (shown : List ℕ)
+    (left at end number other : ℕ) → ((state : CodeFormatter) (place : ℕ) → token ≡ Done state place → other ≡ number)
+    → Shown answer after (restEvents context block levels bytes (record { first = false; previous = number }) left at) (outcome token shown) end
+    → Shown answer after (restEvents context block levels bytes (record { first = false; previous = other }) left at) (outcome token shown) end
+rest-behind context block levels bytes (Done state place) shown left at end number other named rest = rw (named state place refl) rest
+rest-behind context block levels bytes (Refused why) shown left at end number other named rest = ended-alike rest
+
 module _ (context : Context) (block : Bool) (levels : ℕ) (bytes : List ℕ) {answer : Printed} {after : List ℕ} {start : Run} where
   -- at first all are left
   pub all-left : (left at : ℕ) {end : ℕ} → Shown answer after (restEvents context block levels bytes (record { first = true; previous = 0 }) left at) start end
@@ -418,34 +430,23 @@ module _ (context : Context) (block : Bool) (levels : ℕ) (bytes : List ℕ) {a
   file-left before (suc left) at none off shown = absurd (omega arith)
   file-left before zero at none off shown = rw off shown
 
-  -- what stands before a token was refused
-  pub lead-refused : {why : Refusal} (before : code.Before) (left at : ℕ) → 0 < left
-      → Shown answer after (leadIn context (block && before .first) (beforeOf before) (read (levels - 1) bytes BareToken at .tree)) start at → answer ≡ Refused why
-      → Shown answer after (restEvents context block levels bytes before left at) start (itemsEnd (read (levels - 1) bytes) BareToken left at)
-  unfolding eventsIn chain itemTrees itemsEnd run
-  lead-refused before zero at some lead is = absurd (omega arith)
-  lead-refused before (suc left) at some lead is =
-      let reader = read (levels - 1) bytes in
-      let item = reader BareToken at .tree in
-      let onward = reader BareToken at .end in
-      let others = eventsIn context (tokens false (behind (tokenNumber item)) (closingAt block levels bytes (itemsEnd reader BareToken left onward))) true
-      (chain (itemTrees reader BareToken left onward)) in
-      alike (λ x. refl) (handed-on {next = eventsIn context (leaf plain) false item ▹ others} lead is)
-
   -- one token, and those that are left behind it
-  pub one-left : {lead token : Printed} {led shown : List ℕ} (before : code.Before) (left at number : ℕ) → 0 < left
-      → tokenNumber (read (levels - 1) bytes BareToken at .tree) ≡ number
-      → Shown lead led (leadIn context (block && before .first) (beforeOf before) (read (levels - 1) bytes BareToken at .tree)) start at
-      → Shown token shown (eventsIn context (leaf plain) false (read (levels - 1) bytes BareToken at .tree)) (outcome lead led) (read (levels - 1) bytes BareToken at .end)
+  pub one-left : (token : Printed) (shown : List ℕ) (before : code.Before) (left at number : ℕ) → 0 < left
+      → ((state : CodeFormatter) (place : ℕ) → token ≡ Done state place → tokenNumber (read (levels - 1) bytes BareToken at .tree) ≡ number)
+      → Shown token shown (listedEvents context (block && before .first) (beforeOf before) (read (levels - 1) bytes BareToken at .tree)) start
+      (read (levels - 1) bytes BareToken at .end)
       → Shown answer after
       (restEvents context block levels bytes (record { first = false; previous = number }) (left - 1) (read (levels - 1) bytes BareToken at .end))
       (outcome token shown) (itemsEnd (read (levels - 1) bytes) BareToken (left - 1) (read (levels - 1) bytes BareToken at .end))
       → Shown answer after (restEvents context block levels bytes before left at) start (itemsEnd (read (levels - 1) bytes) BareToken left at)
   unfolding eventsIn chain itemTrees itemsEnd run
-  one-left before zero at number some named lead token rest = absurd (omega arith)
-  one-left before (suc left) at number some named lead token rest =
+  one-left token shown before zero at number some named listed rest = absurd (omega arith)
+  one-left token shown before (suc left) at number some named listed rest =
       let fewer : suc left - 1 ≡ left = omega arith in
-      alike (λ x. refl) (lead thence token thence (rw (fewer, and-false block, ← named) at rest))
+      let onward = read (levels - 1) bytes BareToken at .end in
+      let others = rest-behind context block levels bytes token shown (suc left - 1) onward (itemsEnd (read (levels - 1) bytes) BareToken (suc left - 1) onward) number
+      (tokenNumber (read (levels - 1) bytes BareToken at .tree)) named rest in
+      alike (λ x. refl) (listed thence (rw (fewer, and-false block) at others))
 
   -- what is left behind an answer that went on
   pub rest-from : (before : code.Before) (left at : ℕ) {last : Printed} {room : List ℕ} {state : CodeFormatter} {place : ℕ} → last ≡ Done state place → placeOf last at ≡ at
@@ -455,26 +456,3 @@ module _ (context : Context) (block : Bool) (levels : ℕ) (bytes : List ℕ) {a
   rest-from before left at is here started shown =
       rw started
       (done-before {events = λ at. restEvents context block levels bytes before left at} {end = λ at. itemsEnd (read (levels - 1) bytes) BareToken left at} is shown .from at here)
-
--- ---- the number of a token
-
--- a run that goes on has not ended
-not-ended : {P : Type 0} {room place : List ℕ} {state : CodeFormatter} {why : Refusal} → going room state ≡ ended place why → P
-not-ended e = let z : _≡_ {A = ℕ} 0 1 = cc in absurd (omega arith)
-
--- what stands before a token went on, so the token was read and its number is its first byte
-pub lead-number : (levels : ℕ) (bytes : List ℕ) (at : ℕ) (context : Context) (drops : Bool) (before : code.Before) (room : List ℕ) (state : CodeFormatter)
-    {lead : Printed} {left : List ℕ} {next : CodeFormatter} {place : ℕ}
-    → Shown lead left (leadIn context drops (beforeOf before) (read levels bytes BareToken at .tree)) (going room state) at → lead ≡ Done next place
-    → tokenNumber (read levels bytes BareToken at .tree) ≡ getD bytes at 0
-lead-number levels bytes at context drops before room state {lead} {left} {next} shown done = go (headOwn levels bytes at) refl
-  where
-    went : going left next ≡ settled (run (leadIn context drops (beforeOf before) (read levels bytes BareToken at .tree)) (going room state))
-    went = sym (ap (λ (a : Printed). outcome a left) done) ∙ shown .state
-
-    go : (own : OwnRead) → headOwn levels bytes at ≡ own → tokenNumber (read levels bytes BareToken at .tree) ≡ getD bytes at 0
-    go (own-is.Record own) is = token-read levels bytes at own is .number
-    go (own-is.Refused why) is =
-        by-test (eqb (state .full) 0)
-        (λ empty. not-ended (went ∙ sym (lead-stopped levels bytes at context drops (beforeOf before) room state (sym is) refl refl (eqb-true _ _ empty) .state)))
-        (λ full. not-ended (went ∙ run-full _ room state (eqb-false _ _ full)))

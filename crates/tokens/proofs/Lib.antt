@@ -1,4 +1,5 @@
 pub mod Cycle
+pub mod Listed
 pub mod FrontParts
 pub mod PlainTokens
 pub mod Whole

@@ -2,26 +2,39 @@
 use mathlib.Core.Path.{_≡_, refl, sym, ap, _∙_}
 use mathlib.Core.List.{List, []}
 use mathlib.Core.Bool.{true, false}
-use Prim.Native.Nat.{ℕ}
+use Prim.Native.Nat.{ℕ, _-_}
+use native.Mathlib.Omega.{arith}
 use lib.Dec.{eqb}
+use lib.ListN.{getD}
 use borrow.Author.Tests.{ne-eqb, eqb-true}
 use Rattle.text.proofs.Choices.{by-test, true-false}
 use Rattle.tree.specs.Tree.{built}
 use Rattle.tree.specs.Grammar.{kindOf, fields}
+use Rattle.tree.specs.Own.{readOwn}
+use Rattle.tree.specs.Parts.{skipped, secondField, fieldHead, headAt}
 use Rattle.tree.specs.Reading.{read}
-use Rattle.tree.specs.declared.grammar.Class.the-variants.{LocatedExpression, ExpressionArguments, DataSize}
+use Rattle.tree.specs.declared.grammar.Class.{Class}
+use Rattle.tree.specs.declared.grammar.Class.the-variants.{BareToken, LocatedExpression, ExpressionArguments, DataSize}
 use Rattle.tree.specs.declared.grammar.Kind.{Kind}
 use Rattle.tree.specs.declared.grammar.Kind.the-variants as variant
 use Rattle.tree.specs.declared.grammar.KindRead.the-variants.{Known}
+use Rattle.tree.specs.declared.own.Own.{Own}
+use Rattle.tree.specs.declared.own.OwnRead.the-variants.{Record}
+use Rattle.tree.specs.declared.parts.Head.{Head}
+use Rattle.tree.specs.declared.parts.HeadRead.the-variants.{Found}
+use Rattle.tree.specs.declared.parts.Skipped.{Skipped}
+use Rattle.tree.specs.declared.parts.Skipped.the-variants.{Next, NotSkipped}
 use Rattle.printing.specs.Events.{nothing, _▹_}
 use Rattle.printing.specs.Running.{Run, run, Shown}
 use Rattle.printing.specs.declared.Context.{Context}
 use Rattle.printing.specs.declared.Printed.{Printed}
 use Rattle.printing.proofs.Running.{told, alike}
 use Rattle.events.specs.Printed.{plain, dataSize}
-use Rattle.events.specs.Trees.{blank, skipping, oneOf, leaf, arguments, eventsIn}
+use Rattle.events.specs.Trees.{blank, oneOf, leaf, arguments, eventsIn}
+use Rattle.events.proofs.Refusals.{skip-passed}
 use Rattle.leaves.specs.Records.{fieldTrees, fieldsEnd}
 use Rattle.tokens.specs.Fronts.{isPlain}
+use Rattle.tokens.specs.Inner.{sizedEvents}
 
 -- ---- by the number of the kind
 
@@ -58,13 +71,34 @@ end-left {number} among align assert values error expression file instruction in
 
 -- ---- data
 
--- the values are skipped on the way to their size and printed behind it; moving to another place is no event
-pub data-shown : (context : Context) (levels : ℕ) (bytes : List ℕ) (at : ℕ) {answer : Printed} {room : List ℕ} {before : Run} {end : ℕ}
-    → end ≡ read levels bytes DataSize (read levels bytes ExpressionArguments at .end) .end
-    → Shown answer room (skipping (read levels bytes ExpressionArguments at .tree)
-    ▹ eventsIn context (leaf dataSize) false (read levels bytes DataSize (read levels bytes ExpressionArguments at .end) .tree) ▹ blank context
-    ▹ nothing ▹ eventsIn context arguments true (read levels bytes ExpressionArguments at .tree) ▹ nothing) before end
-    → Shown answer room (eventsIn context (leaf plain) true (built variant.Data [] (fieldTrees (read levels bytes) (fields variant.Data LocatedExpression) 0 at))) before
-    (fieldsEnd (read levels bytes) (fields variant.Data LocatedExpression) 0 at)
+-- the values are printed behind the size; moving to another place is no event
+pub sized-shown : (context : Context) (levels : ℕ) (bytes : List ℕ) (values at : ℕ) {answer : Printed} {room : List ℕ} {before : Run} {end : ℕ}
+    → end ≡ read levels bytes DataSize at .end
+    → Shown answer room (eventsIn context (leaf dataSize) false (read levels bytes DataSize at .tree) ▹ blank context
+    ▹ nothing ▹ eventsIn context arguments true (read levels bytes ExpressionArguments values .tree) ▹ nothing) before end
+    → Shown answer room (sizedEvents context (read levels bytes) values at) before (read levels bytes DataSize at .end)
+unfolding run
+sized-shown context levels bytes values at behind done = told refl behind (alike (λ x. refl) done)
+
+-- where skipping found a place the values hold no refusal, so what is shown from the size on is shown of both
+pub data-shown : (context : Context) (levels : ℕ) (bytes : List ℕ) (bits at size : ℕ) {answer : Printed} {room : List ℕ} {before : Run}
+    → skipped levels bytes ExpressionArguments at ≡ Next size
+    → Shown answer room (sizedEvents context (read levels bytes) at size) before (read levels bytes DataSize size .end)
+    → Shown answer room (eventsIn context (leaf plain) true (built variant.Data [] (fieldTrees (read levels bytes) (fields variant.Data LocatedExpression) bits at))) before
+    (fieldsEnd (read levels bytes) (fields variant.Data LocatedExpression) bits at)
 unfolding built fieldTrees fieldsEnd eventsIn run
-data-shown context levels bytes at behind done = told refl behind (alike (λ x. refl) done)
+data-shown context levels bytes bits at size skips done =
+    let passed = skip-passed levels bytes ExpressionArguments at size skips in
+    rw (passed .0) (alike (λ x. refl) (rw (passed .1) at done))
+
+-- a second field was found behind the first
+second-behind : (levels : ℕ) (class : Class) (head : Head) (first : Skipped) → secondField levels class first ≡ Found head → first ≡ Next (head .place)
+second-behind levels class head (Next place) e =
+    let same : record { place = place; class = class; levels = levels } ≡ head = cc in ap (λ (found : Head). Next (found .place)) same
+second-behind levels class head (NotSkipped why) e = let z : _≡_ {A = ℕ} 0 1 = cc in absurd (omega arith)
+
+-- so where the head of a `Data` was found its values were skipped
+pub values-skipped : (levels : ℕ) (bytes : List ℕ) (at : ℕ) (own : Own) (head : Head) → readOwn bytes at BareToken levels ≡ Record own
+    → headAt levels bytes BareToken at ≡ Found head → getD bytes at 0 ≡ 5 → skipped (levels - 1) bytes ExpressionArguments (own .end) ≡ Next (head .place)
+unfolding headAt fieldHead
+values-skipped levels bytes at own head is found five = second-behind (levels - 1) DataSize head _ (rw (is, five) at found)

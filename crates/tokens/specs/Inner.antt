@@ -6,14 +6,16 @@ use mathlib.Core.Bool.{Bool, true, false, cond}
 use lib.Dec.{eqb}
 use Rattle.options.specs.declared.BracePosition.{BracePosition}
 use Rattle.options.specs.declared.BracePosition.the-variants.{SameLine, NewLine}
+use Rattle.tree.specs.Tree.{Tree}
 use Rattle.tree.specs.Reading.{Reader}
 use Rattle.tree.specs.declared.grammar.Class.{Class}
-use Rattle.tree.specs.declared.grammar.Class.the-variants.{Word, BareToken, LocatedToken, BlockRecord}
+use Rattle.tree.specs.declared.grammar.Class.the-variants.{Word, DataSize, BareToken, LocatedToken, ExpressionArguments, BlockRecord}
 use Rattle.printing.specs.Events.{Events, nothing, _▹_}
 use Rattle.printing.specs.declared.Context.{Context}
-use Rattle.events.specs.Printed.{plain}
+use Rattle.events.specs.Printed.{plain, dataSize}
 use Rattle.events.specs.Views.{bitAt}
-use Rattle.events.specs.Trees.{blank, newline, oneOf, leaf, elseEvents, eventsIn}
+use Rattle.events.specs.Trees.{blank, newline, oneOf, leaf, arguments, Before, elseEvents, eventsIn}
+use Rattle.leads.specs.Leads.{leadIn}
 use Rattle.tokens.specs.declared.walk.Inner.{Inner}
 use Rattle.tokens.specs.declared.walk.Inner.the-variants.{Nothing, Block, Token, Branches}
 
@@ -56,3 +58,14 @@ branchEvents context other reader at =
 
 abbrev pub branchesEnd : Bool → Reader → ℕ → ℕ
 branchesEnd other reader at = cond other (reader BlockRecord (reader Word (behindThen reader at) .end) .end) (behindThen reader at)
+
+-- ---- a `Data`, from its size on, which is stored behind its values
+
+abbrev pub sizedEvents : Context → Reader → ℕ → ℕ → Events
+sizedEvents context reader values at =
+    eventsIn context (leaf dataSize) false (reader DataSize at .tree) ▹ blank context ▹ eventsIn context arguments true (reader ExpressionArguments values .tree)
+
+-- ---- a token of a list: what stands before it, and the token without its own trivia
+
+abbrev pub listedEvents : Context → Bool → Before → Tree → Events
+listedEvents context drops before item = leadIn context drops before item ▹ eventsIn context (leaf plain) false item

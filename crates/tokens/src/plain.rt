@@ -12,14 +12,17 @@ use tree::grammar::Class;
 ghost use mathlib.Core.Path.{_≡_};
 ghost use mathlib.Core.Bool.{true, false};
 ghost use Rattle.tree.specs.Grammar.{kindOf};
+ghost use Rattle.tree.specs.Reading.{read};
 ghost use Rattle.tree.specs.declared.grammar.Class.the-variants as class;
 ghost use Rattle.tree.specs.declared.grammar.Kind.{Kind};
 ghost use Rattle.tree.specs.declared.grammar.KindRead.the-variants.{Known};
 ghost use Rattle.tree.specs.declared.grammar.Kind.the-variants as kind;
+ghost use Rattle.printing.specs.Running.{Prints};
 ghost use Rattle.events.specs.Printed.{plain};
 ghost use Rattle.events.specs.Trees as Trees;
 ghost use Rattle.leaves.specs.Records.{PrintsKind};
 ghost use Rattle.tokens.specs.Fronts.{isPlain};
+ghost use Rattle.tokens.specs.Inner.{sizedEvents};
 
 // A tag and an expression.
 pub(crate) fn format_tagged(
@@ -61,20 +64,17 @@ fn format_assert(
     strings::format_string(tree, room, context, levels, record::stands(bits, 2), gap)
 }
 
-// The values are stored before the size and printed behind it.
-fn format_data(
+// A size, and behind it the values, which are stored before it; the answer ends behind the size.
+pub(crate) fn format_sized(
     tree: &[u8],
     room: &mut [u8],
     context: Context,
     levels: usize,
+    values: usize,
     last: Printed,
 ) -> Printed
-    ensures { λ r. ⌜ PrintsKind r (now (room .exit)) last (now (room .entry)) context (Trees.leaf plain) kind.Data class.LocatedExpression 0 levels (now (tree .entry)) ⌝ }
+    ensures { λ r. ⌜ Prints r (now (room .exit)) last (now (room .entry)) (λ at. sizedEvents context (read levels (now (tree .entry))) values at) (λ at. read levels (now (tree .entry)) class.DataSize at .end) ⌝ }
 {
-    let Printed::Done(_, values) = last else {
-        return last;
-    };
-    let skipped = record::skip(tree, levels, Class::ExpressionArguments, true, last);
     let size = leaf::format_leaf(
         tree,
         room,
@@ -83,7 +83,7 @@ fn format_data(
         Class::DataSize,
         Style::DataSize,
         false,
-        skipped,
+        last,
     );
     let Printed::Done(_, end) = size else {
         return size;
@@ -98,6 +98,23 @@ fn format_data(
         gap.moved_to(values),
     );
     printed.moved_to(end)
+}
+
+// The values are skipped on the way to the size. In a list the lead-in has found the size, and this is not called.
+fn format_data(
+    tree: &[u8],
+    room: &mut [u8],
+    context: Context,
+    levels: usize,
+    last: Printed,
+) -> Printed
+    ensures { λ r. ⌜ PrintsKind r (now (room .exit)) last (now (room .entry)) context (Trees.leaf plain) kind.Data class.LocatedExpression 0 levels (now (tree .entry)) ⌝ }
+{
+    let Printed::Done(_, values) = last else {
+        return last;
+    };
+    let skipped = record::skip(tree, levels, Class::ExpressionArguments, true, last);
+    format_sized(tree, room, context, levels, values, skipped)
 }
 
 // A tag and a file's name.

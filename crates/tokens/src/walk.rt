@@ -2,6 +2,7 @@
 use crate::fronts;
 use crate::plain;
 use leads::Before;
+use leads::Lead;
 use leaves::leaf;
 use leaves::record;
 use leaves::record::Opened;
@@ -24,7 +25,8 @@ ghost use Rattle.events.specs.Trees as Trees;
 ghost use Rattle.events.specs.Trees.{eventsIn};
 ghost use Rattle.leaves.specs.Records.{PrintsField, PrintsKind};
 ghost use Rattle.leaves.specs.Lists.{itemsEnd};
-ghost use Rattle.tokens.specs.Inner.{tokenClass, innerOf, Ends, Narrow, elseFront, branchEvents, branchesEnd};
+ghost use Rattle.leads.specs.Leads.{beforeOf};
+ghost use Rattle.tokens.specs.Inner.{tokenClass, innerOf, Ends, Narrow, elseFront, branchEvents, branchesEnd, listedEvents};
 ghost use Rattle.tokens.specs.Tokens.{PrintsTokens, eachEvents};
 
 // What stands inside a token.
@@ -193,6 +195,38 @@ fn format_token(
     format_inner(tree, room, context, levels - 1, number, own.map / 2, start)
 }
 
+// A token of a list, and what stands before it. The lead-in has read the token's own bytes and found its head, so neither is read again; the
+// head of a `Data` (5) is its size.
+fn format_listed_token(
+    tree: &[u8],
+    room: &mut [u8],
+    context: Context,
+    levels: usize,
+    drops: bool,
+    before: Before,
+    last: Printed,
+) -> Printed
+    requires { ⌜ Narrow context levels ⌝ }
+    ensures { λ r. ⌜ Prints r (now (room .exit)) last (now (room .entry)) (λ at. listedEvents context drops (beforeOf before) (read levels (now (tree .entry)) class.BareToken at .tree)) (λ at. read levels (now (tree .entry)) class.BareToken at .end) ⌝ }
+{
+    let Printed::Done(_, at) = last else {
+        return last;
+    };
+    let lead = leads::format_lead_in(tree, room, context, levels, drops, before, last);
+    match lead {
+        Lead::Over(answer) => answer,
+        Lead::Ready(own, head, state) => {
+            let number = leads::byte_at(tree, at);
+            if number == 5 {
+                let size = Printed::Done(state, head);
+                return plain::format_sized(tree, room, context, levels - 1, own.end, size);
+            }
+            let start = Printed::Done(state, own.end);
+            format_inner(tree, room, context, levels - 1, number, own.map / 2, start)
+        }
+    }
+}
+
 // A token whose own bytes were read: what it prints before the block or the token inside it, and that.
 fn format_inner(
     tree: &[u8],
@@ -331,11 +365,7 @@ fn format_each_token(
             return answer;
         };
         let drops = block && before.first;
-        let lead = leads::format_lead_in(tree, room, context, levels - 1, drops, before, answer);
-        let Printed::Done(_, _) = lead else {
-            return lead;
-        };
-        answer = format_token(tree, room, context, levels - 1, true, false, false, lead);
+        answer = format_listed_token(tree, room, context, levels - 1, drops, before, answer);
         before = Before {
             first: false,
             previous: leads::byte_at(tree, at),

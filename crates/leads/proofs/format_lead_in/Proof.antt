@@ -1,10 +1,12 @@
 -- A refusal stays; what is met on the way ends the walk; else the trivia are run, then the newline.
-use Rattle.printing.proofs.Running.{refused-before, done-before}
-use Rattle.leads.specs.Leads.{beforeOf}
-use mathlib.Core.Path.{ap}
-use Prim.Native.Nat.{ℕ, _/_}
-use Rattle.leaves.proofs.Leaves.{full-refused}
-use Rattle.leads.proofs.Leads.{lead-stopped, lead-shown}
+use mathlib.Core.Path.{refl, sym, ap, _∙_}
+use mathlib.Core.Bool.{false}
+use Rattle.tree.specs.Own.{refusalOf}
+use Rattle.tree.specs.declared.grammar.Class.the-variants.{BareToken}
+use Rattle.events.proofs.Heads.{head-missing, head-refused}
+use Rattle.leaves.proofs.Leaves.{own-items}
+use Rattle.leads.specs.Leads.{beforeOf, headRefusalOf}
+use Rattle.leads.proofs.Leads.{token-missing, lead-ready, over-stays, lead-from, over-full, over-met}
 use borrow.Author.Needs.{needs}
 use Rattle.leads.proofs.format_lead_in.Statement.{statement}
 use Rattle.leads.proofs.format_lead_in.Tie as tie
@@ -16,19 +18,19 @@ enum-told : tie.Need-enum-told
 enum-told c = search needs
 
 returns : tie.Need-returns
-returns c = refused-before (c .enum-told .given .1)
+returns c = over-stays (c .enum-told .given .1)
 
 finish-requires : tie.Need-finish-requires
 finish-requires c κs = search needs
 
 returns-2 : tie.Need-returns-2
-returns-2 c = done-before (c .before .before .before .before .last .given .1) (full-refused _ (c .finish .ensures) (c .before .if1 .taken))
+returns-2 c = over-full (c .before .before .before .before .last .given .1) (c .finish .ensures) (c .before .if1 .taken)
 
-head-of-requires : tie.Need-head-of-requires
-head-of-requires c κs = search needs
+read-own-requires : tie.Need-read-own-requires
+read-own-requires c κs = search needs
 
-enum-known-head : tie.Need-enum-known-head
-enum-known-head c = search needs
+enum-known-read : tie.Need-enum-known-read
+enum-known-read c = search needs
 
 enum-told-2 : tie.Need-enum-told-2
 enum-told-2 c = search needs
@@ -38,17 +40,60 @@ refusal-of-requires c κs = search needs
 
 returns-3 : tie.Need-returns-3
 returns-3 c =
-    let start = c .before .before .before .before .before .before .before .before .before .before .before in
+    let told = c .before .enum-told2 .given .1 in
     let read = c .before .before .before in
-    done-before (read .before .before .before .before .last .given .1)
-    (lead-stopped _ _ _ (start .args .context) (start .args .drops) (beforeOf (start .args .stood)) _ _
-    (read .head-of .ensures .0) (c .before .enum-told2 .given .1) (c .refusal-of .ensures) (read .before .if1 .left))
+    over-met (read .before .before .before .before .last .given .1)
+    (token-missing _ _ _ _ (sym (read .read-own .ensures .0) ∙ told)) (c .refusal-of .ensures ∙ ap refusalOf told) (read .before .if1 .left)
+
+head-behind-requires : tie.Need-head-behind-requires
+head-behind-requires c κs = search needs
+
+enum-known-found : tie.Need-enum-known-found
+enum-known-found c = search needs
+
+enum-told-3 : tie.Need-enum-told-3
+enum-told-3 c = search needs
+
+refused-head-requires : tie.Need-refused-head-requires
+refused-head-requires c κs = search needs
+
+returns-4 : tie.Need-returns-4
+returns-4 c =
+    let told = c .before .enum-told3 .given .1 in
+    let behind = c .before .before .before in
+    let token = behind .before .before in
+    let read = token .before .before in
+    let found = behind .head-behind .ensures (sym (read .read-own .ensures .0) ∙ token .read .given .1) in
+    over-met (read .before .before .before .before .last .given .1)
+    (head-missing _ BareToken false refl _ _ _ (sym found ∙ told)) (c .refused-head .ensures ∙ ap headRefusalOf told) (read .before .if1 .left)
+
+read-own-requires-2 : tie.Need-read-own-requires-2
+read-own-requires-2 c κs = search needs
+
+enum-known-opened : tie.Need-enum-known-opened
+enum-known-opened c = search needs
+
+enum-told-4 : tie.Need-enum-told-4
+enum-told-4 c = search needs
+
+refusal-of-requires-2 : tie.Need-refusal-of-requires-2
+refusal-of-requires-2 c κs = search needs
+
+returns-5 : tie.Need-returns-5
+returns-5 c =
+    let told = c .before .enum-told4 .given .1 in
+    let opened = c .before .before .before in
+    let head = opened .before .before in
+    let behind = head .before .before in
+    let token = behind .before .before in
+    let read = token .before .before in
+    let found = behind .head-behind .ensures (sym (read .read-own .ensures .0) ∙ token .read .given .1) in
+    over-met (read .before .before .before .before .last .given .1)
+    (head-refused _ BareToken false refl _ _ _ _ (sym found ∙ head .found .given .1) (sym (opened .read-own2 .ensures .0) ∙ told))
+    (c .refusal-of2 .ensures ∙ ap refusalOf told) (read .before .if1 .left)
 
 byte-at-requires : tie.Need-byte-at-requires
 byte-at-requires c κs = search needs
-
-byte-behind-requires : tie.Need-byte-behind-requires
-byte-behind-requires c κs = search needs
 
 has-block-requires : tie.Need-has-block-requires
 has-block-requires c κs = search needs
@@ -59,26 +104,27 @@ list-trivia-requires c κs = search needs
 break-before-requires : tie.Need-break-before-requires
 break-before-requires c κs = search needs
 
-finish-requires-2 : tie.Need-finish-requires-2
-finish-requires-2 c κs = search needs
-
 same-length : tie.Need-same-length
 same-length c = search needs
 
-returns-4 : tie.Need-returns-4
-returns-4 c =
-    let broken = c .before .before .before in
+returns-6 : tie.Need-returns-6
+returns-6 c =
+    let broken = c .before .before in
     let listed = broken .before .before .before .before in
     let block = listed .before .before in
-    let behind = block .before in
-    let byte = behind .before in
-    let head = byte .before .before in
-    let read = head .before .before in
-    let start = read .before .before .before .before .before .before .before .before in
-    done-before (read .before .before .before .before .last .given .1)
-    (lead-shown _ _ _ (start .args .context) (start .args .drops) (beforeOf (start .args .stood)) _ _ _ _ _ _ _ _
-    (read .head-of .ensures .0) (head .head .given .1) (read .head-of .ensures .1 _ (head .head .given .1)) (byte .byte-at .ensures) (ap (λ (map : ℕ). map / 2) (behind .byte-behind .ensures)) (block .has-block .ensures)
-    (listed .list-trivia .ensures) (broken .break-before .ensures) (c .finish2 .ensures))
+    let byte = block .before .before in
+    let own = byte .before .before in
+    let opened = own .before .before in
+    let head = opened .before .before in
+    let behind = head .before .before in
+    let token = behind .before .before in
+    let read = token .before .before in
+    let args = read .before .before .before .before .before .before .before .before .args in
+    let is = sym (read .read-own .ensures .0) ∙ token .read .given .1 in
+    lead-from (read .before .before .before .before .last .given .1)
+    (lead-ready _ _ _ (args .context) (args .drops) (beforeOf (args .stood)) _ _ _ _ _ _ _ _ _ is (sym (behind .head-behind .ensures is) ∙ head .found .given .1)
+    (sym (opened .read-own2 .ensures .0) ∙ own .opened .given .1) (own-items _ _ _ (opened .read-own2 .ensures .1) (own .opened .given .1))
+    (byte .byte-at .ensures) (block .has-block .ensures) (listed .list-trivia .ensures) (broken .break-before .ensures))
 
 pub format-lead-in-spec : {M : Type 1} → statement M
 format-lead-in-spec =
@@ -89,16 +135,24 @@ format-lead-in-spec =
     returns
     finish-requires
     returns-2
-    head-of-requires
-    enum-known-head
+    read-own-requires
+    enum-known-read
     enum-told-2
     refusal-of-requires
     returns-3
+    head-behind-requires
+    enum-known-found
+    enum-told-3
+    refused-head-requires
+    returns-4
+    read-own-requires-2
+    enum-known-opened
+    enum-told-4
+    refusal-of-requires-2
+    returns-5
     byte-at-requires
-    byte-behind-requires
     has-block-requires
     list-trivia-requires
     break-before-requires
-    finish-requires-2
     same-length
-    returns-4)
+    returns-6)

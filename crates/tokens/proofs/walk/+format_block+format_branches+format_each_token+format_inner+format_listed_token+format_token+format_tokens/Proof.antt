@@ -3,7 +3,7 @@
 use mathlib.Core.Path.{_≡_, refl, sym, _∙_}
 use mathlib.Core.Logic.{⊎-elim}
 use mathlib.Core.List.{List}
-use mathlib.Core.Bool.{_&&_}
+use mathlib.Core.Bool.{false, _&&_}
 use lib.ListN.{length}
 use native.Mathlib.Omega.{arith}
 use borrow.Author.Needs.{needs}
@@ -26,28 +26,32 @@ use Rattle.leaves.proofs.Classes.{close-brace-leaf}
 use Rattle.leaves.proofs.Fielded.{opened-levels, opened-one, opened-kind, shown-closed}
 use Rattle.tokens.specs.Tokens.{eachEvents}
 use Rattle.tokens.proofs.Cycle.{stays-refused, inside-shown, not-nothing, plain-number, one-branch, both-branches, token-rule, token-opened, tokens-shown}
-use Rattle.tokens.proofs.Cycle.{only-in, not-in, restEvents, all-left, block-left, file-left, lead-refused, one-left, rest-from, lead-number}
+use Rattle.tokens.proofs.Cycle.{only-in, not-in, restEvents, all-left, block-left, file-left, one-left, rest-from}
+use Rattle.tokens.proofs.Listed.{listed-number, listed-over, listed-opens, listed-shown, listed-data}
 use Prim.Native.Nat.{ℕ, _<_, _+_, _*_, _-_}
 use borrow.Fn.Kinds.{In}
 use borrow.Fn.PlainCycle.{Measures, is, falls, and}
 use Rattle.tokens.proofs.walk.format_block.Reads as format-block
 use Rattle.tokens.proofs.walk.format_block.Kinds as format-block-kinds
-use Rattle.tokens.proofs.walk.+format_block+format_branches+format_each_token+format_inner+format_token+format_tokens.Lts-format_block as format-block-lts
+use Rattle.tokens.proofs.walk.+format_block+format_branches+format_each_token+format_inner+format_listed_token+format_token+format_tokens.Lts-format_block as format-block-lts
 use Rattle.tokens.proofs.walk.format_branches.Reads as format-branches
 use Rattle.tokens.proofs.walk.format_branches.Kinds as format-branches-kinds
-use Rattle.tokens.proofs.walk.+format_block+format_branches+format_each_token+format_inner+format_token+format_tokens.Lts-format_branches as format-branches-lts
+use Rattle.tokens.proofs.walk.+format_block+format_branches+format_each_token+format_inner+format_listed_token+format_token+format_tokens.Lts-format_branches as format-branches-lts
 use Rattle.tokens.proofs.walk.format_each_token.Reads as format-each-token
 use Rattle.tokens.proofs.walk.format_each_token.Kinds as format-each-token-kinds
-use Rattle.tokens.proofs.walk.+format_block+format_branches+format_each_token+format_inner+format_token+format_tokens.Lts-format_each_token as format-each-token-lts
+use Rattle.tokens.proofs.walk.+format_block+format_branches+format_each_token+format_inner+format_listed_token+format_token+format_tokens.Lts-format_each_token as format-each-token-lts
 use Rattle.tokens.proofs.walk.format_inner.Reads as format-inner
 use Rattle.tokens.proofs.walk.format_inner.Kinds as format-inner-kinds
-use Rattle.tokens.proofs.walk.+format_block+format_branches+format_each_token+format_inner+format_token+format_tokens.Lts-format_inner as format-inner-lts
+use Rattle.tokens.proofs.walk.+format_block+format_branches+format_each_token+format_inner+format_listed_token+format_token+format_tokens.Lts-format_inner as format-inner-lts
+use Rattle.tokens.proofs.walk.format_listed_token.Reads as format-listed-token
+use Rattle.tokens.proofs.walk.format_listed_token.Kinds as format-listed-token-kinds
+use Rattle.tokens.proofs.walk.+format_block+format_branches+format_each_token+format_inner+format_listed_token+format_token+format_tokens.Lts-format_listed_token as format-listed-token-lts
 use Rattle.tokens.proofs.walk.format_token.Reads as format-token
 use Rattle.tokens.proofs.walk.format_token.Kinds as format-token-kinds
-use Rattle.tokens.proofs.walk.+format_block+format_branches+format_each_token+format_inner+format_token+format_tokens.Lts-format_token as format-token-lts
+use Rattle.tokens.proofs.walk.+format_block+format_branches+format_each_token+format_inner+format_listed_token+format_token+format_tokens.Lts-format_token as format-token-lts
 use Rattle.tokens.proofs.walk.format_tokens.Reads as format-tokens
 use Rattle.tokens.proofs.walk.format_tokens.Kinds as format-tokens-kinds
-use Rattle.tokens.proofs.walk.+format_block+format_branches+format_each_token+format_inner+format_token+format_tokens.Lts-format_tokens as format-tokens-lts
+use Rattle.tokens.proofs.walk.+format_block+format_branches+format_each_token+format_inner+format_listed_token+format_token+format_tokens.Lts-format_tokens as format-tokens-lts
 use Rattle.leads.proofs.byte_at.Reads as byte-at-reads
 use Rattle.leads.proofs.format_lead_in.Reads as format-lead-in-reads
 use Rattle.leads.proofs.format_lead_out.Reads as format-lead-out-reads
@@ -60,15 +64,16 @@ use Rattle.printing.proofs.Printed.settled.Reads as settled-reads
 use Rattle.printing.proofs.Printed.trim_newlines.Reads as trim-newlines-reads
 use Rattle.tokens.proofs.fronts.format_token_front.Reads as format-token-front-reads
 use Rattle.tokens.proofs.plain.format_plain_token.Reads as format-plain-token-reads
+use Rattle.tokens.proofs.plain.format_sized.Reads as format-sized-reads
 use Rattle.tokens.proofs.walk.deeper.Reads as deeper-reads
 use Rattle.tokens.proofs.walk.format_else.Reads as format-else-reads
 use Rattle.tokens.proofs.walk.inner_of.Reads as inner-of-reads
 use Rattle.tokens.proofs.walk.open_block.Reads as open-block-reads
 use Rattle.tokens.proofs.walk.token_class.Reads as token-class-reads
-use Rattle.tokens.proofs.walk.+format_block+format_branches+format_each_token+format_inner+format_token+format_tokens.{
+use Rattle.tokens.proofs.walk.+format_block+format_branches+format_each_token+format_inner+format_listed_token+format_token+format_tokens.{
   statement,
 }
-use Rattle.tokens.proofs.walk.+format_block+format_branches+format_each_token+format_inner+format_token+format_tokens.Tie.{
+use Rattle.tokens.proofs.walk.+format_block+format_branches+format_each_token+format_inner+format_listed_token+format_token+format_tokens.Tie.{
   close,
 }
 
@@ -83,6 +88,9 @@ abbrev μ-format-each-token : Measures 2 format-each-token-kinds.ps ℕ
 
 abbrev μ-format-inner : Measures 2 format-inner-kinds.ps ℕ
 μ-format-inner κs a = 4 * a .1 .1 .1 .0 + 2
+
+abbrev μ-format-listed-token : Measures 2 format-listed-token-kinds.ps ℕ
+μ-format-listed-token κs a = 4 * a .1 .1 .1 .0
 
 abbrev μ-format-token : Measures 2 format-token-kinds.ps ℕ
 μ-format-token κs a = 4 * a .1 .1 .1 .0
@@ -113,6 +121,12 @@ format-inner-at t = and 2 format-inner-kinds.ps (is 2 format-inner-kinds.ps μ-f
 
 abbrev format-inner-below : ℕ → In 2 format-inner-kinds.ps
 format-inner-below t = and 2 format-inner-kinds.ps (falls 2 format-inner-kinds.ps _<_ μ-format-inner t) format-inner.Pre
+
+abbrev format-listed-token-at : ℕ → In 2 format-listed-token-kinds.ps
+format-listed-token-at t = and 2 format-listed-token-kinds.ps (is 2 format-listed-token-kinds.ps μ-format-listed-token t) format-listed-token.Pre
+
+abbrev format-listed-token-below : ℕ → In 2 format-listed-token-kinds.ps
+format-listed-token-below t = and 2 format-listed-token-kinds.ps (falls 2 format-listed-token-kinds.ps _<_ μ-format-listed-token t) format-listed-token.Pre
 
 abbrev format-token-at : ℕ → In 2 format-token-kinds.ps
 format-token-at t = and 2 format-token-kinds.ps (is 2 format-token-kinds.ps μ-format-token t) format-token.Pre
@@ -151,10 +165,8 @@ format-branches-claims t = (format-block-below t, format-block.Post, format-else
 
 abbrev format-each-token-claims : ℕ → format-each-token-lts.Claims
 format-each-token-claims t = (
-  format-lead-in-reads.Asked,
-  format-lead-in-reads.Learnt,
-  format-token-below t,
-  format-token.Post,
+  format-listed-token-below t,
+  format-listed-token.Post,
   byte-at-reads.Asked,
   byte-at-reads.Learnt,
   format-lead-out-reads.Asked,
@@ -179,6 +191,18 @@ format-inner-claims t = (
   stands-reads.Learnt,
   format-branches-below t,
   format-branches.Post,
+)
+
+abbrev format-listed-token-claims : ℕ → format-listed-token-lts.Claims
+format-listed-token-claims t = (
+  format-lead-in-reads.Asked,
+  format-lead-in-reads.Learnt,
+  byte-at-reads.Asked,
+  byte-at-reads.Learnt,
+  format-sized-reads.Asked,
+  format-sized-reads.Learnt,
+  format-inner-below t,
+  format-inner.Post,
 )
 
 abbrev format-token-claims : ℕ → format-token-lts.Claims
@@ -400,63 +424,16 @@ format-each-token-returns t c =
           now .2 _ _ (stays-refused (c .enum-told .given .1));
     }
 
-format-each-token-sub-format-lead-in : (t : ℕ)
-    → format-each-token-lts.Need-sub-format-lead-in (format-each-token-claims t) (format-each-token-at t) format-each-token.Post format-each-token-Inv-loop format-each-token-μ-loop
-format-each-token-sub-format-lead-in t c =
+format-each-token-sub-format-listed-token : (t : ℕ)
+    → format-each-token-lts.Need-sub-format-listed-token (format-each-token-claims t) (format-each-token-at t) format-each-token.Post format-each-token-Inv-loop format-each-token-μ-loop
+format-each-token-sub-format-listed-token t c =
     let start = c .before .before .before .before .before .before .before .before .before in
     start .pre .1 .1
 
-format-each-token-format-lead-in-requires : (t : ℕ)
-    → format-each-token-lts.Need-format-lead-in-requires (format-each-token-claims t) (format-each-token-at t) format-each-token.Post format-each-token-Inv-loop format-each-token-μ-loop
-format-each-token-format-lead-in-requires t c κs = search needs
-
-format-each-token-enum-told-2 : (t : ℕ)
-    → format-each-token-lts.Need-enum-told-2 (format-each-token-claims t) (format-each-token-at t) format-each-token.Post format-each-token-Inv-loop format-each-token-μ-loop
-format-each-token-enum-told-2 t c = search needs
-
-format-each-token-enum-told-3 : (t : ℕ)
-    → format-each-token-lts.Need-enum-told-3 (format-each-token-claims t) (format-each-token-at t) format-each-token.Post format-each-token-Inv-loop format-each-token-μ-loop
-format-each-token-enum-told-3 t c = search needs
-
-format-each-token-same-length-2 : (t : ℕ)
-    → format-each-token-lts.Need-same-length-2 (format-each-token-claims t) (format-each-token-at t) format-each-token.Post format-each-token-Inv-loop format-each-token-μ-loop
-format-each-token-same-length-2 t c =
-    let at-lead = c .before .before .before .before in
-    let at-loop = at-lead .before .before .before .before .before .before .before in
-    at-lead .format-lead-in .kept .1 .0 ∙ at-loop .loop .inv .0
-
-format-each-token-returns-2 : (t : ℕ)
-    → format-each-token-lts.Need-returns-2 (format-each-token-claims t) (format-each-token-at t) format-each-token.Post format-each-token-Inv-loop format-each-token-μ-loop
-format-each-token-returns-2 t c =
-    let at-lead = c .before .before .before .before in
-    let at-if1 = at-lead .before .before in
-    let at-answer = at-if1 .before .before in
-    let at-loop-test = at-answer .before .before in
-    let at-loop = at-loop-test .before in
-    let args = at-loop .before .before .before .args in
-    let stood = at-loop .loop .before in
-    let count = at-loop .loop .left in
-    let drops =
-    ⊎-elim (λ way. only-in (args .block) _ _ (way .0 .taken, way .1)) (λ way. not-in (args .block) _ _ (way .0 .left, way .1)) (at-if1 .if1 .came) in
-    let lead = rw drops at (at-lead .format-lead-in .ensures) .from _ refl in
-    let refused = lead-refused (args .context) (args .block) _ _ stood count _ (at-loop-test .loop-test .taken) lead (c .enum-told3 .given .1) in
-    record {
-      from = λ start here.
-          let now = at-loop .loop .inv .1 start here in
-          now .2 _ _ (rest-from _ (args .block) _ _ stood count (now .0) (at-answer .answer .given .1) (now .1) refl refused);
-    }
-
-format-each-token-sub-format-token : (t : ℕ)
-    → format-each-token-lts.Need-sub-format-token (format-each-token-claims t) (format-each-token-at t) format-each-token.Post format-each-token-Inv-loop format-each-token-μ-loop
-format-each-token-sub-format-token t c =
-    let start = c .before .before .before .before .before .before .before .before .before .before .before .before .before .before .before in
-    start .pre .1 .1
-
-format-each-token-format-token-requires : (t : ℕ)
-    → format-each-token-lts.Need-format-token-requires (format-each-token-claims t) (format-each-token-at t) format-each-token.Post format-each-token-Inv-loop format-each-token-μ-loop
-format-each-token-format-token-requires t c κs =
-    let at-loop = c .before .before .before .before .before .before .before .before .before .before .before .before in
-    let start = at-loop .before .before .before in
+format-each-token-format-listed-token-requires : (t : ℕ)
+    → format-each-token-lts.Need-format-listed-token-requires (format-each-token-claims t) (format-each-token-at t) format-each-token.Post format-each-token-Inv-loop format-each-token-μ-loop
+format-each-token-format-listed-token-requires t c κs =
+    let start = c .before .before .before .before .before .before .before .before .before in
     let measured = start .pre .0 in
     let narrow = start .pre .1 .0 in
     let levels-left = start .pre .1 .1 in
@@ -469,22 +446,20 @@ format-each-token-byte-at-requires t c κs = search needs
 format-each-token-sub-left : (t : ℕ)
     → format-each-token-lts.Need-sub-left (format-each-token-claims t) (format-each-token-at t) format-each-token.Post format-each-token-Inv-loop format-each-token-μ-loop
 format-each-token-sub-left t c =
-    let at-loop-test = c .before .before .before .before .before .before .before .before .before .before .before .before .before .before .before in
+    let at-loop-test = c .before .before .before .before .before .before .before .before .before in
     at-loop-test .loop-test .taken
 
 format-each-token-loop-less : (t : ℕ)
     → format-each-token-lts.Need-loop-less (format-each-token-claims t) (format-each-token-at t) format-each-token.Post format-each-token-Inv-loop format-each-token-μ-loop
 format-each-token-loop-less t c =
-    let at-loop-test = c .before .before .before .before .before .before .before .before .before .before .before .before .before .before .before in
+    let at-loop-test = c .before .before .before .before .before .before .before .before .before in
     omega (arith, at-loop-test .loop-test .taken)
 
 format-each-token-loop-again : (t : ℕ)
     → format-each-token-lts.Need-loop-again (format-each-token-claims t) (format-each-token-at t) format-each-token.Post format-each-token-Inv-loop format-each-token-μ-loop
 format-each-token-loop-again t c =
-    let at-format-token = c .before .before .before in
-    let at-lead-done = at-format-token .before .before in
-    let at-lead = at-lead-done .before .before .before .before in
-    let at-if1 = at-lead .before .before in
+    let at-listed = c .before .before .before in
+    let at-if1 = at-listed .before .before in
     let at-answer = at-if1 .before .before in
     let at-loop-test = at-answer .before .before in
     let at-loop = at-loop-test .before in
@@ -493,16 +468,15 @@ format-each-token-loop-again t c =
     let count = at-loop .loop .left in
     let drops =
     ⊎-elim (λ way. only-in (args .block) _ _ (way .0 .taken, way .1)) (λ way. not-in (args .block) _ _ (way .0 .left, way .1)) (at-if1 .if1 .came) in
-    let lead = rw drops at (at-lead .format-lead-in .ensures) .from _ refl in
-    let token = at-format-token .format-token .ensures .from _ (lead .next) in
-    let number = lead-number _ _ _ (args .context) (args .block && stood .first) stood _ _ lead (at-lead-done .enum-told2 .given .1) ∙ sym (c .byte-at .ensures) in (
-      at-format-token .format-token .kept .1 .0 ∙ at-lead .format-lead-in .kept .1 .0 ∙ at-loop .loop .inv .0,
+    let listed = rw drops at (at-listed .format-listed-token .ensures) .from _ refl in (
+      at-listed .format-listed-token .kept .1 .0 ∙ at-loop .loop .inv .0,
       λ start here.
           let now = at-loop .loop .inv .1 start here in (
             _,
-            token .next,
+            listed .next,
             λ said after rest. now .2 said after (rest-from _ (args .block) _ _ stood count (now .0) (at-answer .answer .given .1)
-                (now .1) refl (one-left _ (args .block) _ _ stood count _ _ (at-loop-test .loop-test .taken) number lead token rest)),
+                (now .1) refl (one-left _ (args .block) _ _ _ _ stood count _ _ (at-loop-test .loop-test .taken)
+                (λ state place done. listed-number _ _ _ (args .context) (args .block && stood .first) stood _ _ listed done ∙ sym (c .byte-at .ensures)) listed rest)),
           ),
     )
 
@@ -510,16 +484,16 @@ format-each-token-format-lead-out-requires : (t : ℕ)
     → format-each-token-lts.Need-format-lead-out-requires (format-each-token-claims t) (format-each-token-at t) format-each-token.Post format-each-token-Inv-loop format-each-token-μ-loop
 format-each-token-format-lead-out-requires t c κs = search needs
 
-format-each-token-same-length-3 : (t : ℕ)
-    → format-each-token-lts.Need-same-length-3 (format-each-token-claims t) (format-each-token-at t) format-each-token.Post format-each-token-Inv-loop format-each-token-μ-loop
-format-each-token-same-length-3 t c =
+format-each-token-same-length-2 : (t : ℕ)
+    → format-each-token-lts.Need-same-length-2 (format-each-token-claims t) (format-each-token-at t) format-each-token.Post format-each-token-Inv-loop format-each-token-μ-loop
+format-each-token-same-length-2 t c =
     let at-lead-out = c .before .before in
     let at-loop = at-lead-out .before .before .before .before in
     at-lead-out .format-lead-out .kept .1 .0 ∙ at-loop .loop .inv .0
 
-format-each-token-returns-3 : (t : ℕ)
-    → format-each-token-lts.Need-returns-3 (format-each-token-claims t) (format-each-token-at t) format-each-token.Post format-each-token-Inv-loop format-each-token-μ-loop
-format-each-token-returns-3 t c =
+format-each-token-returns-2 : (t : ℕ)
+    → format-each-token-lts.Need-returns-2 (format-each-token-claims t) (format-each-token-at t) format-each-token.Post format-each-token-Inv-loop format-each-token-μ-loop
+format-each-token-returns-2 t c =
     let at-lead-out = c .before .before in
     let at-if2 = at-lead-out .before .before in
     let at-loop-test = at-if2 .before in
@@ -535,15 +509,15 @@ format-each-token-settled-requires : (t : ℕ)
     → format-each-token-lts.Need-settled-requires (format-each-token-claims t) (format-each-token-at t) format-each-token.Post format-each-token-Inv-loop format-each-token-μ-loop
 format-each-token-settled-requires t c κs = search needs
 
-format-each-token-same-length-4 : (t : ℕ)
-    → format-each-token-lts.Need-same-length-4 (format-each-token-claims t) (format-each-token-at t) format-each-token.Post format-each-token-Inv-loop format-each-token-μ-loop
-format-each-token-same-length-4 t c =
+format-each-token-same-length-3 : (t : ℕ)
+    → format-each-token-lts.Need-same-length-3 (format-each-token-claims t) (format-each-token-at t) format-each-token.Post format-each-token-Inv-loop format-each-token-μ-loop
+format-each-token-same-length-3 t c =
     let at-loop = c .before .before .before in
     at-loop .loop .inv .0
 
-format-each-token-returns-4 : (t : ℕ)
-    → format-each-token-lts.Need-returns-4 (format-each-token-claims t) (format-each-token-at t) format-each-token.Post format-each-token-Inv-loop format-each-token-μ-loop
-format-each-token-returns-4 t c =
+format-each-token-returns-3 : (t : ℕ)
+    → format-each-token-lts.Need-returns-3 (format-each-token-claims t) (format-each-token-at t) format-each-token.Post format-each-token-Inv-loop format-each-token-μ-loop
+format-each-token-returns-3 t c =
     let at-if2 = c .before in
     let at-loop-test = at-if2 .before in
     let at-loop = at-loop-test .before in
@@ -676,6 +650,100 @@ format-inner-returns-5 t c =
     let at-match = c .before .before .before .before .before .before in
     not-nothing (at-match .match .keys2) (c .enum-told3 .given .1)
 
+-- ---- format_listed_token: the lead-in has opened the record, and the walk goes on behind its own bytes, or at the size of a `Data`
+
+format-listed-token-enum-known-last : (t : ℕ) → format-listed-token-lts.Need-enum-known-last (format-listed-token-claims t) (format-listed-token-at t) format-listed-token.Post
+format-listed-token-enum-known-last t c = search needs
+
+format-listed-token-enum-told : (t : ℕ) → format-listed-token-lts.Need-enum-told (format-listed-token-claims t) (format-listed-token-at t) format-listed-token.Post
+format-listed-token-enum-told t c = search needs
+
+format-listed-token-returns : (t : ℕ) → format-listed-token-lts.Need-returns (format-listed-token-claims t) (format-listed-token-at t) format-listed-token.Post
+format-listed-token-returns t c = refused-before (c .enum-told .given .1)
+
+format-listed-token-format-lead-in-requires : (t : ℕ) → format-listed-token-lts.Need-format-lead-in-requires (format-listed-token-claims t) (format-listed-token-at t) format-listed-token.Post
+format-listed-token-format-lead-in-requires t c κs = search needs
+
+format-listed-token-enum-known-lead : (t : ℕ) → format-listed-token-lts.Need-enum-known-lead (format-listed-token-claims t) (format-listed-token-at t) format-listed-token.Post
+format-listed-token-enum-known-lead t c = search needs
+
+format-listed-token-enum-known-lead-2 : (t : ℕ) → format-listed-token-lts.Need-enum-known-lead-2 (format-listed-token-claims t) (format-listed-token-at t) format-listed-token.Post
+format-listed-token-enum-known-lead-2 t c = search needs
+
+format-listed-token-byte-at-requires : (t : ℕ) → format-listed-token-lts.Need-byte-at-requires (format-listed-token-claims t) (format-listed-token-at t) format-listed-token.Post
+format-listed-token-byte-at-requires t c κs = search needs
+
+format-listed-token-sub-format-sized : (t : ℕ) → format-listed-token-lts.Need-sub-format-sized (format-listed-token-claims t) (format-listed-token-at t) format-listed-token.Post
+format-listed-token-sub-format-sized t c =
+    let at-ready = c .before .before .before .before in
+    let at-lead = at-ready .before .before .before .before in
+    opened-levels (listed-opens (at-lead .format-lead-in .ensures) (at-ready .lead2 .given .1) _ refl) refl
+
+format-listed-token-format-sized-requires : (t : ℕ) → format-listed-token-lts.Need-format-sized-requires (format-listed-token-claims t) (format-listed-token-at t) format-listed-token.Post
+format-listed-token-format-sized-requires t c κs = search needs
+
+format-listed-token-same-length : (t : ℕ) → format-listed-token-lts.Need-same-length (format-listed-token-claims t) (format-listed-token-at t) format-listed-token.Post
+format-listed-token-same-length t c = search needs
+
+format-listed-token-returns-2 : (t : ℕ) → format-listed-token-lts.Need-returns-2 (format-listed-token-claims t) (format-listed-token-at t) format-listed-token.Post
+format-listed-token-returns-2 t c =
+    let at-sized = c .before .before in
+    let at-if1 = at-sized .before .before in
+    let at-byte = at-if1 .before in
+    let at-ready = at-byte .before .before in
+    let at-lead = at-ready .before .before .before .before in
+    let at-last = at-lead .before .before .before in
+    done-before (at-last .last .given .1)
+    (listed-data (at-lead .format-lead-in .ensures) (at-ready .lead2 .given .1) _ refl (at-byte .byte-at .ensures) (at-if1 .if1 .taken) (at-sized .format-sized .ensures))
+
+format-listed-token-sub-format-inner : (t : ℕ) → format-listed-token-lts.Need-sub-format-inner (format-listed-token-claims t) (format-listed-token-at t) format-listed-token.Post
+format-listed-token-sub-format-inner t c =
+    let at-ready = c .before .before .before .before in
+    let at-lead = at-ready .before .before .before .before in
+    opened-levels (listed-opens (at-lead .format-lead-in .ensures) (at-ready .lead2 .given .1) _ refl) refl
+
+format-listed-token-format-inner-requires : (t : ℕ) → format-listed-token-lts.Need-format-inner-requires (format-listed-token-claims t) (format-listed-token-at t) format-listed-token.Post
+format-listed-token-format-inner-requires t c κs =
+    let at-byte = c .before .before .before in
+    let at-ready = at-byte .before .before in
+    let at-lead = at-ready .before .before .before .before in
+    let at-last = at-lead .before .before .before in
+    let start = at-last .before .before .before .before in
+    let opens = listed-opens (at-lead .format-lead-in .ensures) (at-ready .lead2 .given .1) _ refl in
+    let levels-left = opened-levels opens refl in
+    let token = token-opened false _ opens refl refl in
+    let measured = start .pre .0 in
+    let narrow = start .pre .1 in
+    (omega (arith, levels-left, measured), ((narrow .0, omega (arith, narrow .1)), rw (at-byte .byte-at .ensures) (token .ends)))
+
+format-listed-token-same-length-2 : (t : ℕ) → format-listed-token-lts.Need-same-length-2 (format-listed-token-claims t) (format-listed-token-at t) format-listed-token.Post
+format-listed-token-same-length-2 t c = search needs
+
+format-listed-token-returns-3 : (t : ℕ) → format-listed-token-lts.Need-returns-3 (format-listed-token-claims t) (format-listed-token-at t) format-listed-token.Post
+format-listed-token-returns-3 t c =
+    let at-over = c .before in
+    let at-lead = at-over .before .before .before .before in
+    let at-last = at-lead .before .before .before in
+    done-before (at-last .last .given .1) (listed-over (at-lead .format-lead-in .ensures) (at-over .lead .given .1) .from _ refl)
+
+format-listed-token-same-length-3 : (t : ℕ) → format-listed-token-lts.Need-same-length-3 (format-listed-token-claims t) (format-listed-token-at t) format-listed-token.Post
+format-listed-token-same-length-3 t c = search needs
+
+format-listed-token-returns-4 : (t : ℕ) → format-listed-token-lts.Need-returns-4 (format-listed-token-claims t) (format-listed-token-at t) format-listed-token.Post
+format-listed-token-returns-4 t c =
+    let at-format-inner = c .before .before in
+    let at-byte = at-format-inner .before .before .before .before in
+    let at-ready = at-byte .before .before in
+    let at-lead = at-ready .before .before .before .before in
+    let at-last = at-lead .before .before .before in
+    let leads = at-lead .format-lead-in .ensures in
+    let is = at-ready .lead2 .given .1 in
+    let opens = listed-opens leads is _ refl in
+    let token = token-opened false _ opens refl refl in
+    let inner = rw (at-byte .byte-at .ensures) at (at-format-inner .format-inner .ensures) in
+    done-before (at-last .last .given .1)
+    (listed-shown leads is _ refl (opened-kind opens refl (leaf plain) _ refl (token .fielded) (inner (token .small) _ (token .known))))
+
 -- ---- format_token: the number of the record that was opened is one of a token, and the walk goes on behind its own bytes
 
 format-token-enum-known-last : (t : ℕ) → format-token-lts.Need-enum-known-last (format-token-claims t) (format-token-at t) format-token.Post
@@ -803,13 +871,14 @@ format-tokens-returns-2 t c =
     let block = at-open .before .before .before .before .args .block in
     tokens-shown block (at-open .«open» .ensures) (at-opened .opened .given .1) (at-format-each-token .format-each-token .ensures)
 
-pub +format-block+format-branches+format-each-token+format-inner+format-token+format-tokens-spec : {M : Type 1} → statement M
-+format-block+format-branches+format-each-token+format-inner+format-token+format-tokens-spec =
+pub +format-block+format-branches+format-each-token+format-inner+format-listed-token+format-token+format-tokens-spec : {M : Type 1} → statement M
++format-block+format-branches+format-each-token+format-inner+format-listed-token+format-token+format-tokens-spec =
     close
     μ-format-block
     μ-format-branches
     μ-format-each-token
     μ-format-inner
+    μ-format-listed-token
     μ-format-token
     μ-format-tokens
     (λ t. format-block-lts.spec (format-block-claims t)
@@ -853,24 +922,18 @@ pub +format-block+format-branches+format-each-token+format-inner+format-token+fo
     (format-each-token-enum-told t)
     (format-each-token-same-length t)
     (format-each-token-returns t)
-    (format-each-token-sub-format-lead-in t)
-    (format-each-token-format-lead-in-requires t)
-    (format-each-token-enum-told-2 t)
-    (format-each-token-enum-told-3 t)
-    (format-each-token-same-length-2 t)
-    (format-each-token-returns-2 t)
-    (format-each-token-sub-format-token t)
-    (format-each-token-format-token-requires t)
+    (format-each-token-sub-format-listed-token t)
+    (format-each-token-format-listed-token-requires t)
     (format-each-token-byte-at-requires t)
     (format-each-token-sub-left t)
     (format-each-token-loop-less t)
     (format-each-token-loop-again t)
     (format-each-token-format-lead-out-requires t)
-    (format-each-token-same-length-3 t)
-    (format-each-token-returns-3 t)
+    (format-each-token-same-length-2 t)
+    (format-each-token-returns-2 t)
     (format-each-token-settled-requires t)
-    (format-each-token-same-length-4 t)
-    (format-each-token-returns-4 t))
+    (format-each-token-same-length-3 t)
+    (format-each-token-returns-3 t))
     (λ t. format-inner-lts.spec (format-inner-claims t)
     (format-inner-at t)
     format-inner.Post
@@ -896,6 +959,26 @@ pub +format-block+format-branches+format-each-token+format-inner+format-token+fo
     (format-inner-returns-4 t)
     (format-inner-same-length-5 t)
     (format-inner-returns-5 t))
+    (λ t. format-listed-token-lts.spec (format-listed-token-claims t)
+    (format-listed-token-at t)
+    format-listed-token.Post
+    (format-listed-token-enum-known-last t)
+    (format-listed-token-enum-told t)
+    (format-listed-token-returns t)
+    (format-listed-token-format-lead-in-requires t)
+    (format-listed-token-enum-known-lead t)
+    (format-listed-token-enum-known-lead-2 t)
+    (format-listed-token-byte-at-requires t)
+    (format-listed-token-sub-format-sized t)
+    (format-listed-token-format-sized-requires t)
+    (format-listed-token-same-length t)
+    (format-listed-token-returns-2 t)
+    (format-listed-token-sub-format-inner t)
+    (format-listed-token-format-inner-requires t)
+    (format-listed-token-same-length-2 t)
+    (format-listed-token-returns-3 t)
+    (format-listed-token-same-length-3 t)
+    (format-listed-token-returns-4 t))
     (λ t. format-token-lts.spec (format-token-claims t)
     (format-token-at t)
     format-token.Post

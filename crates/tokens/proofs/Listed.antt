@@ -1,0 +1,114 @@
+-- Laws of a token of a list: what its lead-in has read says what it is, so what is shown behind its own bytes, or of a `Data` from its size on, is shown of the token.
+use mathlib.Core.Path.{_≡_, refl, sym, ap, _∙_}
+use mathlib.Core.List.{List}
+use mathlib.Core.Bool.{Bool, true, false}
+use Prim.Native.Nat.{ℕ, _-_, _/_}
+use native.Mathlib.Omega.{arith}
+use lib.Dec.{eqb}
+use lib.ListN.{getD}
+use borrow.Author.Tests.{eqb-true, eqb-false}
+use Rattle.text.proofs.Choices.{by-test}
+use Rattle.answers.specs.declared.Refusal.{Refusal}
+use Rattle.tree.specs.Tree.{built}
+use Rattle.tree.specs.Own.{readOwn}
+use Rattle.tree.specs.Reading.{read}
+use Rattle.tree.specs.Stored.{storedWith}
+use Rattle.tree.specs.declared.grammar.Class.the-variants.{BareToken, DataSize}
+use Rattle.tree.specs.declared.grammar.Kind.the-variants as variant
+use Rattle.tree.specs.declared.own.Own.{Own}
+use Rattle.tree.specs.declared.own.OwnRead.{OwnRead}
+use Rattle.tree.specs.declared.own.OwnRead.the-variants as own-is
+use Rattle.tree.specs.declared.parts.Skipped.the-variants.{Next}
+use Rattle.tree.proofs.KindLayout.{kindNumber}
+use Rattle.tree.proofs.OwnBytes.{own-fits}
+use Rattle.printing.specs.Running.{going, ended, run, placeOf, outcome, settled, Shown, Prints}
+use Rattle.printing.specs.declared.CodeFormatter.{CodeFormatter}
+use Rattle.printing.specs.declared.Context.{Context}
+use Rattle.printing.specs.declared.Printed.{Printed}
+use Rattle.printing.specs.declared.Printed.the-variants.{Done}
+use Rattle.printing.proofs.Running.{run-full, done-before, _then_}
+use Rattle.events.specs.Printed.{plain}
+use Rattle.events.specs.Trees.{Before, leaf}
+use Rattle.events.specs.Views.{tokenNumber}
+use Rattle.events.proofs.Heads.{number-read}
+use Rattle.leaves.specs.Records.{Opens, PrintsField}
+use Rattle.leaves.specs.declared.record.Opened.the-variants as opened-is
+use Rattle.leaves.proofs.Fielded.{opened-kind}
+use Rattle.leads.specs.Leads.{beforeOf, leadIn, Led, LeadsIn}
+use Rattle.leads.specs.declared.Before as code
+use Rattle.leads.specs.declared.Lead.{Lead}
+use Rattle.leads.specs.declared.Lead.the-variants.{Ready, Over}
+use Rattle.leads.proofs.Leads.{token-missing, lead-stopped}
+use Rattle.tokens.specs.Inner.{sizedEvents, listedEvents}
+use Rattle.tokens.proofs.PlainTokens.{kind-named, data-shown, values-skipped}
+use Rattle.tokens.proofs.Cycle.{token-opened}
+
+-- ---- the number of a token
+
+-- a run that goes on has not ended
+not-ended : {P : Type 0} {room place : List ℕ} {state : CodeFormatter} {why : Refusal} → going room state ≡ ended place why → P
+not-ended e = let z : _≡_ {A = ℕ} 0 1 = cc in absurd (omega arith)
+
+-- a token that went on was read, and its number is its first byte
+pub listed-number : (levels : ℕ) (bytes : List ℕ) (at : ℕ) (context : Context) (drops : Bool) (before : code.Before) (room : List ℕ) (state : CodeFormatter)
+    {token : Printed} {left : List ℕ} {next : CodeFormatter} {place end : ℕ}
+    → Shown token left (listedEvents context drops (beforeOf before) (read levels bytes BareToken at .tree)) (going room state) end → token ≡ Done next place
+    → tokenNumber (read levels bytes BareToken at .tree) ≡ getD bytes at 0
+listed-number levels bytes at context drops before room state {token} {left} {next} shown done = go (readOwn bytes at BareToken levels) refl
+  where
+    went : going left next ≡ settled (run (listedEvents context drops (beforeOf before) (read levels bytes BareToken at .tree)) (going room state))
+    went = sym (ap (λ (a : Printed). outcome a left) done) ∙ shown .state
+
+    go : (own : OwnRead) → readOwn bytes at BareToken levels ≡ own → tokenNumber (read levels bytes BareToken at .tree) ≡ getD bytes at 0
+    go (own-is.Record own) is = number-read levels bytes BareToken at own is
+    go (own-is.Refused why) is =
+        by-test (eqb (state .full) 0)
+        (λ empty. not-ended (went
+        ∙ sym (lead-stopped levels bytes at context drops (beforeOf before) room state (token-missing levels bytes at why is) (eqb-true _ _ empty) _ 0 .state)))
+        (λ full. not-ended (went ∙ run-full _ room state (eqb-false _ _ full)))
+
+-- ---- a token behind its lead-in
+
+module _ {context : Context} {drops : Bool} {before : Before} {levels : ℕ} {bytes : List ℕ} {left room : List ℕ} {last : Printed} {lead : Lead}
+    (leads : LeadsIn lead left last room context drops before levels bytes)
+  where
+    -- where the walk ended before it
+    pub listed-over : {answer : Printed} → lead ≡ Over answer
+        → Prints answer left last room (λ at. listedEvents context drops before (read levels bytes BareToken at .tree)) (λ at. read levels bytes BareToken at .end)
+    listed-over {answer} is =
+        let over : LeadsIn (Over answer) left last room context drops before levels bytes = rw is at leads in
+        record { from = λ at here. over .from at here _ _ }
+
+    module _ {own : Own} {head : ℕ} {state : CodeFormatter} (is : lead ≡ Ready own head state) (at : ℕ) (here : placeOf last at ≡ at) where
+      -- what was read and run there
+      led : Led own head state left (outcome last room) (leadIn context drops before (read levels bytes BareToken at .tree)) levels bytes at
+      led =
+          let ready : LeadsIn (Ready own head state) left last room context drops before levels bytes = rw is at leads in
+          ready .from at here
+
+      -- so its record is open
+      pub listed-opens : Opens (opened-is.Record own state) left (Done state at) left context false levels bytes BareToken true
+      unfolding run
+      listed-opens = record {
+        from = λ place same. rw (← same) (refl, led .token, own-fits bytes at BareToken levels own (led .token), refl);
+      }
+
+      module _ {answer : Printed} {after : List ℕ} where
+        -- what is shown of the record is shown of the token of the list
+        pub listed-shown : PrintsField answer after (Done state at) left context (leaf plain) false levels bytes BareToken true
+            → Shown answer after (listedEvents context drops before (read levels bytes BareToken at .tree)) (outcome last room) (read levels bytes BareToken at .end)
+        listed-shown token = record { ran = led .ran } then token .from at refl
+
+        -- of a `Data` what is shown from its size on
+        pub listed-data : {number : ℕ} → number ≡ getD bytes at 0 → number ≡ 5
+            → Prints answer after (Done state head) left (λ place. sizedEvents context (read (levels - 1) bytes) (own .end) place) (λ place. read (levels - 1) bytes DataSize place .end)
+            → Shown answer after (listedEvents context drops before (read levels bytes BareToken at .tree)) (outcome last room) (read levels bytes BareToken at .end)
+        unfolding built kindNumber storedWith
+        listed-data byte five sized =
+            let number : getD bytes at 0 ≡ 5 = sym byte ∙ five in
+            let opens = listed-opens in
+            let found = led .head in
+            let skips = values-skipped levels bytes at own (found .0) (led .token) (found .1) number ∙ ap (λ (place : ℕ). Next place) (found .2) in
+            let kind = kind-named number refl (token-opened false at opens refl refl .known) in
+            listed-shown (opened-kind opens refl (leaf plain) variant.Data kind refl
+            (done-before refl (data-shown context (levels - 1) bytes (own .map / 2) (own .end) head skips (sized .from head refl))))
