@@ -21,7 +21,8 @@ use Rattle.columns.proofs.Neatness.{text-blanks, text-empties}
 use Rattle.columns.proofs.Length.{text-short}
 
 -- the text of a list that was accepted keeps the ink, is neat, and is short
-pub text-faithful : (margins : Margins) (list : List ℕ) → margins .label ≤ 255 → margins .code ≤ 255 → Bytes list → chunksChecked list ≡ Passed → Faithful (chunksOf list) (textOf margins (chunksOf list))
+pub text-faithful : (margins : Margins) (list : List ℕ) → margins .label ≤ 255 → margins .code ≤ 255 → Bytes list → chunksChecked list ≡ Passed
+    → Faithful (chunksOf list) (textOf margins (chunksOf list))
 text-faithful margins list narrow-label narrow-code bytes passed =
     let chunks = chunksOf list in
     let stored = accepted-stored list bytes passed in

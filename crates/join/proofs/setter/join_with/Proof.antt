@@ -35,7 +35,8 @@ returns-2 c =
     let start = c .before .before .before .before .before .before .before in
     let list = start .args .chunks .now in
     let passed = sym (c .before .before .before .before .check-chunks .ensures) ∙ c .before .before .enum-told .given .1 in
-    let faithful = text-faithful (start .args .margins) list (start .pre .label) (start .pre .code) (λ i. omega (arith, c .before .before .before .before .before .before .shared-slice-known .given i)) passed in
+    let byte = c .before .before .before .before .before .before .shared-slice-known .given in
+    let faithful = text-faithful (start .args .margins) list (start .pre .label) (start .pre .code) (λ i. omega (arith, byte i)) passed in
     let long = text-long (textOf (start .args .margins) (chunksOf list)) (start .args .text .now) _ (c .before .measure-lines .ensures .0) (c .if1 .taken) in
     rw passed (long .0, (long .1, faithful))
 
@@ -60,7 +61,8 @@ returns-3 c =
     let start = c .before .before .before .before .before .before .before .before .before .before .before in
     let list = start .args .chunks .now in
     let passed = sym (c .before .before .before .before .before .before .before .before .check-chunks .ensures) ∙ c .before .before .before .before .before .before .enum-told .given .1 in
-    let faithful = text-faithful (start .args .margins) list (start .pre .label) (start .pre .code) (λ i. omega (arith, c .before .before .before .before .before .before .before .before .before .before .shared-slice-known .given i)) passed in
+    let byte = c .before .before .before .before .before .before .before .before .before .before .shared-slice-known .given in
+    let faithful = text-faithful (start .args .margins) list (start .pre .label) (start .pre .code) (λ i. omega (arith, byte i)) passed in
     let fits = text-fits (textOf (start .args .margins) (chunksOf list)) (start .args .text .now) _ (c .before .before .before .before .before .measure-lines .ensures .0) (c .before .before .before .before .if1 .left) in
     rw (passed, c .before .before .write-lines .ensures) (fits .0, (fits .1, faithful))
 
