@@ -33,5 +33,7 @@ abbrev pub wanted : Sample → Outcome × Answer × List ℕ
 wanted sample = (text (sample .text), Accepted (sample .length), sample .text ++ marks (64 - sample .length))
 
 pub samples-set : map found samples ≡ map wanted samples
-unfolding ascii storedIndent storedHead storedChunk storedList textAt chunkAt chunksFrom storedChunks chunksAt endFrom layoutChecked textsChecked chunksChecked acceptedByte acceptedText standing valuesChecked storedOptions readOptions cut isNewline piecesOf pieces ignored added add ends standalone setLine keeps after keptLines linesKept textOf joinOutcome blank allBlank trimEnd hasNewline behind joined
+unfolding ascii storedIndent storedHead storedChunk storedList textAt chunkAt chunksFrom storedChunks chunksAt endFrom layoutChecked textsChecked
+    chunksChecked acceptedByte acceptedText standing valuesChecked storedOptions readOptions cut isNewline piecesOf pieces ignored added add ends
+    standalone setLine keeps after keptLines linesKept textOf joinOutcome blank allBlank trimEnd hasNewline behind joined
 samples-set = refl

@@ -98,7 +98,9 @@ head-passed (Vec items) passed = refl
 head-passed (Leaf text) passed = refl
 head-passed (PathItem text) passed = refl
 head-passed (Block lparen inner rparen) passed = own-passed lparen (both-passed (firstRefusal lparen) _ passed .0)
-head-passed (BinaryExpression op lhs rhs) passed = let both = both-passed (firstRefusal op) (andThen (firstRefusal lhs) (firstRefusal rhs)) passed in rw (both .0) (own-passed lhs (both-passed (firstRefusal lhs) _ (both .1) .0))
+head-passed (BinaryExpression op lhs rhs) passed =
+    let both = both-passed (firstRefusal op) (andThen (firstRefusal lhs) (firstRefusal rhs)) passed in
+    rw (both .0) (own-passed lhs (both-passed (firstRefusal lhs) _ (both .1) .0))
 head-passed (Factor factor tagNot tagNeg) passed = own-passed factor (both-passed (firstRefusal factor) _ passed .0)
 head-passed (CurrentProgramCounter star) passed = refl
 head-passed (ExprParens lparen inner rparen) passed = refl

@@ -414,7 +414,8 @@ module _ (Q P : List ℕ → Type 0)
     events-push n place shown (Operand expr lchar rchar mode suffix) closed texts room =
         chosen (stands lchar) _ _ (skip-push expr) none
         and events-push n (leaf plain) true lchar tt (texts .1) (omega arith) and events-push n (leaf plain) true expr tt (texts .0) (omega arith)
-        and skip-push rchar and skip-push mode and operand-push (indexOf mode) _ _ (events-push n (leaf plain) true rchar tt (texts .2) (omega arith)) (events-push n (leaf plain) true suffix tt (texts .4) (omega arith))
+        and skip-push rchar and skip-push mode
+        and operand-push (indexOf mode) _ _ (events-push n (leaf plain) true rchar tt (texts .2) (omega arith)) (events-push n (leaf plain) true suffix tt (texts .4) (omega arith))
     events-push n place shown (RegisterSuffix comma register′) closed texts room =
         events-push n (leaf plain) true comma tt (texts .0) (omega arith) and spaces
         and events-push n (leaf register) true register′ tt (texts .1) (omega arith) and clears

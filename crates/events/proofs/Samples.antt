@@ -322,7 +322,10 @@ wanted sample = (Passed, sample .chunks)
 
 -- every row holds
 pub rows-held : map found rows ≡ map wanted rows
-unfolding cased isNewline storedIndent storedHead storedChunk built chain fieldsFit mapFits sizedEnd triviumEnd triviaEnd triviaRead textEnd restOf ownAt readOwn triviaFrom fieldsDue partsDue readParts read heldLength withoutNewlines hold ascii mnemonics registers operators dataSizes encodings variableTypes numberTypes modifiers printed ownTrivia headOf tokenNumber stands hasBlock indexOf firstRefusal ownRefusal headRefusal triviaEvents leadEvents oneOf eventsIn
+unfolding cased isNewline storedIndent storedHead storedChunk built chain fieldsFit mapFits sizedEnd triviumEnd triviaEnd triviaRead textEnd restOf
+    ownAt readOwn triviaFrom fieldsDue partsDue readParts read heldLength withoutNewlines hold ascii mnemonics registers operators dataSizes encodings
+    variableTypes numberTypes modifiers printed ownTrivia headOf tokenNumber stands hasBlock indexOf firstRefusal ownRefusal headRefusal triviaEvents
+    leadEvents oneOf eventsIn
 rows-held = refl
 
 -- ---- newlines between tokens

@@ -25,13 +25,15 @@ firstRefusal (Definition tag id value) = andThen (firstRefusal tag) (andThen (fi
 firstRefusal (Eof unit) = firstRefusal unit
 firstRefusal (Error text) = firstRefusal text
 firstRefusal (Expression expression) = firstRefusal expression
-firstRefusal (If tagIf value then tagElse otherwise) = andThen (firstRefusal tagIf) (andThen (firstRefusal value) (andThen (firstRefusal then) (andThen (firstRefusal tagElse) (firstRefusal otherwise))))
+firstRefusal (If tagIf value then tagElse otherwise) =
+    andThen (firstRefusal tagIf) (andThen (firstRefusal value) (andThen (firstRefusal then) (andThen (firstRefusal tagElse) (firstRefusal otherwise))))
 firstRefusal (Import tag args source filename block) = andThen (firstRefusal tag) (andThen (firstRefusal args) (andThen (firstRefusal source) (andThen (firstRefusal filename) (firstRefusal block))))
 firstRefusal (File tag filename) = andThen (firstRefusal tag) (firstRefusal filename)
 firstRefusal (Instruction mnemonic operand) = andThen (firstRefusal mnemonic) (firstRefusal operand)
 firstRefusal (Label id colon block) = andThen (firstRefusal id) (andThen (firstRefusal colon) (firstRefusal block))
 firstRefusal (Loop tag expr block) = andThen (firstRefusal tag) (andThen (firstRefusal expr) (firstRefusal block))
-firstRefusal (MacroDefinition tag id lparen args rparen block) = andThen (firstRefusal tag) (andThen (firstRefusal id) (andThen (firstRefusal lparen) (andThen (firstRefusal args) (andThen (firstRefusal rparen) (firstRefusal block)))))
+firstRefusal (MacroDefinition tag id lparen args rparen block) =
+    andThen (firstRefusal tag) (andThen (firstRefusal id) (andThen (firstRefusal lparen) (andThen (firstRefusal args) (andThen (firstRefusal rparen) (firstRefusal block)))))
 firstRefusal (MacroInvocation id lparen args rparen) = andThen (firstRefusal id) (andThen (firstRefusal lparen) (andThen (firstRefusal args) (firstRefusal rparen)))
 firstRefusal (ProgramCounterDefinition star eq value) = andThen (firstRefusal star) (andThen (firstRefusal eq) (firstRefusal value))
 firstRefusal (Segment tag id block) = andThen (firstRefusal tag) (andThen (firstRefusal id) (firstRefusal block))

@@ -76,5 +76,10 @@ abbrev pub wanted : Row → Outcome × Answer × List ℕ
 wanted row = (text (row .text), Accepted (row .length), row .text ++ marks (64 - row .length))
 
 pub samples-answered : map found rows ≡ map wanted rows
-unfolding ascii storedIndent storedHead storedChunk storedList textAt chunkAt chunksFrom storedChunks chunksAt endFrom layoutChecked judging.textsChecked chunksChecked acceptedByte acceptedText standing valuesChecked storedOptions readOptions cut isNewline piecesOf pieces ignored added add ends standalone setLine keeps after keptLines linesKept textOf joinOutcome blank allBlank trimEnd hasNewline behind joined cased built chain fieldsFit mapFits sizedEnd triviumEnd triviaEnd triviaRead textEnd restOf ownAt readOwn triviaFrom triviaTexts fieldsDue partsDue readParts read textsChecked treeChecked heldLength withoutNewlines hold mnemonics printed ownTrivia headOf tokenNumber stands hasBlock indexOf firstRefusal ownRefusal headRefusal triviaEvents leadEvents oneOf eventsIn chunksHeld formatted
+unfolding ascii storedIndent storedHead storedChunk storedList textAt chunkAt chunksFrom storedChunks chunksAt endFrom layoutChecked
+    judging.textsChecked chunksChecked acceptedByte acceptedText standing valuesChecked storedOptions readOptions cut isNewline piecesOf pieces
+    ignored added add ends standalone setLine keeps after keptLines linesKept textOf joinOutcome blank allBlank trimEnd hasNewline behind joined cased
+    built chain fieldsFit mapFits sizedEnd triviumEnd triviaEnd triviaRead textEnd restOf ownAt readOwn triviaFrom triviaTexts fieldsDue partsDue
+    readParts read textsChecked treeChecked heldLength withoutNewlines hold mnemonics printed ownTrivia headOf tokenNumber stands hasBlock indexOf
+    firstRefusal ownRefusal headRefusal triviaEvents leadEvents oneOf eventsIn chunksHeld formatted
 samples-answered = refl

@@ -20,7 +20,8 @@ use Rattle.chunks.specs.Reading.{chunksOf}
 use Rattle.columns.specs.Pieces.{Piece, cut, piecesOf, pieces}
 use Rattle.columns.specs.Layout.{Line, fresh, Before, add, ends, keeps, after, withLine, keptLines, setLine}
 use Rattle.columns.specs.Setting.{linesKept, textOf}
-use Rattle.join.specs.Walk.{Narrow, Standing, Reached, piecesAt, First, firstLine, lineAt, LineWalked, puts, cutOf, lineStart, grownBy, front, cutBytes, CutFits, Showing, windowTo, Tried, astray}
+use Rattle.join.specs.Walk.{Narrow, Standing, Reached, piecesAt, First, firstLine, lineAt, LineWalked, puts}
+use Rattle.join.specs.Walk.{cutOf, lineStart, grownBy, front, cutBytes, CutFits, Showing, windowTo, Tried, astray}
 use Rattle.columns.specs.declared.Margins.{Margins}
 use Rattle.join.specs.declared.piece.Spot.{Spot}
 use Rattle.join.specs.declared.line.Walked.{Walked}
@@ -150,7 +151,8 @@ module _ (past : Past) (guess : Guess) (bytes text text₁ text₂ : List ℕ) {
       let reach : base ≤ length text = omega arith in
       let stored : text₃ ≡ sets text n (cutBytes past cut bytes) = cut-written past cut bytes text text₁ text₂ start here enough newline lead (line ∙ rw (le-leb _ _ reach)) in
       let end : lineStart past + guess .lead + (high - guess .low) ≡ n + (length before + (high - guess .low)) = omega (arith, start-front past) in
-      let some : length before + (high - guess .low) ≤ length (before ++ part) = omega (arith, length-append before part, ap length shown, length-slice (guess .low) high bytes within, length-take (high - guess .low) part) in
+      let some : length before + (high - guess .low) ≤ length (before ++ part) =
+      omega (arith, length-append before part, ap length shown, length-slice (guess .low) high bytes within, length-take (high - guess .low) part) in
       rw (stored, end, ← whole) (take-stores text n (length before + (high - guess .low)) (before ++ part) (rw whole enough) some
       ∙ rw (take-append-add before part (high - guess .low), shown, append-assoc (front (past .any)) (spaces (guess .lead)) (slice (guess .low) high bytes)))
 

@@ -191,7 +191,9 @@ module _ (levels : ℕ) (bytes : List ℕ) (class : Class) (at : ℕ) (own : Own
 
   -- its fields
   fields-held : Fielded bytes at class own
-  fields-held = ⊎-elim (λ vec. let none : variant.Operand ≡ variant.Vec = sym operand ∙ vec in let zero-one : _≡_ {A = ℕ} 0 1 = cc in absurd (omega arith)) (λ held. held) (record-parts bytes at class levels own is)
+  fields-held =
+      ⊎-elim (λ vec. let none : variant.Operand ≡ variant.Vec = sym operand ∙ vec in let zero-one : _≡_ {A = ℕ} 0 1 = cc in absurd (omega arith))
+      (λ held. held) (record-parts bytes at class levels own is)
 
   -- its number
   operand-number : 37 ≡ getD bytes at 0

@@ -2,22 +2,22 @@
 use mathlib.Core.Path.{_≡_, refl, sym, ap, _∙_}
 use mathlib.Core.List.{List, _∷_}
 use mathlib.Core.Bool.{true, false, _||_}
-use Prim.Native.Nat.{ℕ, suc, _+_, _-_, _%_, _≤_}
+use Prim.Native.Nat.{ℕ, suc, _+_, _-_, _%_, _≤_, _<_}
 use native.Mathlib.Omega.{arith}
 use lib.Dec.{eqb}
 use lib.ListN.{length, getD}
 use lib.Seq.{slice, slice-empty}
-use borrow.Author.Tests.{eq-eqb, ne-eqb}
+use borrow.Author.Tests.{eq-eqb, ne-eqb, le-leb, lt-leb}
 use Rattle.answers.specs.declared.Refusal.{Refusal}
 use Rattle.answers.specs.declared.Checked.{Checked}
 use Rattle.answers.specs.declared.Checked.the-variants.{Passed, Failed}
 use Rattle.text.specs.Numbers.{numberAt}
 use Rattle.text.proofs.Choices.{by-test}
 use Rattle.tree.specs.Grammar.{Slot}
-use Rattle.tree.specs.Own.{triviumEnd, readOwn, Fits, OwnFits}
+use Rattle.tree.specs.Own.{layout, triviumEnd, readOwn, Fits, OwnFits}
 use Rattle.tree.specs.Reading.{Placed, slotClass, triviumBehind, triviumText, triviaFrom, read}
 use Rattle.tree.specs.Walk.{slotCode, rowOf, recordOn, recordRead}
-use Rattle.tree.specs.Parts.{skippedOn, skipped, itemTo, triviumOn, triviumAt, firstClass, fieldHead, innerOn, innerHead, headOn, headAt}
+use Rattle.tree.specs.Parts.{skippedOn, skipped, itemTo, triviumOn, triviumAt, firstClass, fieldHead, innerOn, innerHead, headOn, headBehind, headAt}
 use Rattle.tree.specs.declared.grammar.Class.{Class}
 use Rattle.tree.specs.declared.grammar.Class.the-variants.{BareExpression, BlockRecord}
 use Rattle.tree.specs.declared.own.Own.{Own}
@@ -34,7 +34,8 @@ use Rattle.tree.specs.declared.parts.TriviumRead.the-variants.{Item, Bro
 use Rattle.tree.specs.declared.parts.HeadRead.{HeadRead}
 use Rattle.tree.specs.declared.parts.HeadRead.the-variants.{NoHead}
 use Rattle.tree.proofs.Rows.{row-first, row-none}
-use Rattle.tree.proofs.OwnBytes.{item-held}
+use Rattle.tree.proofs.OwnBytes.{item-held, own-fits}
+use Rattle.tree.proofs.Records.{level-left}
 
 -- ---- the place behind a record
 
@@ -155,26 +156,49 @@ module _ (levels : ℕ) (bytes : List ℕ) (class : Class) (at : ℕ) (read-own 
   unfolding headAt
   head-refused refusal is = ap (headOn levels bytes class at) (sym is ∙ same)
 
-  -- they are read: the head by the number of the kind
-  module _ (own : Own) (is : read-own ≡ Record own) (number : ℕ) (first : number ≡ getD bytes at 0) (found : HeadRead) where
-    -- a record within a token
-    pub inner-field : found ≡ fieldHead levels bytes class number own → found ≡ innerHead levels bytes class at
-    unfolding innerHead
-    inner-field e = e ∙ rw first (ap (innerOn levels bytes class at) (sym is ∙ same))
+  -- a record within a token that was read
+  pub inner-field : (own : Own) → read-own ≡ Record own → (number : ℕ) → number ≡ getD bytes at 0 → (found : HeadRead)
+      → found ≡ fieldHead levels bytes class number own → found ≡ innerHead levels bytes class at
+  unfolding innerHead
+  inner-field own is number first found e = e ∙ rw first (ap (innerOn levels bytes class at) (sym is ∙ same))
 
-    -- a token
-    head-own : headAt levels bytes class at ≡ headOn levels bytes class at (Record own)
-    unfolding headAt
-    head-own = ap (headOn levels bytes class at) (sym same ∙ is)
+  -- behind the own bytes of a token that were read stands its head
+  pub head-behind-read : (own : Own) → read-own ≡ Record own → headBehind levels bytes class at own ≡ headAt levels bytes class at
+  unfolding headBehind headAt
+  head-behind-read own is =
+      let held = own-fits bytes at class levels own (sym same ∙ is) in
+      let level = level-left levels bytes class at read-own same own is in
+      let here : headBehind levels bytes class at own ≡ headOn levels bytes class at (Record own) =
+      simp (ne-eqb levels 0 (λ none. omega (arith, level, none)), lt-leb (length bytes) at (omega (arith, held .behind, held .part, held .inside))) in
+      here ∙ ap (headOn levels bytes class at) (sym is ∙ same)
 
-    -- one that is a block
-    pub head-block : (eqb number 2 || eqb number 3) ≡ true → found ≡ innerHead (levels - 1) bytes BlockRecord (own .end) → found ≡ headAt levels bytes class at
-    head-block block e = e ∙ sym (head-own ∙ simp (← first, block))
+-- ---- behind own bytes, by the number of the kind
 
-    -- one that is an expression
-    pub head-expression : (eqb number 2 || eqb number 3) ≡ false → number ≡ 9 → found ≡ innerHead (levels - 1) bytes BareExpression (own .end) → found ≡ headAt levels bytes class at
-    head-expression block expression e = e ∙ sym (head-own ∙ simp (← first, block, eq-eqb _ _ expression))
+-- none where no level is left
+pub head-low : (levels : ℕ) (bytes : List ℕ) (class : Class) (at : ℕ) (own : Own) → levels ≡ 0 → NoHead (layout at) ≡ headBehind levels bytes class at own
+unfolding headBehind
+head-low levels bytes class at own none = sym (simp (eq-eqb _ _ none))
 
-    -- any other
-    pub head-field : (eqb number 2 || eqb number 3) ≡ false → (number ≡ 9 → ⊥) → found ≡ fieldHead levels bytes class number own → found ≡ headAt levels bytes class at
-    head-field block expression e = e ∙ sym (head-own ∙ simp (← first, block, ne-eqb _ _ expression))
+module _ (levels : ℕ) (bytes : List ℕ) (class : Class) (at : ℕ) (own : Own) (some : levels ≡ 0 → ⊥) where
+  -- or at the end
+  pub head-past : length bytes ≤ at → NoHead (layout at) ≡ headBehind levels bytes class at own
+  unfolding headBehind
+  head-past past = sym (simp (ne-eqb _ _ some, le-leb _ _ past))
+
+  module _ (inside : at < length bytes) (number : ℕ) (first : number ≡ getD bytes at 0) (found : HeadRead) where
+    head-here : headBehind levels bytes class at own ≡ headOn levels bytes class at (Record own)
+    unfolding headBehind
+    head-here = simp (ne-eqb _ _ some, lt-leb _ _ inside)
+
+    -- of a block
+    pub head-block : (eqb number 2 || eqb number 3) ≡ true → found ≡ innerHead (levels - 1) bytes BlockRecord (own .end) → found ≡ headBehind levels bytes class at own
+    head-block block e = e ∙ sym (head-here ∙ simp (← first, block))
+
+    -- of an expression
+    pub head-expression : (eqb number 2 || eqb number 3) ≡ false → number ≡ 9 → found ≡ innerHead (levels - 1) bytes BareExpression (own .end)
+        → found ≡ headBehind levels bytes class at own
+    head-expression block expression e = e ∙ sym (head-here ∙ simp (← first, block, eq-eqb _ _ expression))
+
+    -- of any other
+    pub head-field : (eqb number 2 || eqb number 3) ≡ false → (number ≡ 9 → ⊥) → found ≡ fieldHead levels bytes class number own → found ≡ headBehind levels bytes class at own
+    head-field block expression e = e ∙ sym (head-here ∙ simp (← first, block, ne-eqb _ _ expression))

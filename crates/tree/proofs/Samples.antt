@@ -59,7 +59,8 @@ abbrev wanted : Sample → ℕ × ℕ
 wanted sample = (sample .number, sample .place)
 
 pub samples-judged : map found samples ≡ map wanted samples
-unfolding treeChecked textsChecked read readParts partsDue fieldsDue triviaFrom triviaTexts readOwn ownAt restOf textEnd triviaRead triviaEnd triviumEnd sizedEnd mapFits fieldsFit built chain acceptedText acceptedByte faultAt
+unfolding treeChecked textsChecked read readParts partsDue fieldsDue triviaFrom triviaTexts readOwn ownAt restOf textEnd triviaRead triviaEnd
+    triviumEnd sizedEnd mapFits fieldsFit built chain acceptedText acceptedByte faultAt
 samples-judged = refl
 
 -- what the sample tree's bytes hold

@@ -2,12 +2,12 @@
 use Prim.Native.Nat.{ℕ, _+_, _-_}
 use mathlib.Core.List.{List, [], _∷_}
 use mathlib.Core.Bool.{cond, _||_}
-use lib.ListN.{getD}
-use lib.Dec.{eqb}
+use lib.ListN.{length, getD}
+use lib.Dec.{eqb, leb}
 use Rattle.answers.specs.declared.Checked.{Checked}
 use Rattle.answers.specs.declared.Checked.the-variants.{Passed, Failed}
 use Rattle.tree.specs.Grammar.{Slot, rule, fields}
-use Rattle.tree.specs.Own.{triviumEnd, readOwn}
+use Rattle.tree.specs.Own.{layout, triviumEnd, readOwn}
 use Rattle.tree.specs.Reading.{slotClass, read}
 use Rattle.tree.specs.declared.grammar.Class.{Class}
 use Rattle.tree.specs.declared.grammar.Class.the-variants.{DataSize, BinaryOp, LocatedExpression, BareExpression, BlockRecord, ExpressionArguments}
@@ -81,6 +81,11 @@ headOn levels bytes class at (Record own) =
     cond (eqb (getD bytes at 0) 2 || eqb (getD bytes at 0) 3) (innerHead (levels - 1) bytes BlockRecord (own .end))
     (cond (eqb (getD bytes at 0) 9) (innerHead (levels - 1) bytes BareExpression (own .end))
     (fieldHead levels bytes class (getD bytes at 0) own))
+
+-- behind own bytes, whatever they are; there is none where no record can have been read: no level is left, or no byte stands there
+unfoldable pub headBehind : ℕ → List ℕ → Class → ℕ → Own → HeadRead
+headBehind levels bytes class at own =
+    cond (eqb levels 0) (NoHead (layout at)) (cond (leb (length bytes) at) (NoHead (layout at)) (headOn levels bytes class at (Record own)))
 
 -- the head of a token's record: its place, its class and the levels left there, or the refusal that is met before it
 unfoldable pub headAt : ℕ → List ℕ → Class → ℕ → HeadRead

@@ -120,7 +120,8 @@ storedWith trivia (Definition tag id value) = storedNode 6 trivia (storedWith []
 storedWith trivia (Eof unit) = storedNode 7 trivia (storedWith [] unit ∷ [])
 storedWith trivia (Error text) = storedNode 8 trivia (storedWith [] text ∷ [])
 storedWith trivia (Expression expression) = storedNode 9 trivia (storedWith [] expression ∷ [])
-storedWith trivia (If tagIf value then tagElse otherwise) = storedNode 10 trivia (storedWith [] tagIf ∷ storedWith [] value ∷ storedWith [] then ∷ storedWith [] tagElse ∷ storedWith [] otherwise ∷ [])
+storedWith trivia (If tagIf value then tagElse otherwise) =
+    storedNode 10 trivia (storedWith [] tagIf ∷ storedWith [] value ∷ storedWith [] then ∷ storedWith [] tagElse ∷ storedWith [] otherwise ∷ [])
 storedWith trivia (Import tag args source filename block) = storedNode 11 trivia (storedWith [] tag ∷ storedWith [] args ∷ storedWith [] source ∷ storedWith [] filename ∷ storedWith [] block ∷ [])
 storedWith trivia (File tag filename) = storedNode 12 trivia (storedWith [] tag ∷ storedWith [] filename ∷ [])
 storedWith trivia (Instruction mnemonic operand) = storedNode 13 trivia (storedWith [] mnemonic ∷ storedWith [] operand ∷ [])

@@ -14,9 +14,9 @@ use text::numbers;
 ghost use mathlib.Core.Path.{_≡_};
 ghost use Prim.Native.Nat.{_<_};
 ghost use Rattle.tree.specs.Grammar.{rule, fields};
-ghost use Rattle.tree.specs.Own.{readOwn};
-ghost use Rattle.tree.specs.Parts.{skipped, triviumAt, firstClass, secondField, fieldHead, innerHead, headAt};
-ghost use Rattle.tree.specs.declared.own.OwnRead.the-variants as OwnRead;
+ghost use Rattle.tree.specs.Own.{layout};
+ghost use Rattle.tree.specs.Parts.{skipped, triviumAt, firstClass, secondField, fieldHead, innerHead, headBehind, headAt};
+ghost use Rattle.tree.specs.declared.parts.HeadRead.the-variants as HeadRead;
 
 // The place behind a record.
 pub enum Skipped {
@@ -142,15 +142,25 @@ fn inner_head(tree: &[u8], at: usize, class: Class, levels: usize) -> HeadRead
     field_head(tree, numbers::wide(tree[at]), class, own, levels)
 }
 
-// The head of a token's record whose own bytes were read; where none can have been read there is no head.
-pub fn head_behind(tree: &[u8], at: usize, class: Class, levels: usize, own: Own) -> HeadRead
-    ensures { λ r. ⌜ (readOwn (now (tree .entry)) at class levels ≡ OwnRead.Record own → r ≡ headAt levels (now (tree .entry)) class at) ⌝ }
+// No head, where no record can have been read.
+fn no_head(at: usize) -> HeadRead
+    ensures { λ r. ⌜ r ≡ HeadRead.NoHead (layout at) ⌝ }
 {
-    if levels == 0 || tree.len() <= at {
-        return HeadRead::NoHead(Refusal {
-            reason: Reason::TreeLayout,
-            place: at,
-        });
+    HeadRead::NoHead(Refusal {
+        reason: Reason::TreeLayout,
+        place: at,
+    })
+}
+
+// The head of a token's record whose own bytes were read.
+pub fn head_behind(tree: &[u8], at: usize, class: Class, levels: usize, own: Own) -> HeadRead
+    ensures { λ r. ⌜ r ≡ headBehind levels (now (tree .entry)) class at own ⌝ }
+{
+    if levels == 0 {
+        return no_head(at);
+    }
+    if tree.len() <= at {
+        return no_head(at);
     }
     let number = numbers::wide(tree[at]);
     if number == 2 || number == 3 {

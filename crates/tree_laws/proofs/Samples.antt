@@ -26,7 +26,8 @@ abbrev wanted : Sample → List ℕ × ℕ × Checked × Tree
 wanted sample = (sample .bytes, sample .number, Passed, sample .tree)
 
 pub samples-stored : map found samples ≡ map wanted samples
-unfolding treeChecked textsChecked read readParts partsDue fieldsDue triviaFrom triviaTexts readOwn ownAt restOf textEnd triviaRead triviaEnd triviumEnd sizedEnd mapFits fieldsFit built chain acceptedText acceptedByte storedWith itemCount partBits storedItems flat
+unfolding treeChecked textsChecked read readParts partsDue fieldsDue triviaFrom triviaTexts readOwn ownAt restOf textEnd triviaRead triviaEnd
+    triviumEnd sizedEnd mapFits fieldsFit built chain acceptedText acceptedByte storedWith itemCount partBits storedItems flat
 samples-stored = refl
 
 -- no kind is missing

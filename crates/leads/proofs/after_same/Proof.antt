@@ -37,7 +37,15 @@ returns-8 : tie.Need-returns-8
 unfolding oneOf
 returns-8 c =
     let others = c .match .rest in
-    rw (ne-eqb _ _ (others .1), ne-eqb _ _ (others .0 .1), ne-eqb _ _ (others .0 .0 .1), ne-eqb _ _ (others .0 .0 .0 .1), ne-eqb _ _ (others .0 .0 .0 .0 .1), ne-eqb _ _ (others .0 .0 .0 .0 .0 .1), ne-eqb _ _ (others .0 .0 .0 .0 .0 .0 .1)) refl
+    rw (
+      ne-eqb _ _ (others .1),
+      ne-eqb _ _ (others .0 .1),
+      ne-eqb _ _ (others .0 .0 .1),
+      ne-eqb _ _ (others .0 .0 .0 .1),
+      ne-eqb _ _ (others .0 .0 .0 .0 .1),
+      ne-eqb _ _ (others .0 .0 .0 .0 .0 .1),
+      ne-eqb _ _ (others .0 .0 .0 .0 .0 .0 .1),
+    ) refl
 
 pub after-same-spec : {M : Type 1} → statement M
 after-same-spec =

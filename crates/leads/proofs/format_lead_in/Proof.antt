@@ -7,6 +7,7 @@ use Rattle.events.proofs.Heads.{head-missing, head-refused}
 use Rattle.leaves.proofs.Leaves.{own-items}
 use Rattle.leads.specs.Leads.{beforeOf, headRefusalOf}
 use Rattle.leads.proofs.Leads.{token-missing, lead-ready, over-stays, lead-from, over-full, over-met}
+use Rattle.tree.proofs.Heads.{head-behind-read}
 use borrow.Author.Needs.{needs}
 use Rattle.leads.proofs.format_lead_in.Statement.{statement}
 use Rattle.leads.proofs.format_lead_in.Tie as tie
@@ -63,7 +64,7 @@ returns-4 c =
     let behind = c .before .before .before in
     let token = behind .before .before in
     let read = token .before .before in
-    let found = behind .head-behind .ensures (sym (read .read-own .ensures .0) ∙ token .read .given .1) in
+    let found = behind .head-behind .ensures ∙ head-behind-read _ _ _ _ _ (read .read-own .ensures .0) _ (token .read .given .1) in
     over-met (read .before .before .before .before .last .given .1)
     (head-missing _ BareToken false refl _ _ _ (sym found ∙ told)) (c .refused-head .ensures ∙ ap headRefusalOf told) (read .before .if1 .left)
 
@@ -87,7 +88,7 @@ returns-5 c =
     let behind = head .before .before in
     let token = behind .before .before in
     let read = token .before .before in
-    let found = behind .head-behind .ensures (sym (read .read-own .ensures .0) ∙ token .read .given .1) in
+    let found = behind .head-behind .ensures ∙ head-behind-read _ _ _ _ _ (read .read-own .ensures .0) _ (token .read .given .1) in
     over-met (read .before .before .before .before .last .given .1)
     (head-refused _ BareToken false refl _ _ _ _ (sym found ∙ head .found .given .1) (sym (opened .read-own2 .ensures .0) ∙ told))
     (c .refusal-of2 .ensures ∙ ap refusalOf told) (read .before .if1 .left)
@@ -121,8 +122,9 @@ returns-6 c =
     let read = token .before .before in
     let args = read .before .before .before .before .before .before .before .before .args in
     let is = sym (read .read-own .ensures .0) ∙ token .read .given .1 in
+    let found = behind .head-behind .ensures ∙ head-behind-read _ _ _ _ _ (read .read-own .ensures .0) _ (token .read .given .1) in
     lead-from (read .before .before .before .before .last .given .1)
-    (lead-ready _ _ _ (args .context) (args .drops) (beforeOf (args .stood)) _ _ _ _ _ _ _ _ _ is (sym (behind .head-behind .ensures is) ∙ head .found .given .1)
+    (lead-ready _ _ _ (args .context) (args .drops) (beforeOf (args .stood)) _ _ _ _ _ _ _ _ _ is (sym found ∙ head .found .given .1)
     (sym (opened .read-own2 .ensures .0) ∙ own .opened .given .1) (own-items _ _ _ (opened .read-own2 .ensures .1) (own .opened .given .1))
     (byte .byte-at .ensures) (block .has-block .ensures) (listed .list-trivia .ensures) (broken .break-before .ensures))
 

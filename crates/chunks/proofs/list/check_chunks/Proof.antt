@@ -76,13 +76,15 @@ returns-4 : tie.Need-returns-4 Inv-loop μ-loop
 returns-4 c =
     let at-loop = c .before .before in
     let turn = at-loop .loop in
-    sym (bad-byte (at-loop .before .before .before .before .before .args .list .now) (turn .at) (turn .fault) (at-loop .before .before .before .if1 .left) (turn .inv) (c .before .loop-test .left) (c .if3 .taken))
+    sym (bad-byte (at-loop .before .before .before .before .before .args .list .now) (turn .at) (turn .fault)
+    (at-loop .before .before .before .if1 .left) (turn .inv) (c .before .loop-test .left) (c .if3 .taken))
 
 returns-5 : tie.Need-returns-5 Inv-loop μ-loop
 returns-5 c =
     let at-loop = c .before .before in
     let turn = at-loop .loop in
-    sym (all-good (at-loop .before .before .before .before .before .args .list .now) (turn .at) (turn .fault) (at-loop .before .before .before .if1 .left) (turn .inv) (c .before .loop-test .left) (c .if3 .left))
+    sym (all-good (at-loop .before .before .before .before .before .args .list .now) (turn .at) (turn .fault)
+    (at-loop .before .before .before .if1 .left) (turn .inv) (c .before .loop-test .left) (c .if3 .left))
 
 pub check-chunks-spec : {M : Type 1} → statement M
 check-chunks-spec =

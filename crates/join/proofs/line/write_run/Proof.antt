@@ -41,7 +41,9 @@ add-step-requires c κs =
     ((stepped .part, stepped .inside), run-fits 0 (c .before .before .before .before .before .before .before .loop .inv .0 0 .ran) stepped (given .1 .0 .1) (given .0 .3))
 
 loop-less : tie.Need-loop-less Inv-loop μ-loop
-loop-less c = omega (arith, c .before .before .before .before .before .before .step-whole .ensures .0 .onward, c .before .before .before .before .before .before .before .before .before .loop .inv .0 0 .ran .some)
+loop-less c =
+    let stepped = c .before .before .before .before .before .before in
+    omega (arith, stepped .step-whole .ensures .0 .onward, stepped .before .before .before .loop .inv .0 0 .ran .some)
 
 loop-again : tie.Need-loop-again Inv-loop μ-loop
 loop-again c =

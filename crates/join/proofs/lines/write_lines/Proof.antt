@@ -58,7 +58,9 @@ grown-requires c κs =
     line-small running (given .0) found (c .before .before .before .before .cut-of .ensures) (given .2)
 
 loop-less : tie.Need-loop-less Inv-loop μ-loop
-loop-less c = omega (arith, c .before .before .before .before .before .before .before .before .before .before .before .before .before .if1 .taken, c .before .before .before .before .before .before .before .before .before .before .try-line .ensures .0 .onward)
+loop-less c =
+    let tried = c .before .before .before .before .before .before .before .before .before .before in
+    omega (arith, tried .before .before .before .if1 .taken, tried .try-line .ensures .0 .onward)
 
 loop-again : tie.Need-loop-again Inv-loop μ-loop
 loop-again c =

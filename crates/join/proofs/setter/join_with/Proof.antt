@@ -63,7 +63,9 @@ returns-3 c =
     let passed = sym (c .before .before .before .before .before .before .before .before .check-chunks .ensures) ∙ c .before .before .before .before .before .before .enum-told .given .1 in
     let byte = c .before .before .before .before .before .before .before .before .before .before .shared-slice-known .given in
     let faithful = text-faithful (start .args .margins) list (start .pre .label) (start .pre .code) (λ i. omega (arith, byte i)) passed in
-    let fits = text-fits (textOf (start .args .margins) (chunksOf list)) (start .args .text .now) _ (c .before .before .before .before .before .measure-lines .ensures .0) (c .before .before .before .before .if1 .left) in
+    let fitting = c .before .before .before .before in
+    let text = textOf (start .args .margins) (chunksOf list) in
+    let fits = text-fits text (start .args .text .now) _ (fitting .before .measure-lines .ensures .0) (fitting .if1 .left) in
     rw (passed, c .before .before .write-lines .ensures) (fits .0, (fits .1, faithful))
 
 pub join-with-spec : {M : Type 1} → statement M

@@ -34,14 +34,16 @@ returns : tie.Need-returns
 returns c =
     let head = c .before .before in
     let own = head .before .before in
-    operand-shown _ _ _ _ _ (own .before .before .before .before .args .listed) (own .before .before .byte-at .ensures) (own .before .own-spot .ensures) (head .before .head-spot .ensures) (own .own-use .ensures)
+    operand-shown _ _ _ _ _ (own .before .before .before .before .args .listed)
+    (own .before .before .byte-at .ensures) (own .before .own-spot .ensures) (head .before .head-spot .ensures) (own .own-use .ensures)
     (head .head-use .ensures .0) (head .head-use .ensures .1) (c .before .if1 .taken) (c .closing-use .ensures)
 
 returns-2 : tie.Need-returns-2
 returns-2 c =
     let head = c .before in
     let own = head .before .before in
-    record-shown _ _ _ _ _ (own .before .before .before .before .args .listed) (own .before .before .byte-at .ensures) (own .before .own-spot .ensures) (head .before .head-spot .ensures) (own .own-use .ensures)
+    record-shown _ _ _ _ _ (own .before .before .before .before .args .listed)
+    (own .before .before .byte-at .ensures) (own .before .own-spot .ensures) (head .before .head-spot .ensures) (own .own-use .ensures)
     (head .head-use .ensures .0) (head .head-use .ensures .1) (c .if1 .left)
 
 pub record-uses-spec : {M : Type 1} → statement M

@@ -1,9 +1,9 @@
 -- Own bytes that were not read are the refusal; behind those that were, the head is found.
-use mathlib.Core.Path.{sym, ap, _∙_}
+use mathlib.Core.Path.{ap, _∙_}
 use Rattle.answers.specs.declared.Refusal.{Refusal}
 use Rattle.tree.specs.Own.{refusalOf}
 use Rattle.tree.specs.declared.parts.HeadRead.the-variants.{NoHead}
-use Rattle.tree.proofs.Heads.{head-refused}
+use Rattle.tree.proofs.Heads.{head-refused, head-behind-read}
 use borrow.Author.Needs.{needs}
 use Rattle.tree.proofs.parts.head_place.Statement.{statement}
 use Rattle.tree.proofs.parts.head_place.Tie as tie
@@ -32,7 +32,7 @@ head-behind-requires c κs = search needs
 returns-2 : tie.Need-returns-2
 returns-2 c =
     let found = c .before .before in
-    c .head-behind .ensures (sym (found .before .before .read-own .ensures .0) ∙ found .read .given .1)
+    c .head-behind .ensures ∙ head-behind-read _ _ _ _ _ (found .before .before .read-own .ensures .0) _ (found .read .given .1)
 
 pub head-place-spec : {M : Type 1} → statement M
 head-place-spec =
