@@ -38,6 +38,7 @@ Judges tree = (c : Context) (place : Place) (shown : Bool) → Opened (eventsIn 
 
 -- ---- what surrounds trees
 
+-- what was skipped
 stop-passed : (found : Checked) → Opened (stopAt found) → found ≡ Passed
 stop-passed Passed free = refl
 stop-passed (Failed why) free = absurd free
@@ -73,6 +74,7 @@ else-judged c position tag block one other together free =
 
 -- ---- lists
 
+-- an item, and those behind it
 item-judged : (c : Context) (place : Place) (item items : Tree) → Judges item → Judges items
     → Opened (itemEvents c place item (eventsIn c (leaf plain) false item) (eventsIn c place true item) (λ next. eventsIn c next true items))
     → (firstRefusal item ≡ Passed) × (firstRefusal items ≡ Passed)
@@ -84,7 +86,7 @@ item-judged c inString item items one rest free = (one c (leaf plain) false (fre
 item-judged c (tokens drops before closing) item items one rest free =
     (one c (leaf plain) false (free .1 .1 .1 .0), rest c (tokens false (behind (tokenNumber item)) closing) true (free .1 .1 .1 .1))
 
-chain-judges : (trees : List Tree) → ((place : ℕ) → Judges (getD trees place absent)) → Judges (chain trees)
+chain-judges : (trees : List Tree) → ((index : ℕ) → Judges (getD trees index absent)) → Judges (chain trees)
 unfolding eventsIn firstRefusal chain
 chain-judges [] below c place shown free = refl
 chain-judges (tree ∷ trees) below c place shown free =
@@ -93,7 +95,8 @@ chain-judges (tree ∷ trees) below c place shown free =
 
 -- ---- a tree of a kind
 
-built-judges : (kind : Kind) (text : List ℕ) (trees : List Tree) → ((place : ℕ) → Judges (getD trees place absent))
+-- each field has its events among those of the tree, or is skipped, which judges it as well
+built-judges : (kind : Kind) (text : List ℕ) (trees : List Tree) → ((index : ℕ) → Judges (getD trees index absent))
     → (kind ≡ variant.If → Together (getD trees 3 absent) (getD trees 4 absent)) → Judges (built kind text trees)
 unfolding eventsIn firstRefusal built
 built-judges variant.Align text trees below alone c place shown free = rw (below 0 c (leaf plain) false (free .0), below 1 c (leaf plain) true (free .1 .1))
@@ -210,23 +213,23 @@ built-judges variant.ArgItem text trees below alone c place shown free = rw (bel
 
 module _ (reader : Reader) where
   -- parts are absent or were read
-  parts-judge : ((class : Class) (at : ℕ) → Judges (reader class at .tree)) → (parts : List Due) (at place : ℕ) → Judges (getD (readParts reader parts at .trees) place absent)
+  parts-judge : ((class : Class) (at : ℕ) → Judges (reader class at .tree)) → (parts : List Due) (at index : ℕ) → Judges (getD (readParts reader parts at .trees) index absent)
   unfolding readParts firstRefusal
-  parts-judge below [] at place c stand′ shown free = refl
-  parts-judge below (nothing ∷ parts) at zero c stand′ shown free = refl
-  parts-judge below (nothing ∷ parts) at (suc place) c stand′ shown free = parts-judge below parts at place c stand′ shown free
-  parts-judge below (due class ∷ parts) at zero c stand′ shown free = below class at c stand′ shown free
-  parts-judge below (due class ∷ parts) at (suc place) c stand′ shown free = parts-judge below parts (reader class at .end) place c stand′ shown free
+  parts-judge below [] at index c place shown free = refl
+  parts-judge below (nothing ∷ parts) at zero c place shown free = refl
+  parts-judge below (nothing ∷ parts) at (suc index) c place shown free = parts-judge below parts at index c place shown free
+  parts-judge below (due class ∷ parts) at zero c place shown free = below class at c place shown free
+  parts-judge below (due class ∷ parts) at (suc index) c place shown free = parts-judge below parts (reader class at .end) index c place shown free
 
   -- one that does not stand is absent
-  parts-absent : ((class : Class) (at : ℕ) → stands (reader class at .tree) ≡ true) → (parts : List Due) (at place : ℕ)
-      → stands (getD (readParts reader parts at .trees) place absent) ≡ false → firstRefusal (getD (readParts reader parts at .trees) place absent) ≡ Passed
+  parts-absent : ((class : Class) (at : ℕ) → stands (reader class at .tree) ≡ true) → (parts : List Due) (at index : ℕ)
+      → stands (getD (readParts reader parts at .trees) index absent) ≡ false → firstRefusal (getD (readParts reader parts at .trees) index absent) ≡ Passed
   unfolding readParts firstRefusal
-  parts-absent stand [] at place none = refl
+  parts-absent stand [] at index none = refl
   parts-absent stand (nothing ∷ parts) at zero none = refl
-  parts-absent stand (nothing ∷ parts) at (suc place) none = parts-absent stand parts at place none
+  parts-absent stand (nothing ∷ parts) at (suc index) none = parts-absent stand parts at index none
   parts-absent stand (due class ∷ parts) at zero none = true-false (sym (stand class at) ∙ none)
-  parts-absent stand (due class ∷ parts) at (suc place) none = parts-absent stand parts (reader class at .end) place none
+  parts-absent stand (due class ∷ parts) at (suc index) none = parts-absent stand parts (reader class at .end) index none
 
 -- a record of its own bytes, where its parts judge
 record-judges : (levels : ℕ) (bytes : List ℕ) (class : Class) (at : ℕ) (own : Own) → readOwn bytes at class (suc levels) ≡ Record own
