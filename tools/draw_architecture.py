@@ -87,11 +87,11 @@ CALLS = [
     ("losses", [(581, 563), (569, 563)]),
 ]
 
-# the time of a check in seconds, in a run of the whole gate, two crates at a time; of `columns` alone
+# the time of a check in seconds, in a run of the whole gate, two crates at a time
 CHECK_TIMES = {
-    "answers": 5, "text": 15, "options": 17, "chunks": 29, "columns": 3, "join": 113, "tree": 91, "reader": 15, "printing": 19,
-    "tree_laws": 5, "events": 12, "leaves": 66, "reading": 11, "leads": 34, "expressions": 167, "tokens": 162,
-    "losses": 46, "formatting": 40, "exports": 46, "wording": 89, "samples": 70, "replay": 124, "lesson": 118,
+    "answers": 4, "text": 9, "options": 10, "chunks": 19, "columns": 3, "join": 68, "tree": 60, "reader": 8, "printing": 11,
+    "tree_laws": 3, "events": 7, "leaves": 37, "reading": 5, "leads": 20, "expressions": 75, "tokens": 101,
+    "losses": 25, "formatting": 28, "exports": 31, "wording": 55, "samples": 52, "replay": 63, "lesson": 63,
 }
 
 LIBRARIES = {"io", "libc"}
