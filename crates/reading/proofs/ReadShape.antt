@@ -30,8 +30,8 @@ use Rattle.tree.proofs.KindLayout.{leaf-stored}
 use Rattle.tree.proofs.OwnBytes.{Headed, leafNumber, trivia-cases, own-cases}
 use Rattle.tree.proofs.RoundTrip.{no-items, node-fits}
 use Rattle.tree.proofs.Readings.{every-reading}
-use Rattle.events.specs.Views.{tokenNumber, stands}
-use Rattle.events.proofs.OwnParts.{token-number, leaf-other}
+use Rattle.events.specs.Views.{tokenNumber, stands, bitAt}
+use Rattle.events.proofs.OwnParts.{token-number, leaf-other, both-stand}
 use Rattle.reading.proofs.Shape.{Allowed, TriviaAllowed, noTrivia, itemIn, Given, Shaped}
 
 -- ---- a tree of a kind
@@ -52,9 +52,8 @@ FieldsShaped (slot ∷ slots) bits place trees = FieldShaped slot bits (getD tre
 -- `else` and its block stand together
 else-together : (bits : ℕ) (tag block : Tree) → elseFits 10 bits ≡ true → stands tag ≡ eqb (bits / 2 / 2 / 2 % 2) 1 → stands block ≡ eqb (bits / 2 / 2 / 2 / 2 % 2) 1
     → stands tag ≡ stands block
-else-together bits tag block fits tags blocks =
-    let same : bits / 2 / 2 / 2 % 2 ≡ bits / 2 / 2 / 2 / 2 % 2 = omega (arith, eqb-true (bits / 8 % 2) (bits / 16 % 2) fits) in
-    tags ∙ ap (λ (bit : ℕ). eqb bit 1) same ∙ sym blocks
+unfolding bitAt
+else-together bits tag block fits tags blocks = tags ∙ both-stand bits fits ∙ sym blocks
 
 -- a tree of a kind that may stand there, of fields that keep the grammar
 built-shaped : (kind : Kind) (class : Class) (text : List ℕ) (bits : ℕ) (trees : List Tree) → Allowed class (tokenNumber (built kind text trees))
