@@ -24,6 +24,7 @@ pub enum Indent {
     Set(usize),
 }
 
+// The margins and the alignment that the options ask for.
 pub fn margins_of(options: FormattingOptions) -> Margins
     ensures { λ r. ⌜ r ≡ marginsOf options ⌝ }
 {

@@ -21,6 +21,7 @@ use Rattle.losses.specs.declared.firsts.First.the-variants.{At, Never}
 use Rattle.losses.specs.declared.firsts.Firsts.{Firsts}
 use Rattle.losses.specs.declared.search.Loss.{Loss}
 use Rattle.losses.specs.declared.search.Loss.the-variants.{Used, Unused, Refused}
+use Rattle.losses.proofs.Telling.{at-never}
 
 -- ---- a first record within bounds
 
@@ -267,9 +268,6 @@ from-occurs from at spot first (used ∷ others) e =
     (from-occurs from at spot (earlierOf first (used .place)) others (rw (q, r) at e))))
     (λ q. ⊎-elim (λ is. inl is) (λ found. inr (occurs-on at spot used others found)) (from-occurs from at spot first others (rw q at e)))
 
-never-at : {R : Type 0} {at : ℕ} → Never ≡ At at → R
-never-at e = let zero-one : _≡_ {A = ℕ} 0 1 = cc in absurd (omega arith)
-
 answer-used : (firsts : Firsts) (least : First) (at letters : ℕ) → answerWith firsts least ≡ Used at letters → least ≡ At at
 answer-used firsts Never at letters e = let zero-one : _≡_ {A = ℕ} 0 1 = cc in absurd (omega arith)
 answer-used firsts (At place) at letters e = let same : place ≡ at = cc in ap (λ (place : ℕ). At place) same
@@ -282,4 +280,4 @@ told-used from bytes at letters passed told =
     let firsts : Firsts = firstsIn from tree in
     let least = answer-used firsts (leastOf firsts) at letters (sym (ap (lostOn from tree) passed) ∙ told) in
     let one = least-one firsts at least in
-    (one .0, ⊎-elim (λ none. never-at none) (λ found. found) (from-occurs from at (one .0) Never (placesIn false tree) (sym (first-of from (one .0) tree) ∙ one .1)))
+    (one .0, ⊎-elim (λ none. at-never (sym none)) (λ found. found) (from-occurs from at (one .0) Never (placesIn false tree) (sym (first-of from (one .0) tree) ∙ one .1)))

@@ -24,7 +24,7 @@ use Rattle.losses.specs.declared.search.Loss.the-variants.{Used, Unused,
 -- ---- a first record stays one
 
 -- a first record is not none
-at-never : {R : Type 0} {at : ℕ} → At at ≡ Never → R
+pub at-never : {R : Type 0} {at : ℕ} → At at ≡ Never → R
 at-never e = let zero-one : _≡_ {A = ℕ} 0 1 = cc in absurd (omega arith)
 
 -- with another record there is one

@@ -46,8 +46,8 @@ opened (one and others) = (opened one, opened others)
 -- ---- runs
 
 -- a run that has ended does not go on
-ended-going : {R : Type 0} {room left : List ℕ} {why : Refusal} {state : CodeFormatter} → going left state ≡ ended room why → R
-ended-going e = let z : _≡_ {A = ℕ} 0 1 = cc in absurd (omega arith)
+pub ended-going : {R : Type 0} {room left : List ℕ} {why : Refusal} {state : CodeFormatter} → going left state ≡ ended room why → R
+ended-going e = let zero-one : _≡_ {A = ℕ} 0 1 = cc in absurd (omega arith)
 
 -- a run of the events that goes on to its end, from wherever it starts, met no stop
 abbrev Met : Events → Type 0

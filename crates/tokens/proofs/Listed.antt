@@ -3,7 +3,6 @@ use mathlib.Core.Path.{_≡_, refl, sym, ap, _∙_}
 use mathlib.Core.List.{List}
 use mathlib.Core.Bool.{Bool, true, false}
 use Prim.Native.Nat.{ℕ, _-_, _/_}
-use native.Mathlib.Omega.{arith}
 use lib.Dec.{eqb}
 use lib.ListN.{getD}
 use borrow.Author.Tests.{eqb-true, eqb-false}
@@ -21,12 +20,13 @@ use Rattle.tree.specs.declared.own.OwnRead.the-variants as own-is
 use Rattle.tree.specs.declared.parts.Skipped.the-variants.{Next}
 use Rattle.tree.proofs.KindLayout.{kindNumber}
 use Rattle.tree.proofs.OwnBytes.{own-fits}
-use Rattle.printing.specs.Running.{going, ended, run, placeOf, outcome, settled, Shown, Prints}
+use Rattle.printing.specs.Running.{going, run, placeOf, outcome, settled, Shown, Prints}
 use Rattle.printing.specs.declared.CodeFormatter.{CodeFormatter}
 use Rattle.printing.specs.declared.Context.{Context}
 use Rattle.printing.specs.declared.Printed.{Printed}
 use Rattle.printing.specs.declared.Printed.the-variants.{Done}
 use Rattle.printing.proofs.Running.{run-full, done-before, _then_}
+use Rattle.printing.proofs.Stops.{ended-going}
 use Rattle.events.specs.Printed.{plain}
 use Rattle.events.specs.Trees.{Before, leaf}
 use Rattle.events.specs.Views.{tokenNumber}
@@ -45,10 +45,6 @@ use Rattle.tokens.proofs.Cycle.{token-opened}
 
 -- ---- the number of a token
 
--- a run that goes on has not ended
-not-ended : {P : Type 0} {room place : List ℕ} {state : CodeFormatter} {why : Refusal} → going room state ≡ ended place why → P
-not-ended e = let z : _≡_ {A = ℕ} 0 1 = cc in absurd (omega arith)
-
 -- a token that went on was read, and its number is its first byte
 pub listed-number : (levels : ℕ) (bytes : List ℕ) (at : ℕ) (context : Context) (drops : Bool) (before : code.Before) (room : List ℕ) (state : CodeFormatter)
     {token : Printed} {left : List ℕ} {next : CodeFormatter} {place end : ℕ}
@@ -63,9 +59,9 @@ listed-number levels bytes at context drops before room state {token} {left} {ne
     go (own-is.Record own) is = number-read levels bytes BareToken at own is
     go (own-is.Refused why) is =
         by-test (eqb (state .full) 0)
-        (λ empty. not-ended (went
+        (λ empty. ended-going (went
         ∙ sym (lead-stopped levels bytes at context drops (beforeOf before) room state (token-missing levels bytes at why is) (eqb-true _ _ empty) _ 0 .state)))
-        (λ full. not-ended (went ∙ run-full _ room state (eqb-false _ _ full)))
+        (λ full. ended-going (went ∙ run-full _ room state (eqb-false _ _ full)))
 
 -- ---- a token behind its lead-in
 
