@@ -1,11 +1,10 @@
 -- The length or place of each call's answer is below 2^32.
-use mathlib.Core.Path.{_≡_}
+use mathlib.Core.Path.{_≡_, sym}
 use mathlib.Core.List.{List, reverse}
 use Prim.Native.Nat.{ℕ, _<_, _≤_}
 use native.Mathlib.Omega.{arith}
 use lib.ListN.{length}
-use lib.Dec.{leb, ltb}
-use borrow.Author.Tests.{ltb-false}
+use lib.Dec.{leb}
 use Rattle.answers.specs.Numbers.{numbers, answerOf}
 use Rattle.answers.specs.Texts.{Outcome, text, refusal, answerIn}
 use Rattle.answers.specs.declared.Answer.{Answer}
@@ -14,7 +13,7 @@ use Rattle.answers.specs.declared.Checked.the-variants.{Passed, Failed}
 use Rattle.options.specs.Stored.{readOptions}
 use Rattle.options.specs.declared.OptionsRead.{OptionsRead}
 use Rattle.options.specs.declared.OptionsRead.the-variants.{Options, Refused}
-use Rattle.text.proofs.Choices.{cond-both, by-test}
+use Rattle.text.proofs.Choices.{cond-both}
 use Rattle.chunks.specs.Stored.{Chunk, storedList}
 use Rattle.chunks.specs.Reading.{chunksOf}
 use Rattle.chunks.specs.Judging.{chunksChecked}
@@ -27,10 +26,12 @@ use Rattle.printing.specs.Holding.{Held, held, refused}
 use Rattle.tokens.specs.Chunks.{chunksHeld, chunksAnswer, RoomHolds}
 use Rattle.formatting.specs.Formatting.{outcomeOf, formatted}
 use Rattle.formatting.specs.Demands.{LessonUnder, Lesson}
-use Rattle.losses.specs.Lost.{firstsIn, leastOf, lettersAt, answerWith, lostOn, lostFrom}
+use Rattle.losses.specs.Lost.{firstsIn, leastOf, answerWith, lostOn, lostFrom, Narrow}
 use Rattle.losses.specs.declared.firsts.First.{First}
 use Rattle.losses.specs.declared.firsts.First.the-variants.{At, Never}
 use Rattle.losses.specs.declared.firsts.Firsts.{Firsts}
+use Rattle.losses.specs.declared.search.Loss.{Loss}
+use Rattle.losses.specs.declared.search.Loss.the-variants.{Used}
 use Rattle.exports.specs.Packed.{Small, lossAnswer}
 use Rattle.exports.proofs.Within.{Within}
 use Rattle.exports.proofs.ListPlaces.{ReadWithin, list-within, options-within}
@@ -89,20 +90,20 @@ join-answer answer list options room is promised = rw is (join-small list (readO
 
 -- ---- a loss
 
-loss-small : (firsts : Firsts) (least : First) → Small (lossAnswer (answerWith firsts least))
-loss-small firsts Never = omega arith
-loss-small firsts (At at) =
-    let letters : ℕ = lettersAt firsts at in
-    by-test (ltb 65535 at)
-    (λ far. rw far (omega arith))
-    (λ near. by-test (ltb 255 letters)
-    (λ many. rw (near, many) (omega arith))
-    (λ few. rw (near, few) (omega (arith, ltb-false 65535 at near, ltb-false 255 letters few))))
+-- the offset and the letters of one
+pub used-narrow : {loss : Loss} {at letters : ℕ} → Narrow loss → loss ≡ Used at letters → (at ≤ 65535) × (1 ≤ letters) × (letters ≤ 255)
+used-narrow narrow is = rw is at narrow
 
-lost-on-small : (from : ℕ) (tree : Tree) (checked : Checked) → Within 65535 checked → Small (lossAnswer (lostOn from tree checked))
-lost-on-small from tree Passed within = loss-small (firstsIn from tree) (leastOf (firstsIn from tree))
-lost-on-small from tree (Failed why) within = omega (arith, within)
+loss-small : (firsts : Firsts) (least : First) → Narrow (answerWith firsts least) → Small (lossAnswer (answerWith firsts least))
+loss-small firsts Never narrow = omega arith
+loss-small firsts (At at) narrow = omega (arith, narrow .0, narrow .2)
 
-pub lost-answer : (from : ℕ) (bytes : List ℕ) (found : Answer) → found ≡ lossAnswer (lostFrom from bytes) → Small found
+lost-on-small : (from : ℕ) (tree : Tree) (checked : Checked) → Within 65535 checked → Narrow (lostOn from tree checked) → Small (lossAnswer (lostOn from tree checked))
+lost-on-small from tree Passed within narrow = loss-small (firstsIn from tree) (leastOf (firstsIn from tree)) narrow
+lost-on-small from tree (Failed why) within narrow = omega (arith, within)
+
+pub lost-answer : (from : ℕ) (bytes : List ℕ) (loss : Loss) → loss ≡ lostFrom from bytes → Narrow loss → Small (lossAnswer loss)
 unfolding lostFrom
-lost-answer from bytes found is = rw is (lost-on-small from (readFile 64 bytes .tree) (batchChecked bytes) (tree-within bytes))
+lost-answer from bytes loss is narrow =
+    let same : Narrow (lostFrom from bytes) = rw (sym is) narrow in
+    rw is (lost-on-small from (readFile 64 bytes .tree) (batchChecked bytes) (tree-within bytes) same)

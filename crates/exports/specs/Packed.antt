@@ -1,7 +1,5 @@
 -- An answer as one number, for callers in other languages.
 use Prim.Native.Nat.{ℕ, _+_, _*_, _<_}
-use mathlib.Core.Bool.{cond}
-use lib.Dec.{ltb}
 use Rattle.answers.specs.Numbers.{numbers}
 use Rattle.answers.specs.declared.Answer.{Answer}
 use Rattle.answers.specs.declared.Answer.the-variants as answer
@@ -16,8 +14,8 @@ packedOf answer = 4294967296 * numbers answer .0 + numbers answer .1
 abbrev pub Small : Answer → Type 0
 Small answer = numbers answer .1 < 4294967296
 
--- a record that uses a place: 65,536 times its letters plus its offset; 0 where there is none. No tree has an offset above 65,535, and no record letters above 255.
+-- a record that uses a place: 65,536 times its letters plus its offset, which is below 65,536; 0 where there is none
 abbrev pub lossAnswer : Loss → Answer
+lossAnswer (Used at letters) = answer.Accepted (65536 * letters + at)
 lossAnswer Unused = answer.Accepted 0
 lossAnswer (Refused refusal) = answer.Refused refusal
-lossAnswer (Used at letters) = cond (ltb 65535 at) (answer.Accepted 0) (cond (ltb 255 letters) (answer.Accepted 0) (answer.Accepted (65536 * letters + at)))

@@ -14,7 +14,7 @@ ghost use Rattle.tree.specs.Checking.{batchChecked};
 ghost use Rattle.tokens.specs.Chunks.{chunksHeld, chunksAnswer, RoomHolds, chunksRoom};
 ghost use Rattle.formatting.specs.Formatting.{formatted};
 ghost use Rattle.formatting.specs.Demands.{Lesson};
-ghost use Rattle.losses.specs.Lost.{lostFrom};
+ghost use Rattle.losses.specs.Lost.{lostFrom, Narrow};
 ghost use Rattle.exports.specs.Packed.{packedOf, Small, lossAnswer};
 
 // An answer as one number.
@@ -78,20 +78,13 @@ pub extern "C" fn felgutrosa_format(
 
 // A record that uses a place, as an answer: 65,536 times its letters plus its offset, and 0 where there is none.
 fn loss_answer(loss: Loss) -> Answer
+    requires { ⌜ Narrow loss ⌝ }
     ensures { λ r. ⌜ r ≡ lossAnswer loss ⌝ }
 {
     match loss {
+        Loss::Used(at, letters) => Answer::Accepted(65536 * letters + at),
         Loss::Unused => Answer::Accepted(0),
         Loss::Refused(refusal) => Answer::Refused(refusal),
-        Loss::Used(at, letters) => {
-            if 65535 < at {
-                return Answer::Accepted(0);
-            }
-            if 255 < letters {
-                return Answer::Accepted(0);
-            }
-            Answer::Accepted(65536 * letters + at)
-        }
     }
 }
 
@@ -100,6 +93,7 @@ fn loss_answer(loss: Loss) -> Answer
 pub extern "C" fn felgutrosa_lost(tree: &[u8], from: usize) -> u64
     ensures { λ r. ⌜ r ≡ packedOf (lossAnswer (lostFrom from (now (tree .entry)))) ⌝ }
     ensures { λ _. ⌜ Small (lossAnswer (lostFrom from (now (tree .entry)))) ⌝ }
+    ensures { λ _. ⌜ Narrow (lostFrom from (now (tree .entry))) ⌝ }
 {
     let loss = losses::lost(tree, from);
     packed(loss_answer(loss))

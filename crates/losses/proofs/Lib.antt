@@ -12,3 +12,4 @@ pub mod Searching
 pub mod Answered
 pub mod Telling
 pub mod Listing
+pub mod Inside

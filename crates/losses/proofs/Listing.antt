@@ -16,6 +16,7 @@ use Rattle.tree.specs.Checking.{readFile, batchChecked}
 use Rattle.reading.specs.Places.{Spot, Use, openingBrace, labelColon, valueHead, importPath, pathItem, registerLetter, expressionHead, closingCharacter}
 use Rattle.reading.specs.Places.{spotNumber, placesIn}
 use Rattle.losses.specs.Lost.{earlierOf, firstWith, firstFrom, firstIn, firstsIn, lesserOf, leastOf, lettersAt, answerWith, lostOn, lostFrom}
+use Rattle.losses.specs.Visits.{firstOf}
 use Rattle.losses.specs.declared.firsts.First.{First}
 use Rattle.losses.specs.declared.firsts.First.the-variants.{At, Never}
 use Rattle.losses.specs.declared.firsts.Firsts.{Firsts}
@@ -110,18 +111,8 @@ lesser-one at Never other e = inr e
 lesser-one at (At place) Never e = inl e
 lesser-one at (At place) (At other) e = by-test (ltb other place) (λ q. inr (rw q at e)) (λ q. inl (rw q at e))
 
--- the first record of a place among the eight
-abbrev firstOf : Spot → Firsts → First
-firstOf openingBrace firsts = firsts .«opening_brace»
-firstOf labelColon firsts = firsts .«label_colon»
-firstOf valueHead firsts = firsts .«value_head»
-firstOf importPath firsts = firsts .«import_path»
-firstOf pathItem firsts = firsts .«path_item»
-firstOf registerLetter firsts = firsts .«register_letter»
-firstOf expressionHead firsts = firsts .«expression_head»
-firstOf closingCharacter firsts = firsts .«closing_character»
-
-first-of : (from : ℕ) (spot : Spot) (tree : Tree) → firstOf spot (firstsIn from tree) ≡ firstIn from spot tree
+-- the first record of a place, of a tree
+first-of : (from : ℕ) (spot : Spot) (tree : Tree) → firstOf (firstsIn from tree) spot ≡ firstIn from spot tree
 first-of from openingBrace tree = refl
 first-of from labelColon tree = refl
 first-of from valueHead tree = refl
@@ -133,7 +124,7 @@ first-of from closingCharacter tree = refl
 
 module _ (firsts : Firsts) where
   abbrev of : Spot → First
-  of spot = firstOf spot firsts
+  of spot = firstOf firsts spot
 
   -- the lesser of the first two, of the next two, and so on; then of four
   abbrev ab : First
@@ -155,7 +146,7 @@ module _ (firsts : Firsts) where
   second-half limit within = lesser-right limit (lesserOf ab cd) (lesserOf ef gh) within
 
   -- the least is not behind any of them
-  least-up-to : (limit : ℕ) (spot : Spot) → UpTo limit (firstOf spot firsts) → UpTo limit (leastOf firsts)
+  least-up-to : (limit : ℕ) (spot : Spot) → UpTo limit (firstOf firsts spot) → UpTo limit (leastOf firsts)
   least-up-to limit openingBrace within = first-half limit (lesser-left limit ab cd (lesser-left limit (of openingBrace) (of labelColon) within))
   least-up-to limit labelColon within = first-half limit (lesser-left limit ab cd (lesser-right limit (of openingBrace) (of labelColon) within))
   least-up-to limit valueHead within = first-half limit (lesser-right limit ab cd (lesser-left limit (of valueHead) (of importPath) within))
@@ -165,7 +156,7 @@ module _ (firsts : Firsts) where
   least-up-to limit expressionHead within = second-half limit (lesser-right limit ef gh (lesser-left limit (of expressionHead) (of closingCharacter) within))
   least-up-to limit closingCharacter within = second-half limit (lesser-right limit ef gh (lesser-right limit (of expressionHead) (of closingCharacter) within))
 
-  least-onward : (from : ℕ) → ((spot : Spot) → Onward from (firstOf spot firsts)) → Onward from (leastOf firsts)
+  least-onward : (from : ℕ) → ((spot : Spot) → Onward from (firstOf firsts spot)) → Onward from (leastOf firsts)
   least-onward from each =
       lesser-onward from (lesserOf ab cd) (lesserOf ef gh)
       (lesser-onward from ab cd
@@ -176,7 +167,7 @@ module _ (firsts : Firsts) where
       (lesser-onward from (of expressionHead) (of closingCharacter) (each expressionHead) (each closingCharacter)))
 
   -- and is one of them
-  least-one : (at : ℕ) → leastOf firsts ≡ At at → (spot : Spot) × (firstOf spot firsts ≡ At at)
+  pub least-one : (at : ℕ) → leastOf firsts ≡ At at → (spot : Spot) × (firstOf firsts spot ≡ At at)
   least-one at e =
       ⊎-elim
       (λ half. ⊎-elim
@@ -213,7 +204,7 @@ every-use-told from bytes before used behind passed places here =
     let own : UpTo (used .place) (firstIn from (used .spot) tree) =
     subst (λ (uses : List Use). UpTo (used .place) (firstFrom from (used .spot) Never uses)) (sym places) (use-up-to from Never before used behind here) in
     let first = there (used .place) (firstIn from (used .spot) tree) own in
-    let is : firstOf (used .spot) firsts ≡ At (first .0) = first-of from (used .spot) tree ∙ first .1 .0 in
+    let is : firstOf firsts (used .spot) ≡ At (first .0) = first-of from (used .spot) tree ∙ first .1 .0 in
     let least = there (first .0) (leastOf firsts) (least-up-to firsts (first .0) (used .spot) (subst (λ (one : First). UpTo (first .0) one) (sym is) (omega arith))) in
     let lower : Onward from (leastOf firsts) =
     least-onward firsts from (λ spot. subst (λ (one : First). Onward from one) (sym (first-of from spot tree)) (from-onward from spot Never (placesIn false tree) tt)) in

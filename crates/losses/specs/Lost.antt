@@ -1,5 +1,5 @@
 -- `lost`: the first record at or after an offset that uses one of the eight places, with the letters of the places that it uses.
-use Prim.Native.Nat.{ℕ, _+_}
+use Prim.Native.Nat.{ℕ, _+_, _≤_}
 use mathlib.Core.List.{List, [], _∷_}
 use mathlib.Core.Bool.{Bool, false, cond}
 use lib.Dec.{eqb, ltb}
@@ -84,3 +84,10 @@ lostOn from tree Passed = answerWith (firstsIn from tree) (leastOf (firstsIn fro
 -- the refusal that `check_tree` gives, or the least offset at or after `from` of a record that uses a place, with its letters, or none
 unfoldable pub lostFrom : ℕ → List ℕ → Loss
 lostFrom from bytes = lostOn from (readFile 64 bytes .tree) (batchChecked bytes)
+
+-- ---- how large an answer is: an offset that two bytes hold, and letters that one byte holds, one of them at least
+
+abbrev pub Narrow : Loss → Type 0
+Narrow (Used at letters) = (at ≤ 65535) × (1 ≤ letters) × (letters ≤ 255)
+Narrow Unused = Unit
+Narrow (Refused refusal) = Unit
