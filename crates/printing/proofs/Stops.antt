@@ -26,22 +26,22 @@ pub data Free : Events → Type 0 where
 
 -- ---- the same part by part: of events one behind the other both are free, and a stop is not
 
-abbrev pub Opened : Events → Type 0
-Opened nothing = Unit
-Opened (push ty context text) = Unit
-Opened space = Unit
-Opened clear = Unit
-Opened trim = Unit
-Opened (stop why) = ⊥
-Opened (first ▹ next) = Opened first × Opened next
+abbrev pub Unstopped : Events → Type 0
+Unstopped nothing = Unit
+Unstopped (push ty context text) = Unit
+Unstopped space = Unit
+Unstopped clear = Unit
+Unstopped trim = Unit
+Unstopped (stop why) = ⊥
+Unstopped (first ▹ next) = Unstopped first × Unstopped next
 
-pub opened : {events : Events} → Free events → Opened events
-opened none = tt
-opened pushes = tt
-opened spaces = tt
-opened clears = tt
-opened trims = tt
-opened (one and others) = (opened one, opened others)
+pub unstopped : {events : Events} → Free events → Unstopped events
+unstopped none = tt
+unstopped pushes = tt
+unstopped spaces = tt
+unstopped clears = tt
+unstopped trims = tt
+unstopped (one and others) = (unstopped one, unstopped others)
 
 -- ---- runs
 
