@@ -1,37 +1,38 @@
 -- Laws of operands and of paths with a modifier: parts that are stored behind the one they are printed before, and the addressing mode.
-use mathlib.Core.Path.{_≡_, refl, sym, _∙_}
+use mathlib.Core.Path.{_≡_, refl, sym, ap, _∙_}
 use mathlib.Core.List.{List, [], _∷_}
-use mathlib.Core.Bool.{Bool, true, false, cond, _&&_}
-use Prim.Native.Nat.{ℕ, _<_}
+use mathlib.Core.Bool.{Bool, true, false, cond}
+use Prim.Native.Nat.{ℕ, _<_, _≤_}
 use native.Mathlib.Omega.{arith}
-use lib.Dec.{eqb, leb}
-use lib.ListN.{getD}
+use lib.Dec.{eqb}
+use lib.ListN.{length, getD}
 use lib.Seq.{slice, slice-empty, slice-cons}
-use borrow.Author.Tests.{ne-eqb, leb-true}
+use borrow.Author.Tests.{ne-eqb}
 use Rattle.answers.specs.declared.Refusal.{Refusal}
-use Rattle.text.proofs.Choices.{by-test, true-false, and-true-left, and-true-right}
-use Rattle.tree.specs.Tree.{absent, built}
-use Rattle.tree.specs.Grammar.{kindOf, fields}
-use Rattle.tree.specs.Own.{readOwn, Fits}
-use Rattle.tree.specs.Reading.{read}
+use Rattle.text.proofs.Choices.{by-test}
+use Rattle.tree.specs.Tree.{absent, node, Leaf, built}
+use Rattle.tree.specs.Grammar.{fields}
+use Rattle.tree.specs.Own.{readOwn, refusalOf}
+use Rattle.tree.specs.Reading.{triviaOf, textOf, fieldsDue, partsDue, readParts, read}
 use Rattle.tree.specs.declared.grammar.Class.the-variants.{Word, Char, LocatedExpression, AddressModifier, AddressingMode, SuffixRecord}
 use Rattle.tree.specs.declared.grammar.Kind.the-variants as variant
-use Rattle.tree.specs.declared.grammar.KindRead.the-variants.{Known}
 use Rattle.tree.specs.declared.own.Own.{Own}
 use Rattle.tree.specs.declared.own.OwnRead.{OwnRead}
 use Rattle.tree.specs.declared.own.OwnRead.the-variants as own-is
 use Rattle.printing.specs.Events.{Events, nothing, _▹_}
-use Rattle.printing.specs.Running.{Run, run, Shown}
+use Rattle.printing.specs.Running.{Run, going, run, Shown}
+use Rattle.printing.specs.declared.CodeFormatter.{CodeFormatter}
 use Rattle.printing.specs.declared.Context.{Context}
 use Rattle.printing.specs.declared.Printed.{Printed}
 use Rattle.printing.specs.declared.Printed.the-variants.{Refused}
-use Rattle.printing.proofs.Running.{told, alike, handed-on}
+use Rattle.printing.proofs.Running.{Ran, told, alike, handed-on, stopped-there, _then_}
 use Rattle.events.specs.Printed.{plain, modifier}
 use Rattle.events.specs.Views.{stands, bitAt, indexOf}
+use Rattle.events.specs.Refusals.{firstRefusal}
 use Rattle.events.specs.Trees.{leaf, skipping, operandEvents, eventsIn}
-use Rattle.events.proofs.OwnParts.{record-headed}
 use Rattle.leaves.specs.Records.{fieldTrees, fieldsEnd}
-use Rattle.leaves.proofs.Leaves.{own-text}
+use Rattle.leaves.proofs.Classes.{addressing-mode-leaf}
+use Rattle.leaves.proofs.Leaves.{own-leaf}
 use Rattle.leaves.proofs.Records.{read-refused, read-record}
 use Rattle.expressions.specs.Operands.{frontEvents, frontEnd, endEvents, modePlace, tailEvents, tailEnd}
 use Rattle.events.proofs.Heads.{read-stands}
@@ -120,58 +121,46 @@ module _ (mode : ℕ) (rchar suffix : Events) {answer : Printed} {room : List �
 
 -- ---- the addressing mode
 
-module _ (bytes : List ℕ) (at levels : ℕ) where
-  -- its record is a leaf
-  mode-leaf : (own : Own) → readOwn bytes at AddressingMode levels ≡ own-is.Record own → own .kind ≡ variant.Leaf
-  mode-leaf own is =
-      let headed = record-headed bytes at AddressingMode levels own is .1 in
-      let ruled : cond (eqb (getD bytes at 0) 24) false (leb 25 (getD bytes at 0) && leb (getD bytes at 0) 25) ≡ true = headed .standing in
-      by-test (eqb (getD bytes at 0) 24)
-      (λ list. true-false (sym (rw list at ruled)))
-      (λ other.
-      let within : (leb 25 (getD bytes at 0) && leb (getD bytes at 0) 25) ≡ true = rw other at ruled in
-      let low = leb-true 25 (getD bytes at 0) (and-true-left (leb 25 (getD bytes at 0)) (leb (getD bytes at 0) 25) within) in
-      let high = leb-true (getD bytes at 0) 25 (and-true-right (leb 25 (getD bytes at 0)) (leb (getD bytes at 0) 25) within) in
-      let number : getD bytes at 0 ≡ 25 = omega arith in
-      let known : kindOf 25 ≡ Known (own .kind) = rw number at (headed .kindIs) in
-      cc)
+-- its index, the first byte of its text
+module _ (bytes : List ℕ) (start end : ℕ) where
+  -- is 0 where the text is empty
+  pub mode-none : start ≡ end → 0 ≡ getD (slice start end bytes) 0 0
+  mode-none none = rw (none, slice-empty end bytes) refl
 
-  module _ {found : OwnRead} (same : found ≡ readOwn bytes at AddressingMode levels) where
-    -- where it was refused there is no index
-    pub mode-refused : {why : Refusal} → found ≡ own-is.Refused why → 0 ≡ getD (indexOf (read levels bytes AddressingMode at .tree)) 0 0
-    unfolding indexOf
-    mode-refused {why} is = rw (read-refused bytes AddressingMode at levels why (sym same ∙ is) .0) refl
+  -- and else the byte at its place
+  pub mode-byte : (start ≤ end) × (end ≤ length bytes) → (start ≡ end → ⊥) → {byte : ℕ} → byte ≡ getD bytes start 0 → byte ≡ getD (slice start end bytes) 0 0
+  mode-byte inside some there =
+      let before : start < end = omega (arith, inside .0, some) in
+      rw (slice-cons start end bytes 0 before (inside .1)) there
 
-    module _ {own : Own} (is : found ≡ own-is.Record own) where
-      -- the index is its text
-      mode-text : indexOf (read levels bytes AddressingMode at .tree) ≡ slice (own .text) (own .end) bytes
-      unfolding indexOf built
-      mode-text =
-          let read-own : readOwn bytes at AddressingMode levels ≡ own-is.Record own = sym same ∙ is in
-          rw (read-record bytes AddressingMode at levels own read-own .1, mode-leaf own read-own) refl
-
-      -- which may be empty
-      pub mode-none : own .text ≡ own .end → 0 ≡ getD (indexOf (read levels bytes AddressingMode at .tree)) 0 0
-      mode-none none = rw (mode-text, none, slice-empty (own .end) bytes) refl
-
-      -- or begins with a byte
-      pub mode-byte : Fits bytes at found → (own .text ≡ own .end → ⊥) → (byte : ℕ) → byte ≡ getD bytes (own .text) 0
-          → byte ≡ getD (indexOf (read levels bytes AddressingMode at .tree)) 0 0
-      mode-byte fits some byte there =
-          let inside = own-text bytes at own fits is in
-          let before : own .text < own .end = omega (arith, inside .0, some) in
-          rw (mode-text, slice-cons (own .text) (own .end) bytes 0 before (inside .1)) there
+-- its record is a leaf, and ends with its own bytes
+mode-read : (bytes : List ℕ) (at levels : ℕ) (own : Own) → readOwn bytes at AddressingMode levels ≡ own-is.Record own
+    → (read levels bytes AddressingMode at .tree ≡ node at (triviaOf bytes own) (Leaf (textOf bytes own))) × (read levels bytes AddressingMode at .end ≡ own .end)
+unfolding built readParts partsDue fieldsDue
+mode-read bytes at levels own is =
+    rw (read-record bytes AddressingMode at levels own is .1, own-leaf bytes AddressingMode addressing-mode-leaf at levels own is) (refl, refl)
 
 -- ---- the tail of an operand
 
--- the mode between the closing character and the register is the one that was read there
-pub tail-shown : (context : Context) (levels : ℕ) (bytes : List ℕ) (at : ℕ) (rchar suffix : Bool) {answer : Printed} {room : List ℕ} {before : Run} {mode index : ℕ}
-    → mode ≡ modePlace rchar (read levels bytes) at → index ≡ getD (indexOf (read levels bytes AddressingMode mode .tree)) 0 0
-    → Shown answer room (skipping (cond rchar (read levels bytes Char at .tree) absent) ▹ skipping (read levels bytes AddressingMode mode .tree)
-    ▹ endEvents context index rchar at suffix (read levels bytes) (read levels bytes AddressingMode mode .end)) before
-    (cond suffix (read levels bytes SuffixRecord (read levels bytes AddressingMode mode .end) .end) (read levels bytes AddressingMode mode .end))
-    → Shown answer room (tailEvents context rchar suffix (read levels bytes) at) before (tailEnd rchar suffix (read levels bytes) at)
-tail-shown context levels bytes at rchar suffix there read-as done = rw (← there) (rw read-as at done)
+module _ (context : Context) (levels : ℕ) (bytes : List ℕ) (at : ℕ) (rchar suffix : Bool) {mode : ℕ} (there : mode ≡ modePlace rchar (read levels bytes) at)
+    {found : OwnRead} (same : found ≡ readOwn bytes mode AddressingMode levels) {room : List ℕ} {before : Run} where
+  -- the mode between the closing character and the register is the one that was read there
+  pub tail-shown : {answer : Printed} {own : Own} {index : ℕ} → found ≡ own-is.Record own → index ≡ getD (slice (own .text) (own .end) bytes) 0 0
+      → Shown answer room (skipping (cond rchar (read levels bytes Char at .tree) absent) ▹ endEvents context index rchar at suffix (read levels bytes) (own .end)) before
+      (cond suffix (read levels bytes SuffixRecord (own .end) .end) (own .end))
+      → Shown answer room (tailEvents context rchar suffix (read levels bytes) at) before (tailEnd rchar suffix (read levels bytes) at)
+  unfolding firstRefusal indexOf run
+  tail-shown {own = own} is read-as done =
+      let mode-is = mode-read bytes mode levels own (sym same ∙ is) in
+      rw (← there, mode-is .0, mode-is .1) (alike (λ x. refl) (rw read-as at done))
+
+  -- one that cannot be read ends the walk there
+  pub tail-refused : {why said : Refusal} {state : CodeFormatter} → found ≡ own-is.Refused why → said ≡ refusalOf found
+      → Ran (skipping (cond rchar (read levels bytes Char at .tree) absent)) before (going room state) → state .full ≡ 0
+      → Shown (Refused said) room (tailEvents context rchar suffix (read levels bytes) at) before (tailEnd rchar suffix (read levels bytes) at)
+  unfolding firstRefusal
+  tail-refused {why} is says closing left =
+      rw (← there, read-refused bytes AddressingMode mode levels why (sym same ∙ is) .0, says ∙ ap refusalOf is) (closing then handed-on (stopped-there {end = mode} left) refl)
 
 -- ---- the whole
 

@@ -9,15 +9,17 @@ use printing::Printed;
 use text::numbers;
 use tree::grammar::Class;
 use tree::own;
+use tree::own::Own;
 use tree::own::OwnRead;
 ghost use mathlib.Core.Path.{_≡_};
 ghost use mathlib.Core.Bool.{true, cond};
-ghost use lib.ListN.{getD};
+ghost use Prim.Native.Nat.{_≤_};
+ghost use lib.ListN.{length, getD};
+ghost use lib.Seq.{slice};
 ghost use Rattle.tree.specs.Reading.{read};
 ghost use Rattle.tree.specs.declared.grammar.Class.the-variants as class;
 ghost use Rattle.printing.specs.Running.{Prints};
 ghost use Rattle.events.specs.Printed.{plain};
-ghost use Rattle.events.specs.Views.{indexOf};
 ghost use Rattle.events.specs.Trees as Trees;
 ghost use Rattle.leaves.specs.Records.{PrintsField};
 ghost use Rattle.expressions.specs.Operands.{frontEvents, frontEnd, endEvents, tailEvents, tailEnd};
@@ -95,14 +97,11 @@ fn format_closing(
     )
 }
 
-// The index of an addressing mode; 0 where none can be read.
-fn mode_at(tree: &[u8], levels: usize, at: usize) -> usize
-    ensures { λ r. ⌜ r ≡ getD (indexOf (read levels (now (tree .entry)) class.AddressingMode at .tree)) 0 0 ⌝ }
+// The index of an addressing mode by its own bytes: the first byte of its text; 0 where it has none.
+fn mode_of(tree: &[u8], own: Own) -> usize
+    requires { ⌜ (own .text ≤ own .end) × (own .end ≤ length (now tree)) ⌝ }
+    ensures { λ r. ⌜ r ≡ getD (slice (own .text) (own .end) (now (tree .entry))) 0 0 ⌝ }
 {
-    let found = own::read_own(tree, at, Class::AddressingMode, levels);
-    let OwnRead::Record(own) = found else {
-        return 0;
-    };
     let start = own.text;
     if start == own.end {
         return 0;
@@ -191,7 +190,8 @@ fn format_end(
     register
 }
 
-// The closing character and the register; the addressing mode, which is stored between them, says in which order.
+// The closing character and the register; the addressing mode, which is stored between them, says in which order. It is a leaf, so its own bytes are all of it: read once,
+// they give its index and the place behind it.
 fn format_tail(
     tree: &[u8],
     room: &mut [u8],
@@ -207,20 +207,23 @@ fn format_tail(
         return last;
     };
     let at_mode = record::skip(tree, levels, Class::Char, rchar, last);
-    let Printed::Done(_, mode) = at_mode else {
+    let Printed::Done(state, mode) = at_mode else {
         return at_mode;
     };
-    let at_suffix = record::skip(tree, levels, Class::AddressingMode, true, at_mode);
+    let found = own::read_own(tree, mode, Class::AddressingMode, levels);
+    let OwnRead::Record(own) = found else {
+        return Printed::Refused(own::refusal_of(found));
+    };
     format_end(
         tree,
         room,
         context,
         levels,
-        mode_at(tree, levels, mode),
+        mode_of(tree, own),
         rchar,
         place,
         suffix,
-        at_suffix,
+        Printed::Done(state, own.end),
     )
 }
 

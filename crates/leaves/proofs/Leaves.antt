@@ -71,7 +71,7 @@ module _ (bytes : List ℕ) (class : Class) (leaves : LeafClass class) (at : ℕ
       cc
 
   -- of every record of the class that was read
-  own-leaf : (levels : ℕ) (own : Own) → readOwn bytes at class levels ≡ Record own → own .kind ≡ Leaf
+  pub own-leaf : (levels : ℕ) (own : Own) → readOwn bytes at class levels ≡ Record own → own .kind ≡ Leaf
   own-leaf =
       own-cases bytes at class (λ own. own .kind ≡ Leaf)
       (λ kind trivia headed list room. headed-leaf kind trivia headed)

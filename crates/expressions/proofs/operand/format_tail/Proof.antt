@@ -1,7 +1,8 @@
--- The closing character and the mode are skipped, and the mode that stands there says the order of the rest.
+-- The closing character is skipped, and the mode that is read behind it says the order of the rest; where none can be read the walk ends.
 use mathlib.Core.Path.{refl}
-use Rattle.printing.proofs.Running.{_thence_, _then_, ran-printer, handed-on, place-behind, refused-before, done-before}
-use Rattle.expressions.proofs.Operands.{tail-shown}
+use Rattle.printing.proofs.Running.{_then_, ran-printer, room-left, handed-on, place-behind, refused-before, done-before}
+use Rattle.leaves.proofs.Leaves.{own-text}
+use Rattle.expressions.proofs.Operands.{tail-shown, tail-refused}
 use borrow.Author.Needs.{needs}
 use Rattle.expressions.proofs.operand.format_tail.Statement.{statement}
 use Rattle.expressions.proofs.operand.format_tail.Tie as tie
@@ -30,11 +31,33 @@ returns-2 c =
     let at-last = at-skip .before .before in
     done-before (at-last .last .given .1) (handed-on (at-skip .skip .ensures .from _ .from _ refl) (c .enum-told2 .given .1))
 
-skip-requires-2 : tie.Need-skip-requires-2
-skip-requires-2 c κs = search needs
+read-own-requires : tie.Need-read-own-requires
+read-own-requires c κs = search needs
 
-mode-at-requires : tie.Need-mode-at-requires
-mode-at-requires c κs = search needs
+enum-known-found : tie.Need-enum-known-found
+enum-known-found c = search needs
+
+enum-told-3 : tie.Need-enum-told-3
+enum-told-3 c = search needs
+
+refusal-of-requires : tie.Need-refusal-of-requires
+refusal-of-requires c κs = search needs
+
+returns-3 : tie.Need-returns-3
+returns-3 c =
+    let at-read-own = c .before .before .before in
+    let at-mode = at-read-own .before .before in
+    let at-skip = at-mode .before .before in
+    let at-last = at-skip .before .before in
+    let given = at-last .before .before .before .before .args in
+    let closing = at-skip .skip .ensures .from _ .from _ refl in
+    let is = at-mode .at-mode .given .1 in
+    done-before (at-last .last .given .1)
+    (tail-refused (given .context) (given .levels) (given .tree .now) _ (given .rchar) (given .suffix) (place-behind closing is) (at-read-own .read-own .ensures .0)
+    (c .before .enum-told3 .given .1) (c .refusal-of .ensures) (ran-printer closing is) (room-left closing is))
+
+mode-of-requires : tie.Need-mode-of-requires
+mode-of-requires c κs = own-text _ _ _ (c .before .before .before .before .read-own .ensures .1) (c .before .before .found .given .1)
 
 format-end-requires : tie.Need-format-end-requires
 format-end-requires c κs = search needs
@@ -42,23 +65,21 @@ format-end-requires c κs = search needs
 same-length : tie.Need-same-length
 same-length c = search needs
 
-returns-3 : tie.Need-returns-3
-returns-3 c =
+returns-4 : tie.Need-returns-4
+returns-4 c =
     let at-format-end = c .before .before in
-    let at-mode-at = at-format-end .before in
-    let at-skip2 = at-mode-at .before .before in
-    let at-mode = at-skip2 .before .before in
+    let at-mode-of = at-format-end .before in
+    let at-found = at-mode-of .before .before .before in
+    let at-read-own = at-found .before .before in
+    let at-mode = at-read-own .before .before in
     let at-skip = at-mode .before .before in
     let at-last = at-skip .before .before in
-    let at-start = at-last .before .before .before .before in
-    let given = at-start .args in
+    let given = at-last .before .before .before .before .args in
     let closing = at-skip .skip .ensures .from _ .from _ refl in
     let is = at-mode .at-mode .given .1 in
-    let mode = at-skip2 .skip2 .ensures .from _ .from _ refl in
-    let end = at-format-end .format-end .ensures .from _ (mode .next) in
     done-before (at-last .last .given .1)
-    (tail-shown (given .context) (given .levels) (given .tree .now) _ (given .rchar) (given .suffix) (place-behind closing is) (at-mode-at .mode-at .ensures)
-    (ran-printer closing is then mode thence end))
+    (tail-shown (given .context) (given .levels) (given .tree .now) _ (given .rchar) (given .suffix) (place-behind closing is) (at-read-own .read-own .ensures .0)
+    (at-found .found .given .1) (at-mode-of .mode-of .ensures) (ran-printer closing is then at-format-end .format-end .ensures .from _ refl))
 
 pub format-tail-spec : {M : Type 1} → statement M
 format-tail-spec =
@@ -71,8 +92,12 @@ format-tail-spec =
     enum-known-at-mode
     enum-told-2
     returns-2
-    skip-requires-2
-    mode-at-requires
+    read-own-requires
+    enum-known-found
+    enum-told-3
+    refusal-of-requires
+    returns-3
+    mode-of-requires
     format-end-requires
     same-length
-    returns-3)
+    returns-4)
