@@ -1,25 +1,31 @@
 -- A record's own bytes, by the way that the definition goes.
-use mathlib.Core.Path.{_≡_, sym, ap, _∙_}
+use mathlib.Core.Path.{_≡_, refl, sym, ap, _∙_}
 use mathlib.Core.List.{List}
 use mathlib.Core.Bool.{Bool, true, false, not, cond, _&&_, _||_}
 use Prim.Native.Nat.{ℕ, _+_, _-_, _%_, _≤_, _<_}
+use native.Mathlib.Omega.{arith}
 use borrow.Author.Tests.{lt-ltb, le-ltb, le-leb, lt-leb, eq-eqb, ne-eqb, not-true, not-false}
 use lib.Dec.{leb, eqb}
 use lib.ListN.{length, getD}
 use Rattle.answers.specs.declared.Reason.the-variants.{TreeDepth}
 use Rattle.text.specs.Numbers.{readNumber}
 use Rattle.text.specs.declared.numbers.Number.{Number}
+use Rattle.text.specs.declared.numbers.Number.the-variants.{Read, Missing}
 use Rattle.tree.specs.Grammar.{kindOf, rule}
-use Rattle.tree.specs.Own.{mayStand, mapFits, triviaRead, textEnd, layout, ownOf, leafOn, listOn, restOf, triviaOfRecord, mapOfRecord, ownAt, readOwn, Fits}
+use Rattle.tree.specs.Own.{mayStand, textFits, mapFits, triviaRead, textOfCount, textEnd, layout, ownOf, leafOn, listOn, restOf, triviaOfRecord, mapOfRecord}
+use Rattle.tree.specs.Own.{ownAt, readOwn, Fits}
 use Rattle.tree.specs.declared.grammar.Kind.{Kind}
+use Rattle.tree.specs.declared.grammar.Kind.the-variants.{Leaf}
 use Rattle.tree.specs.declared.grammar.KindRead.{KindRead}
 use Rattle.tree.specs.declared.grammar.KindRead.the-variants.{Known, Unknown}
 use Rattle.tree.specs.declared.grammar.Class.{Class}
 use Rattle.tree.specs.declared.grammar.TextRule.{TextRule}
+use Rattle.tree.specs.declared.grammar.TextRule.the-variants.{NoText, Free, Byte}
 use Rattle.tree.specs.declared.grammar.Rule.{Rule}
 use Rattle.tree.specs.declared.own.OwnRead.{OwnRead}
 use Rattle.tree.specs.declared.own.OwnRead.the-variants.{Record, Refused}
 use Rattle.tree.specs.declared.own.Span.{Span}
+use Rattle.tree.specs.declared.own.Span.the-variants.{Behind, Broken}
 use Rattle.tree.specs.declared.own.TriviaSpan.{TriviaSpan}
 use Rattle.tree.specs.declared.own.TriviaRead.{TriviaRead}
 use Rattle.tree.specs.declared.own.TriviaRead.the-variants.{Trivia}
@@ -27,7 +33,8 @@ use Rattle.tree.specs.declared.own.Judged.{Judged}
 use Rattle.tree.specs.declared.own.Judged.the-variants.{Fit}
 use Rattle.tree.specs.declared.own.OwnFound.{OwnFound}
 use Rattle.tree.specs.declared.own.RestRead.{RestRead}
-use Rattle.tree.specs.Walk.{judgedOn, firstBytes, restOn, foundOn}
+use Rattle.tree.specs.Walk.{judgedOn, firstBytes, restOn, foundOn, bareLeaf}
+use Rattle.tree.proofs.Cases.{by-choice, broken-behind}
 use Rattle.tree.proofs.OwnBytes.{own-fits}
 
 -- ---- behind the trivia
@@ -110,6 +117,33 @@ module _ (bytes : List ℕ) (at : ℕ) (class : Class) {number : ℕ} (byte : nu
         → ((at : ℕ) (kind : Kind) → restOn at kind map trivia rest ≡ restOf bytes at (ruled .text) number kind map trivia)
         → (is : RestRead) → rest ≡ is → restOn at kind map trivia is ≡ ownAt bytes at class
     own-rest trivia read same is behind = ap (restOn at kind map trivia) (sym behind) ∙ same at kind ∙ own-trivia (Trivia trivia) read
+
+-- ---- a leaf with a text and no trivia
+
+-- a text that ends may stand
+text-stands : (bytes : List ℕ) (at end : ℕ) (rule : TextRule) (read : Number) → textOfCount bytes at rule read ≡ Behind end → textFits rule 1 ≡ true
+text-stands bytes at end NoText Missing e = broken-behind e
+text-stands bytes at end NoText (Read count) e = by-choice (eqb count 0) Broken Broken (Behind end) e (λ q. broken-behind) (λ q. broken-behind)
+text-stands bytes at end Free read e = refl
+text-stands bytes at end (Byte low high) read e = refl
+
+-- so its map fits
+bare-fits : (bytes : List ℕ) (at end : ℕ) (ruled : Rule) → textEnd bytes (at + 2) (ruled .text) ≡ Behind end → true ≡ mapFits ruled 25 Leaf 2
+unfolding textEnd mapFits
+bare-fits bytes at end ruled e = sym (text-stands bytes (at + 2) end (ruled .text) (readNumber bytes (at + 2)) e)
+
+-- and its text ends its own bytes
+pub own-bare : (bytes : List ℕ) (at : ℕ) (class : Class) {ruled : Rule} → ruled ≡ rule class → {stands : Bool} → stands ≡ mayStand ruled 25 → not stands ≡ false
+    → at + 2 ≤ length bytes → getD bytes at 0 ≡ 25 → getD bytes (at + 1) 0 ≡ 2
+    → {span : Span} → span ≡ textEnd bytes (at + 2) (ruled .text) → (end : ℕ) → span ≡ Behind end → ownAt bytes at class ≡ Record (bareLeaf at end)
+unfolding restOf triviaRead
+own-bare bytes at class {ruled} rules may t room kind map text end is =
+    let ends : textEnd bytes (at + 2) (ruled .text) ≡ Behind end = sym text ∙ is in
+    let first = first-fits bytes at ruled 25 may t refl Leaf refl room (sym map) (bare-fits bytes at end ruled ends) refl in
+    let start : at + 4 ≡ at + 2 + 2 = omega arith in
+    rw start
+    (sym (own-judged bytes at class (sym kind) rules first (Fit Leaf 2) refl)
+    ∙ ap (leafOn at Leaf 2 (record { first = at + 2; count = 0; end = at + 2 })) ends)
 
 -- ---- a record
 

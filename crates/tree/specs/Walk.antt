@@ -20,7 +20,9 @@ use Rattle.tree.specs.declared.grammar.Class.the-variants.{BareToken, Lo
 use Rattle.tree.specs.declared.grammar.Class.the-variants.{AsRecord, ImportArguments, ImportPath, ExpressionArgument, IdentifierArgument}
 use Rattle.tree.specs.declared.grammar.Class.the-variants.{ImportArgument, Tokens, ExpressionArguments, IdentifierArguments, StringItems}
 use Rattle.tree.specs.declared.grammar.Kind.{Kind}
+use Rattle.tree.specs.declared.grammar.Kind.the-variants.{Leaf}
 use Rattle.tree.specs.declared.grammar.Rule.{Rule}
+use Rattle.tree.specs.declared.own.Own.{Own}
 use Rattle.tree.specs.declared.own.OwnRead.{OwnRead}
 use Rattle.tree.specs.declared.own.OwnRead.the-variants as own-read
 use Rattle.tree.specs.declared.own.TriviaSpan.{TriviaSpan}
@@ -129,6 +131,10 @@ restOn at kind map trivia BrokenRest = own-read.Refused (layout at)
 abbrev pub foundOn : ℕ → OwnFound → OwnRead
 foundOn at (Found own) = own-read.Record own
 foundOn at NotFound = own-read.Refused (layout at)
+
+-- the own bytes of a leaf with a text and no trivia
+abbrev pub bareLeaf : ℕ → ℕ → Own
+bareLeaf at end = record { kind = Leaf; map = 2; trivia = at + 2; «trivia_count» = 0; text = at + 4; end = end; count = 0 }
 
 -- ---- plans: the parts of a record that are still to be read
 

@@ -17,7 +17,7 @@ ghost use lib.Dec.{eqb, leb};
 ghost use lib.ListN.{length};
 ghost use Rattle.tree.specs.Grammar.{fields};
 ghost use Rattle.tree.specs.Own.{sizedEnd, triviumEnd, triviaEnd, fieldsFit, textFits, elseFits, triviaFits, mapFits, mayStand, triviaRead, textEnd, layout, ownOf, restOf, ownAt, readOwn, Fits, refusalOf};
-ghost use Rattle.tree.specs.Walk.{restOn, judgedOn, firstBytes, foundOn};
+ghost use Rattle.tree.specs.Walk.{restOn, judgedOn, firstBytes, foundOn, bareLeaf};
 
 // A record's own bytes, by their places: `trivia` is the place of its first trivia item, of which there are `trivia_count`; its text is
 // the bytes from `text` to `end`, behind which its fields or items begin; `count` says how many items a list has.
@@ -359,11 +359,45 @@ pub(crate) enum OwnFound {
     NotFound,
 }
 
-// A record that has a first byte.
+// The place behind a leaf that has a text and no trivia; broken where anything else stands, or what may not stand there.
+fn bare_leaf_end(tree: &[u8], at: usize, class: Class) -> Span
+    requires { ⌜ at < length (now tree) ⌝ }
+    ensures { λ r. ⌜ ((end : ℕ) → r ≡ Span.Behind end → ownAt (now (tree .entry)) at class ≡ OwnRead.Record (bareLeaf at end)) ⌝ }
+{
+    if tree.len() - at < 2 {
+        return Span::Broken;
+    }
+    if tree[at] != 25 {
+        return Span::Broken;
+    }
+    if tree[at + 1] != 2 {
+        return Span::Broken;
+    }
+    let rule = grammar::rule_of(class);
+    let text = rule.text;
+    if !may_stand(rule, 25) {
+        return Span::Broken;
+    }
+    text_end(tree, at + 2, text)
+}
+
+// A record that has a first byte. Most are leaves with a text and no trivia: these are told by their first two bytes.
 fn own_at(tree: &[u8], at: usize, class: Class) -> OwnFound
     requires { ⌜ at < length (now tree) ⌝ }
     ensures { λ r. ⌜ foundOn at r ≡ ownAt (now (tree .entry)) at class ⌝ }
 {
+    let bare = bare_leaf_end(tree, at, class);
+    if let Span::Behind(end) = bare {
+        return OwnFound::Found(Own {
+            kind: Kind::Leaf,
+            map: 2,
+            trivia: at + 2,
+            trivia_count: 0,
+            text: at + 4,
+            end: end,
+            count: 0,
+        });
+    }
     let number = numbers::wide(tree[at]);
     let rule = grammar::rule_of(class);
     let text = rule.text;
