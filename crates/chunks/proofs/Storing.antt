@@ -1,7 +1,7 @@
 -- Laws of storing a chunk into a room.
 use mathlib.Core.Path.{_≡_, refl, sym, _∙_}
-use mathlib.Core.List.{List, _++_, append-assoc}
-use mathlib.Core.Bool.{Bool, true, false, _||_}
+use mathlib.Core.List.{List, _++_, append-nil}
+use mathlib.Core.Bool.{Bool, true, false, cond, _||_}
 use Prim.Native.Nat.{ℕ, suc, _+_, _≤_, _<_}
 use native.Mathlib.Omega.{arith}
 use native.Mathlib.Numerals.{add-one}
@@ -13,7 +13,8 @@ use Rattle.text.specs.Numbers.{twoBytes}
 use Rattle.text.specs.Stores.{storedBuffer, numberBuffer}
 use Rattle.text.proofs.Buffers.{sets-append}
 use Rattle.chunks.specs.Stored.{Chunk, typeBits, indentBit, storedIndent, storedHead, storedChunk, WellFormed}
-use Rattle.chunks.specs.Appending.{capacity, unstorable, appended, roomAfter}
+use Rattle.chunks.specs.Appending.{withSpace, withColon, capacity, unstorable, appended, roomAfter}
+use Rattle.chunks.specs.Steps.{byteIf}
 use Rattle.chunks.specs.declared.stored.ChunkType.{ChunkType}
 use Rattle.chunks.specs.declared.append.Appended.{Appended}
 use Rattle.chunks.specs.declared.append.Appended.the-variants.{Used, NoRoom, NoChunk, UsedPastRoom}
@@ -42,31 +43,55 @@ head-stores room at ty indent count short fits first second place third =
     ∙ rw (add-one at) (sym (sets-append head (suc at) (storedIndent indent) (twoBytes count))))
 
 -- a run stored behind another is one run
-stores-next : (room : List ℕ) (at : ℕ) (xs ys : List ℕ) {place : ℕ} {one two : List ℕ} → at + length (xs ++ ys) ≤ length room
-    → one ≡ sets room at xs → place ≡ at + length xs → two ≡ storedBuffer one place ys → two ≡ sets room at (xs ++ ys)
-stores-next room at xs ys fits first there second =
-    let enough : at + length xs + length ys ≤ length (sets room at xs) = omega (arith, length-append xs ys, length-sets room at xs) in
-    rw (second, there, first) (bytes-fit (sets room at xs) (at + length xs) ys enough ∙ sym (sets-append room at xs ys))
+runs-next : (room : List ℕ) (at : ℕ) (xs ys : List ℕ) {place : ℕ} {one two : List ℕ}
+    → one ≡ sets room at xs → place ≡ at + length xs → two ≡ sets one place ys → two ≡ sets room at (xs ++ ys)
+runs-next room at xs ys first there second = rw (second, there, first) (sym (sets-append room at xs ys))
 
--- a head and a text in three parts, stored one behind the other, are the chunk stored
-pub chunk-stores : (room : List ℕ) (used : ℕ) (chunk : Chunk) (front text back : List ℕ) {count place : ℕ} {one two three four : List ℕ}
-    → chunk .text ≡ front ++ (text ++ back) → count ≡ length (chunk .text) → used + length (storedChunk chunk) ≤ length room
+-- so is a run that is copied where it fits
+copy-next : (room : List ℕ) (at : ℕ) (xs ys : List ℕ) {place : ℕ} {one two : List ℕ} → at + length (xs ++ ys) ≤ length room
+    → one ≡ sets room at xs → place ≡ at + length xs → two ≡ storedBuffer one place ys → two ≡ sets room at (xs ++ ys)
+copy-next room at xs ys {place} {one} fits first there second =
+    let enough : place + length ys ≤ length one = rw (there, first) (omega (arith, length-append xs ys, length-sets room at xs)) in
+    runs-next room at xs ys first there (second ∙ bytes-fit one place ys enough)
+
+-- a head and a text, stored one behind the other, are the chunk stored
+pub chunk-stores : (room : List ℕ) (used : ℕ) (chunk : Chunk) {count place : ℕ} {one two : List ℕ} → count ≡ length (chunk .text)
     → place ≡ used + length (storedHead (chunk .ty) (chunk .indent) count) → one ≡ sets room used (storedHead (chunk .ty) (chunk .indent) count)
-    → two ≡ storedBuffer one place front → three ≡ storedBuffer two (place + length front) text
-    → four ≡ storedBuffer three (place + length front + length text) back → four ≡ sets room used (storedChunk chunk)
+    → two ≡ sets one place (chunk .text) → two ≡ sets room used (storedChunk chunk)
 unfolding storedChunk
-chunk-stores room used chunk front text back {count} {place} parts counted fits there e1 e2 e3 e4 =
-    let head = storedHead (chunk .ty) (chunk .indent) count in
-    let whole : storedHead (chunk .ty) (chunk .indent) (length (chunk .text)) ++ chunk .text ≡ ((head ++ front) ++ text) ++ back = rw (← counted, parts) (simp append-assoc) in
-    let enough : used + length (((head ++ front) ++ text) ++ back) ≤ length room = rw whole at fits in
-    let last = length-append ((head ++ front) ++ text) back in
-    let middle = length-append (head ++ front) text in
-    let first = length-append head front in
-    rw whole
-    (stores-next room used ((head ++ front) ++ text) back enough
-    (stores-next room used (head ++ front) text (omega arith) (stores-next room used head front (omega arith) e1 there e2) (omega arith) e3)
-    (omega arith)
-    e4)
+chunk-stores room used chunk {count} counted there first second =
+    rw (← counted) (runs-next room used (storedHead (chunk .ty) (chunk .indent) count) (chunk .text) first there second)
+
+-- ---- a text with its space and its colon
+
+-- a byte that stands only where a flag is set takes one place there
+pub byte-length : (flag : Bool) (byte : ℕ) → length (byteIf flag byte) ≡ cond flag 1 0
+byte-length true byte = refl
+byte-length false byte = refl
+
+-- the space and the colon are such bytes
+text-parts : (spaced : Bool) (text : List ℕ) (colon : Bool) → withSpace spaced (withColon colon text) ≡ (byteIf spaced 32 ++ text) ++ byteIf colon 58
+text-parts true text true = refl
+text-parts true text false = rw append-nil
+text-parts false text true = refl
+text-parts false text false = rw append-nil
+
+module _ (spaced : Bool) (text : List ℕ) (colon : Bool) where
+  -- so the text is as long as the three together
+  pub text-length : length (withSpace spaced (withColon colon text)) ≡ length (byteIf spaced 32) + length text + length (byteIf colon 58)
+  text-length = rw (text-parts spaced text colon) (simp length-append)
+
+  -- the three stored one behind the other are the whole text stored
+  pub text-stores : (room : List ℕ) (at : ℕ) {start : ℕ} {one two three : List ℕ} → at + length (withSpace spaced (withColon colon text)) ≤ length room
+      → start ≡ at + length (byteIf spaced 32) → one ≡ sets room at (byteIf spaced 32) → two ≡ storedBuffer one start text
+      → three ≡ sets two (start + length text) (byteIf colon 58) → three ≡ sets room at (withSpace spaced (withColon colon text))
+  text-stores room at fits there first second third =
+      let between = length-append (byteIf spaced 32) text in
+      rw (text-parts spaced text colon)
+      (runs-next room at (byteIf spaced 32 ++ text) (byteIf colon 58)
+      (copy-next room at (byteIf spaced 32) text (omega (arith, text-length)) first there second)
+      (omega arith)
+      third)
 
 -- ---- the answers, each with what the room then holds
 

@@ -1,13 +1,23 @@
 -- Appending a chunk behind the used length of a room: what is answered, and what the room then holds.
 use Prim.Native.Nat.{ℕ, _+_, min}
-use mathlib.Core.List.{List}
-use mathlib.Core.Bool.{Bool, cond, _||_}
+use mathlib.Core.List.{List, [], _∷_, _++_}
+use mathlib.Core.Bool.{Bool, true, false, cond, _||_}
 use lib.ListN.{length}
 use lib.Seq.{sets}
 use lib.Dec.{eqb, ltb}
 use Rattle.chunks.specs.Stored.{Chunk, storedChunk}
 use Rattle.chunks.specs.declared.append.Appended.{Appended}
 use Rattle.chunks.specs.declared.append.Appended.the-variants.{Used, NoRoom, NoChunk, UsedPastRoom}
+
+-- "a pending space goes in front"
+abbrev pub withSpace : Bool → List ℕ → List ℕ
+withSpace true text = 32 ∷ text
+withSpace false text = text
+
+-- a label's colon goes behind
+abbrev pub withColon : Bool → List ℕ → List ℕ
+withColon true text = text ++ (58 ∷ [])
+withColon false text = text
 
 -- "room above 1,048,576 bytes counts as that"
 abbrev pub capacity : ℕ → ℕ

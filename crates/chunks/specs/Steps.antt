@@ -1,7 +1,7 @@
 -- Not part of any promise of this crate: what its inner functions hand on.
 use Prim.Native.Nat.{ℕ, _+_, _≤_}
-use mathlib.Core.List.{List}
-use mathlib.Core.Bool.{cond}
+use mathlib.Core.List.{List, [], _∷_}
+use mathlib.Core.Bool.{Bool, true, false, cond}
 use mathlib.Core.Path.{_≡_}
 use lib.ListN.{length, getD}
 use lib.Seq.{slice}
@@ -29,3 +29,8 @@ pub record Plain (list : List ℕ) (at : ℕ) : Type 0 where
   pub map : getD list at 0 ≤ 2
   pub some : numberAt list (at + 1) ≡ 0 → ⊥
   pub enough : at + 3 + numberAt list (at + 1) ≤ length list
+
+-- a byte where a flag is set, else nothing
+abbrev pub byteIf : Bool → ℕ → List ℕ
+byteIf true byte = byte ∷ []
+byteIf false byte = []

@@ -3,12 +3,13 @@ use crate::stored::ChunkType;
 use text::numbers;
 use text::stores;
 ghost use mathlib.Core.Path.{_≡_};
-ghost use mathlib.Core.List.{_++_};
+ghost use mathlib.Core.Bool.{cond};
 ghost use Prim.Native.Nat.{_+_, _≤_};
 ghost use lib.ListN.{length};
 ghost use lib.Seq.{sets};
 ghost use Rattle.chunks.specs.Stored.{typeBits, indentBit, storedIndent, storedHead};
-ghost use Rattle.chunks.specs.Appending.{capacity, appended, roomAfter};
+ghost use Rattle.chunks.specs.Appending.{withSpace, withColon, capacity, appended, roomAfter};
+ghost use Rattle.chunks.specs.Steps.{byteIf};
 
 // What appending a chunk gives.
 pub enum Appended {
@@ -79,32 +80,70 @@ fn head_length(indent: usize) -> usize
     5
 }
 
-// Appends a chunk, whose text is handed over in three parts, behind the used length of a room.
+// How many bytes a byte takes that stands only where a flag is set.
+fn count_if(flag: bool) -> usize
+    ensures { λ r. ⌜ (r ≡ cond flag 1 0) × (r ≤ 1) ⌝ }
+{
+    if flag {
+        return 1;
+    }
+    0
+}
+
+// How long a text is with its space and its colon.
+fn text_length(spaced: bool, text: &[u8], colon: bool) -> usize
+    requires { ⌜ length (now text) ≤ 65535 ⌝ }
+    ensures { λ r. ⌜ r ≡ length (withSpace spaced (withColon colon (now (text .entry)))) ⌝ }
+{
+    let front = count_if(spaced);
+    let back = count_if(colon);
+    front + (text.len() + back)
+}
+
+// A byte, which is stored only where a flag is set; the place behind it.
+fn store_if(room: &mut [u8], at: usize, flag: bool, byte: u8) -> usize
+    requires { ⌜ at + length (byteIf flag byte) ≤ length (now room) ⌝ }
+    ensures { λ r. ⌜ r ≡ at + length (byteIf flag byte) ⌝ }
+    ensures { λ _. ⌜ now (room .exit) ≡ sets (now (room .entry)) at (byteIf flag byte) ⌝ }
+{
+    if flag {
+        room[at] = byte;
+        return at + 1;
+    }
+    at
+}
+
+// A text with its space and its colon. These are written as single bytes: most texts have neither, and a copy of nothing has to be set up all the same.
+fn store_text(room: &mut [u8], at: usize, spaced: bool, text: &[u8], colon: bool)
+    requires { ⌜ at + length (withSpace spaced (withColon colon (now text))) ≤ length (now room) ⌝ }
+    ensures { λ _. ⌜ now (room .exit) ≡ sets (now (room .entry)) at (withSpace spaced (withColon colon (now (text .entry)))) ⌝ }
+{
+    let start = store_if(room, at, spaced, 32);
+    stores::copy(text, room, start);
+    let end = start + text.len();
+    store_if(room, end, colon, 58);
+}
+
+// Appends a chunk behind the used length of a room, its text with a space in front and a colon behind where the flags say so.
 pub fn append_chunk(
     room: &mut [u8],
     used: usize,
     ty: ChunkType,
     indent: usize,
-    front: &[u8],
+    spaced: bool,
     text: &[u8],
-    back: &[u8],
+    colon: bool,
 ) -> Appended
-    ensures { λ r. ⌜ r ≡ appended (length (now (room .entry))) used (record { ty = ty; indent = indent; text = now (front .entry) ++ (now (text .entry) ++ now (back .entry)) }) ⌝ }
-    ensures { λ _. ⌜ now (room .exit) ≡ roomAfter (now (room .entry)) used (record { ty = ty; indent = indent; text = now (front .entry) ++ (now (text .entry) ++ now (back .entry)) }) ⌝ }
+    ensures { λ r. ⌜ r ≡ appended (length (now (room .entry))) used (record { ty = ty; indent = indent; text = withSpace spaced (withColon colon (now (text .entry))) }) ⌝ }
+    ensures { λ _. ⌜ now (room .exit) ≡ roomAfter (now (room .entry)) used (record { ty = ty; indent = indent; text = withSpace spaced (withColon colon (now (text .entry))) }) ⌝ }
 {
     if 4096 < indent {
-        return Appended::NoChunk;
-    }
-    if 65535 < front.len() {
         return Appended::NoChunk;
     }
     if 65535 < text.len() {
         return Appended::NoChunk;
     }
-    if 65535 < back.len() {
-        return Appended::NoChunk;
-    }
-    let count = front.len() + (text.len() + back.len());
+    let count = text_length(spaced, text, colon);
     if count == 0 {
         return Appended::NoChunk;
     }
@@ -119,12 +158,8 @@ pub fn append_chunk(
     if limit < end {
         return Appended::NoRoom(end);
     }
-    let first = store_head(room, used, ty, indent, count);
-    stores::copy(front, room, first);
-    let second = first + front.len();
-    stores::copy(text, room, second);
-    let third = second + text.len();
-    stores::copy(back, room, third);
+    let behind = store_head(room, used, ty, indent, count);
+    store_text(room, behind, spaced, text, colon);
     Appended::Used(end)
 }
 

@@ -17,7 +17,7 @@ use Rattle.text.specs.Lines.{isEmpty, isNewline}
 use Rattle.text.proofs.Accepted.{accepted-append}
 use Rattle.text.proofs.Choices.{cond-both, true-false}
 use Rattle.chunks.specs.Stored.{Chunk, storedChunk, storedList, AllWellFormed, AllAccepted}
-use Rattle.chunks.specs.Appending.{capacity}
+use Rattle.chunks.specs.Appending.{withSpace, capacity}
 use Rattle.chunks.specs.declared.stored.ChunkType.{ChunkType}
 use Rattle.chunks.proofs.RoundTrip.{chunks-stored, stored-accepted}
 use Rattle.tree.specs.Reading.{Placed}
@@ -25,7 +25,7 @@ use Rattle.tree.specs.Checking.{readFile, lengthChecked, textsChecked, batchChe
 use Rattle.tree.proofs.Cases.{by-choice, failed-passed}
 use Rattle.tree.proofs.Readings.{file-passed}
 use Rattle.printing.specs.Events.{Events}
-use Rattle.printing.specs.Running.{Run, going, ended, withSpace, atStart, run, settled}
+use Rattle.printing.specs.Running.{Run, going, ended, atStart, run, settled}
 use Rattle.printing.specs.Holding.{Held, held, refused, heldLength, holdChunk, withoutNewlines, hold, Storable, Same}
 use Rattle.printing.proofs.Holding.{holds-nothing, same}
 use Rattle.events.specs.Accepted.{Acceptable}

@@ -17,10 +17,9 @@ use Rattle.options.specs.declared.OptionsRead.the-variants.{Options, Refused}
 use Rattle.text.specs.Lines.{isEmpty, isNewline}
 use Rattle.text.proofs.Choices.{cond-both}
 use Rattle.chunks.specs.Stored.{Chunk, storedIndent, storedChunk}
-use Rattle.chunks.specs.Appending.{capacity}
+use Rattle.chunks.specs.Appending.{withSpace, capacity}
 use Rattle.chunks.proofs.Forms.{chunk-length}
 use Rattle.printing.specs.Events.{Events}
-use Rattle.printing.specs.Running.{withSpace}
 use Rattle.printing.specs.Holding.{Held, held, refused, heldLength, holdChunk, withoutNewlines, hold, Storable}
 use Rattle.printing.proofs.Stops.{Free, none, pushes, spaces, clears, trims, _and_}
 use Rattle.events.proofs.Accepted.{length-passed}

@@ -31,7 +31,7 @@ fn format_trivium(
     }
     let start = item.start;
     let end = item.end;
-    state.push_type(room, context, ChunkType::Comment, &tree[start..end], b"")
+    state.push_type(room, context, ChunkType::Comment, &tree[start..end], false)
 }
 
 // The chunks of `count` items at a place; they end before an item that breaks the layout.

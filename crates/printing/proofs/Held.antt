@@ -11,9 +11,8 @@ use Rattle.text.specs.Lines.{isEmpty, isNewline}
 use Rattle.text.proofs.Choices.{by-test, true-false, cond-both}
 use Rattle.text.proofs.Ink.{inks-append}
 use Rattle.chunks.specs.Stored.{Chunk, storedChunk}
-use Rattle.chunks.specs.Appending.{capacity}
+use Rattle.chunks.specs.Appending.{withSpace, capacity}
 use Rattle.printing.specs.Events.{Events, nothing, push, space, clear, trim, stop, _▹_}
-use Rattle.printing.specs.Running.{withSpace}
 use Rattle.printing.specs.Holding.{Held, held, refused, heldLength, holdChunk, withoutNewlines, hold, heldTexts, inkOf}
 
 -- ---- texts

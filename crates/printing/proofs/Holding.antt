@@ -12,11 +12,11 @@ use Rattle.answers.specs.declared.Refusal.{Refusal}
 use Rattle.text.specs.Lines.{isEmpty, isNewline}
 use Rattle.text.proofs.Choices.{by-test, true-false, cond-both}
 use Rattle.chunks.specs.Stored.{Chunk, storedChunk, storedList, WellFormed}
-use Rattle.chunks.specs.Appending.{capacity}
+use Rattle.chunks.specs.Appending.{withSpace, capacity}
 use Rattle.chunks.specs.declared.stored.ChunkType.{ChunkType}
 use Rattle.chunks.proofs.Storing.{append-no-room, append-stored}
 use Rattle.printing.specs.Events.{Events, nothing, push, space, clear, trim, stop, _▹_}
-use Rattle.printing.specs.Running.{Run, going, ended, run, settled, withSpace, atStart, chunkWith, grown, filled, trimmed, noRoom}
+use Rattle.printing.specs.Running.{Run, going, ended, run, settled, atStart, chunkWith, grown, filled, trimmed, noRoom}
 use Rattle.printing.specs.Holding.{Held, held, refused, heldLength, withoutNewlines, hold, Storable, Holds, Same}
 use Rattle.printing.specs.declared.Context.{Context}
 use Rattle.printing.specs.declared.CodeFormatter.{CodeFormatter}
@@ -148,12 +148,12 @@ module _ {room : List ℕ} {state : CodeFormatter} {chunks : List Chunk} {pendin
       (λ full.
       let over = ltb-true _ _ full in
       let told = append-no-room room (state .used) chunk good (holds .fits) refl over in
-      let same = is-pushed room state ty context text (holds .full) some refl refl (told .0) (told .1) refl in
+      let same = is-pushed room state ty context text (holds .full) some refl (told .0) (told .1) refl in
       rw (← (same .0), ← (same .1), some, ← (holds .flag), ← (holds .used), full, settled-filled chunk over) (refl, refl))
       (λ fits.
       let inside = ltb-false _ _ fits in
       let told = append-stored room (state .used) chunk good (holds .fits) refl inside refl in
-      let same = is-pushed room state ty context text (holds .full) some refl refl (told .0) (told .1) refl in
+      let same = is-pushed room state ty context text (holds .full) some refl (told .0) (told .1) refl in
       rw (← (same .0), ← (same .1), some, ← (holds .flag), ← (holds .used), fits) (length-sets room (state .used) (storedChunk chunk), holds-grown chunk inside)))
 
 -- ---- a run of events

@@ -1,42 +1,31 @@
--- Laws of one push: a text in two parts behind a pending space, and the state and the room then.
-use mathlib.Core.Path.{_≡_, refl, sym}
-use mathlib.Core.List.{List, [], _∷_, _++_, append-nil}
+-- Laws of one push: a text behind a pending space and before a colon, and the state and the room then.
+use mathlib.Core.Path.{_≡_, refl}
+use mathlib.Core.List.{List, [], _∷_}
 use mathlib.Core.Bool.{Bool, true, false}
-use Prim.Native.Nat.{ℕ, _≤_}
+use Prim.Native.Nat.{ℕ}
 use native.Mathlib.Omega.{arith}
-use lib.ListN.{length, getD, take}
+use lib.ListN.{length, getD}
 use lib.Dec.{eqb}
 use borrow.Author.Tests.{eq-eqb, ne-eqb}
 use Rattle.text.specs.Lines.{isEmpty, isNewline}
-use Rattle.chunks.specs.Appending.{appended, roomAfter}
+use Rattle.chunks.specs.Appending.{withSpace, withColon, appended, roomAfter}
 use Rattle.chunks.specs.declared.append.Appended.{Appended}
 use Rattle.chunks.specs.declared.stored.ChunkType.{ChunkType}
-use Rattle.printing.specs.Running.{withSpace, behind, pushed, pushedRoom}
+use Rattle.printing.specs.Running.{chunkWith, behind, pushed, pushedRoom}
 use Rattle.printing.specs.declared.Context.{Context}
 use Rattle.printing.specs.declared.CodeFormatter.{CodeFormatter}
 
 -- ---- texts
 
--- behind no bytes a text is empty where its length is 0
-pub empty-back : (text back : List ℕ) → length text ≡ 0 → eqb (length back) 0 ≡ isEmpty (text ++ back)
-empty-back [] [] none = refl
-empty-back [] (b ∷ back) none = ne-eqb (length (b ∷ back)) 0 (λ (e : length (b ∷ back) ≡ 0). omega arith)
-empty-back (b ∷ text) back none = absurd (omega arith)
+-- a text is empty just where its length is 0
+pub empty-text : (text : List ℕ) → eqb (length text) 0 ≡ isEmpty text
+empty-text [] = refl
+empty-text (b ∷ text) = ne-eqb (length (b ∷ text)) 0 (λ (none : length (b ∷ text) ≡ 0). omega arith)
 
--- behind bytes it is not
-pub some-front : (text back : List ℕ) → (length text ≡ 0 → ⊥) → false ≡ isEmpty (text ++ back)
-some-front [] back some = absurd (some refl)
-some-front (b ∷ text) back some = refl
-
--- a text of no bytes adds nothing in front
-pub none-front : (text back : List ℕ) → length text ≡ 0 → back ≡ text ++ back
-none-front [] back none = refl
-none-front (b ∷ text) back none = absurd (omega arith)
-
--- nor behind
-pub none-behind : (text back : List ℕ) → length back ≡ 0 → text ≡ text ++ back
-none-behind text [] none = sym (append-nil text)
-none-behind text (b ∷ back) none = absurd (omega arith)
+-- with a colon it is not
+pub some-colon : (text : List ℕ) → false ≡ isEmpty (withColon true text)
+some-colon [] = refl
+some-colon (b ∷ text) = refl
 
 -- a text of one byte is a newline just where its byte is
 pub newline-one : (text : List ℕ) → length text ≡ 1 → eqb (getD text 0 0) 10 ≡ isNewline text
@@ -58,15 +47,12 @@ unfolding isNewline
 newline-spaced [] = refl
 newline-spaced (b ∷ text) = refl
 
--- at most one space is pending
-pub space-one : (pending : Bool) → length (withSpace pending []) ≤ 1
-space-one true = omega arith
-space-one false = omega arith
-
--- as many as are pending, in front of a text
-pub space-front : (pending : Bool) (text : List ℕ) {count : ℕ} → count ≡ length (withSpace pending []) → take count (32 ∷ []) ++ text ≡ withSpace pending text
-space-front true text counted = rw counted
-space-front false text counted = rw counted
+-- nor is one before a colon
+pub newline-colon : (text : List ℕ) → false ≡ isNewline (withColon true text)
+unfolding isNewline
+newline-colon [] = refl
+newline-colon (b ∷ []) = refl
+newline-colon (b ∷ c ∷ text) = refl
 
 -- ---- the state and the room behind a push
 
@@ -86,11 +72,10 @@ module _ (room : List ℕ) (state : CodeFormatter) (ty : ChunkType) (context : C
   empty-not-pushed room-left empty = (rw (eq-eqb _ _ room-left, empty), rw (eq-eqb _ _ room-left, empty))
 
   -- elsewhere a chunk is appended
-  pub is-pushed : {front : List ℕ} {newline : Bool} {answer : Appended} {next : CodeFormatter} {after : List ℕ}
-      → state .full ≡ 0 → isEmpty text ≡ false → front ≡ withSpace (state .«spc_if_next») text → newline ≡ isNewline (withSpace (state .«spc_if_next») text)
-      → answer ≡ appended (length room) (state .used) (record { ty = ty; indent = context .indent; text = front })
-      → after ≡ roomAfter room (state .used) (record { ty = ty; indent = context .indent; text = front })
+  pub is-pushed : {newline : Bool} {answer : Appended} {next : CodeFormatter} {after : List ℕ}
+      → state .full ≡ 0 → isEmpty text ≡ false → newline ≡ isNewline (withSpace (state .«spc_if_next») text)
+      → answer ≡ appended (length room) (state .used) (chunkWith state ty context text) → after ≡ roomAfter room (state .used) (chunkWith state ty context text)
       → next ≡ behind state newline answer → Pushed room state ty context text next after
   unfolding pushed pushedRoom
-  is-pushed room-left some parts lone answered stored moved =
-      (rw (moved, answered, lone, parts, eq-eqb _ _ room-left, some), rw (stored, parts, eq-eqb _ _ room-left, some))
+  is-pushed room-left some lone answered stored moved =
+      (rw (moved, answered, lone, eq-eqb _ _ room-left, some), rw (stored, eq-eqb _ _ room-left, some))

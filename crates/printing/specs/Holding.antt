@@ -10,9 +10,9 @@ use Rattle.answers.specs.declared.Reason.the-variants.{WorkRoom}
 use Rattle.text.specs.Ink.{ink}
 use Rattle.text.specs.Lines.{isEmpty, isNewline}
 use Rattle.chunks.specs.Stored.{Chunk, storedChunk, storedList}
-use Rattle.chunks.specs.Appending.{capacity}
+use Rattle.chunks.specs.Appending.{withSpace, capacity}
 use Rattle.printing.specs.Events.{Events, nothing, push, space, clear, trim, stop, _▹_}
-use Rattle.printing.specs.Running.{withSpace, Run, going, ended}
+use Rattle.printing.specs.Running.{Run, going, ended}
 use Rattle.printing.specs.declared.CodeFormatter.{CodeFormatter}
 
 pub data Held : Type 0 where

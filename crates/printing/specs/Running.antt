@@ -1,7 +1,7 @@
 -- The same events on the work room and the formatter's state, byte by byte.
 use Prim.Native.Nat.{ℕ}
 use mathlib.Core.Path.{_≡_}
-use mathlib.Core.List.{List, _∷_}
+use mathlib.Core.List.{List}
 use mathlib.Core.Bool.{Bool, true, false, cond, not, _||_}
 use lib.ListN.{length}
 use lib.Dec.{eqb}
@@ -9,7 +9,7 @@ use Rattle.answers.specs.declared.Refusal.{Refusal}
 use Rattle.answers.specs.declared.Reason.the-variants.{WorkRoom}
 use Rattle.text.specs.Lines.{isEmpty, isNewline}
 use Rattle.chunks.specs.Stored.{Chunk}
-use Rattle.chunks.specs.Appending.{appended, roomAfter}
+use Rattle.chunks.specs.Appending.{withSpace, appended, roomAfter}
 use Rattle.chunks.specs.declared.append.Appended.{Appended}
 use Rattle.chunks.specs.declared.append.Appended.the-variants.{Used, NoRoom, NoChunk, UsedPastRoom}
 use Rattle.chunks.specs.declared.stored.ChunkType.{ChunkType}
@@ -18,11 +18,6 @@ use Rattle.printing.specs.declared.Context.{Context}
 use Rattle.printing.specs.declared.CodeFormatter.{CodeFormatter}
 use Rattle.printing.specs.declared.Printed.{Printed}
 use Rattle.printing.specs.declared.Printed.the-variants.{Done, Refused}
-
--- "a pending space goes in front"
-abbrev pub withSpace : Bool → List ℕ → List ℕ
-withSpace true text = 32 ∷ text
-withSpace false text = text
 
 -- the state that every walk starts with
 abbrev pub atStart : CodeFormatter

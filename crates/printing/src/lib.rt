@@ -6,12 +6,13 @@ use chunks::append::Appended;
 use chunks::stored::ChunkType;
 use options::FormattingOptions;
 ghost use mathlib.Core.Path.{_≡_};
-ghost use mathlib.Core.List.{List, [], _++_};
+ghost use mathlib.Core.List.{List};
 ghost use Prim.Native.Nat.{ℕ};
 ghost use lib.ListN.{length};
 ghost use Rattle.text.specs.Lines.{isEmpty, isNewline};
+ghost use Rattle.chunks.specs.Appending.{withSpace, withColon};
 ghost use Rattle.printing.specs.Events as Events;
-ghost use Rattle.printing.specs.Running.{withSpace, atStart, spaced, cleared, trimmed, grown, filled, behind, pushed, pushedRoom, finished, Prints};
+ghost use Rattle.printing.specs.Running.{atStart, spaced, cleared, trimmed, grown, filled, behind, pushed, pushedRoom, finished, Prints};
 
 // What stays the same down a subtree.
 pub struct Context {
@@ -71,36 +72,34 @@ impl CodeFormatter {
         self
     }
 
-    // Pushes a text, handed over in two parts, as a chunk; a pending space goes in front.
+    // Pushes a text as a chunk; a pending space goes in front, and where it is asked for a colon behind.
     pub fn push_type(
         self,
         room: &mut [u8],
         context: Context,
         ty: ChunkType,
         text: &[u8],
-        back: &[u8],
+        colon: bool,
     ) -> Self
-        ensures { λ r. ⌜ r ≡ pushed (length (now (room .entry))) self ty context (now (text .entry) ++ now (back .entry)) ⌝ }
-        ensures { λ _. ⌜ now (room .exit) ≡ pushedRoom (now (room .entry)) self ty context (now (text .entry) ++ now (back .entry)) ⌝ }
+        ensures { λ r. ⌜ r ≡ pushed (length (now (room .entry))) self ty context (withColon colon (now (text .entry))) ⌝ }
+        ensures { λ _. ⌜ now (room .exit) ≡ pushedRoom (now (room .entry)) self ty context (withColon colon (now (text .entry))) ⌝ }
     {
         if self.full != 0 {
             return self;
         }
-        if no_text(text, back) {
+        if no_text(text, colon) {
             return self;
         }
         let pending = self.spc_if_next;
-        let newline = lone_newline(pending, text, back);
-        let space = [32u8; 1];
-        let count = space_count(pending);
+        let newline = lone_newline(pending, text, colon);
         let appended = append::append_chunk(
             room,
             self.used,
             ty,
             context.indent,
-            &space[..count],
+            pending,
             text,
-            back,
+            colon,
         );
         self.behind(appended, newline)
     }
@@ -145,7 +144,7 @@ impl CodeFormatter {
         ensures { λ r. ⌜ r ≡ pushed (length (now (room .entry))) self ChunkType.Code context (now (text .entry)) ⌝ }
         ensures { λ _. ⌜ now (room .exit) ≡ pushedRoom (now (room .entry)) self ChunkType.Code context (now (text .entry)) ⌝ }
     {
-        self.push_type(room, context, ChunkType::Code, text, b"")
+        self.push_type(room, context, ChunkType::Code, text, false)
     }
 
     // The answer at the end of a record: a state that is full is refusal 8.
@@ -229,24 +228,14 @@ impl Printed {
     }
 }
 
-// How many spaces go in front.
-fn space_count(pending: bool) -> usize
-    ensures { λ r. ⌜ r ≡ length (withSpace pending []) ⌝ }
+// Whether there is nothing to push; a text with a colon is never empty.
+fn no_text(text: &[u8], colon: bool) -> bool
+    ensures { λ r. ⌜ r ≡ isEmpty (withColon colon (now (text .entry))) ⌝ }
 {
-    if pending {
-        return 1;
+    if colon {
+        return false;
     }
-    0
-}
-
-// Whether a text in two parts is empty.
-fn no_text(text: &[u8], back: &[u8]) -> bool
-    ensures { λ r. ⌜ r ≡ isEmpty (now (text .entry) ++ now (back .entry)) ⌝ }
-{
-    if text.len() == 0 {
-        return back.len() == 0;
-    }
-    false
+    text.len() == 0
 }
 
 // Whether a text is exactly a newline.
@@ -259,18 +248,15 @@ fn is_newline(text: &[u8]) -> bool
     false
 }
 
-// Whether a text in two parts, behind a pending space, is exactly a newline.
-fn lone_newline(pending: bool, text: &[u8], back: &[u8]) -> bool
-    ensures { λ r. ⌜ r ≡ isNewline (withSpace pending (now (text .entry) ++ now (back .entry))) ⌝ }
+// Whether a chunk is exactly a newline, which none with a space or a colon is.
+fn lone_newline(spaced: bool, text: &[u8], colon: bool) -> bool
+    ensures { λ r. ⌜ r ≡ isNewline (withSpace spaced (withColon colon (now (text .entry)))) ⌝ }
 {
-    if pending {
+    if spaced {
         return false;
     }
-    if text.len() == 0 {
-        return is_newline(back);
+    if colon {
+        return false;
     }
-    if back.len() == 0 {
-        return is_newline(text);
-    }
-    false
+    is_newline(text)
 }

@@ -128,7 +128,7 @@ fn format_label(
     };
     let start = own.text;
     let end = own.end;
-    let next = state.push_type(room, context, ChunkType::Label, &tree[start..end], b":");
+    let next = state.push_type(room, context, ChunkType::Label, &tree[start..end], true);
     next.finish(end)
 }
 

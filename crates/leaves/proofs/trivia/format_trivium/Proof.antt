@@ -1,5 +1,4 @@
 -- By the code: whitespace is no chunk, a newline a chunk of code, and anything else a comment.
-use mathlib.Core.List.{append-nil}
 use Rattle.text.proofs.Parts.{part-slice}
 use Rattle.leaves.proofs.Items.{run-whitespace, run-newline, run-comment}
 use borrow.Author.Needs.{needs}
@@ -32,9 +31,6 @@ part-push-type-start c = search needs
 part-push-type-end : tie.Need-part-push-type-end
 part-push-type-end c = search needs
 
-slice-aggregate-push-type : tie.Need-slice-aggregate-push-type
-slice-aggregate-push-type c = search needs
-
 push-type-requires : tie.Need-push-type-requires
 push-type-requires c κs = search needs
 
@@ -43,8 +39,8 @@ same-length-2 c = search needs
 
 returns-3 : tie.Need-returns-3
 returns-3 c =
-    let coded = c .before .before .before .before .before .before in
-    run-comment _ _ _ _ _ _ (coded .before .before .if1 .left) (coded .if2 .left) (rw (append-nil, part-slice) at (c .before .before .push-type .ensures))
+    let coded = c .before .before .before .before .before in
+    run-comment _ _ _ _ _ _ (coded .before .before .if1 .left) (coded .if2 .left) (rw part-slice at (c .before .before .push-type .ensures))
 
 pub format-trivium-spec : {M : Type 1} → statement M
 format-trivium-spec =
@@ -58,7 +54,6 @@ format-trivium-spec =
     sub-push-type
     part-push-type-start
     part-push-type-end
-    slice-aggregate-push-type
     push-type-requires
     same-length-2
     returns-3)

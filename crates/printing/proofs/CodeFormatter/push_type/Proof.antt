@@ -1,10 +1,8 @@
--- What is lent as front is the pending space, so the chunk that is appended is the one of the definition.
+-- The chunk that is appended is the one of the definition, and whether it is a newline was asked of the same text.
 use borrow.Author.Needs.{needs}
 use mathlib.Core.Path.{_∙_, sym}
-use mathlib.Core.List.{_++_}
-use native.Mathlib.Omega.{arith}
-use lib.ListN.{length-take}
-use Rattle.printing.proofs.Pushing.{space-one, space-front, full-not-pushed, empty-not-pushed, is-pushed}
+use Rattle.chunks.specs.Appending.{withColon}
+use Rattle.printing.proofs.Pushing.{full-not-pushed, empty-not-pushed, is-pushed}
 use Rattle.printing.proofs.CodeFormatter.push_type.Statement.{statement}
 use Rattle.printing.proofs.CodeFormatter.push_type.Tie as tie
 
@@ -20,15 +18,6 @@ returns-2 c = empty-not-pushed _ _ _ _ _ (c .before .before .if1 .left) (sym (c 
 lone-newline-requires : tie.Need-lone-newline-requires
 lone-newline-requires c κs = search needs
 
-space-count-requires : tie.Need-space-count-requires
-space-count-requires c κs = search needs
-
-array-share-prefix-space : tie.Need-array-share-prefix-space
-array-share-prefix-space c = omega (arith, space-one (c .before .before .before .before .before .before .before .before .before .before .args .self .«spc_if_next»))
-
-slice-aggregate-append-chunk : tie.Need-slice-aggregate-append-chunk
-slice-aggregate-append-chunk c = simp length-take (omega (arith, space-one (c .before .before .before .before .before .before .before .before .before .before .before .args .self .«spc_if_next»)))
-
 append-chunk-requires : tie.Need-append-chunk-requires
 append-chunk-requires c κs = search needs
 
@@ -41,13 +30,11 @@ same-length c = search needs
 returns-3 : tie.Need-returns-3
 returns-3 c =
     let stored = c .before .before .before in
-    let counted = stored .before .before .before in
-    let tested = counted .before .before in
-    let start = tested .before .before .before .before .before .before .before in
-    let text = start .args .text .now ++ start .args .back .now in
-    is-pushed _ _ _ _ text (tested .before .before .if1 .left) (sym (tested .before .no-text .ensures) ∙ tested .if2 .left)
-    (space-front (start .args .self .«spc_if_next») text (counted .space-count .ensures)) (counted .before .lone-newline .ensures)
-    (stored .append-chunk .ensures .0) (stored .append-chunk .ensures .1) (c .behind .ensures)
+    let newline = stored .before .before in
+    let tested = newline .before in
+    let args = tested .before .before .before .before .before .before .args in
+    is-pushed _ _ _ _ (withColon (args .colon) (args .text .now)) (tested .before .before .if1 .left) (sym (tested .before .no-text .ensures) ∙ tested .if2 .left)
+    (newline .lone-newline .ensures) (stored .append-chunk .ensures .0) (stored .append-chunk .ensures .1) (c .behind .ensures)
 
 pub push-type-spec : {M : Type 1} → statement M
 push-type-spec =
@@ -57,9 +44,6 @@ push-type-spec =
     no-text-requires
     returns-2
     lone-newline-requires
-    space-count-requires
-    array-share-prefix-space
-    slice-aggregate-append-chunk
     append-chunk-requires
     behind-requires
     same-length

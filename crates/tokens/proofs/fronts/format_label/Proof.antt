@@ -53,9 +53,6 @@ part-push-type-end c =
     let inside = opened-fits (at-open .«open» .ensures) (at-opened .opened .given .1) in
     omega (arith, inside .0, inside .1)
 
-slice-aggregate-push-type : tie.Need-slice-aggregate-push-type
-slice-aggregate-push-type c = search needs
-
 push-type-requires : tie.Need-push-type-requires
 push-type-requires c κs = search needs
 
@@ -69,7 +66,7 @@ returns-2 : tie.Need-returns-2
 unfolding eventsIn
 returns-2 c =
     let at-push = c .before .before .before in
-    let at-opened = at-push .before .before .before .before .before in
+    let at-opened = at-push .before .before .before .before in
     let at-open = at-opened .before .before .before .before in
     let opens = at-open .«open» .ensures in
     let is = at-opened .opened .given .1 in
@@ -89,7 +86,6 @@ format-label-spec =
     sub-push-type
     part-push-type-start
     part-push-type-end
-    slice-aggregate-push-type
     push-type-requires
     finish-requires
     same-length-2
