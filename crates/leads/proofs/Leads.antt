@@ -57,13 +57,15 @@ module _ (levels : ℕ) (bytes : List ℕ) (at : ℕ) where
         → number ≡ getD bytes at 0 → block ≡ blockBit number (token .map / 2)
         → run (listTrivia context drops (itemsAt bytes (own .trivia) (own .«trivia_count»))) (going room state) ≡ going middle shown
         → run (breakBefore context before number block) (going middle shown) ≡ going left last
-        → Led token (head .place) last left (going room state) (leadIn context drops before (read levels bytes BareToken at .tree)) levels bytes at
+        → Led token own last left (going room state) (leadIn context drops before (read levels bytes BareToken at .tree)) levels bytes at
     unfolding run
     lead-ready middle shown number block token own head is found reads items first second listed broken =
         let met = head-read bytes BareToken false refl levels at head own found reads in
         record {
           token = is;
-          head = (head, found, refl);
+          found = head;
+          finds = found;
+          reads = reads;
           ran = rw (
             met .0,
             met .1,

@@ -42,15 +42,17 @@ leadIn context drops before item =
 
 -- ---- a token whose lead-in was printed
 
--- its own bytes were read, its head was found at a place, and the events have been run
-pub record Led (own : Own) (place : ℕ) (state : CodeFormatter) (left : List ℕ) (before : Run) (events : Events) (levels : ℕ) (bytes : List ℕ) (at : ℕ) : Type 0 where
+-- its own bytes were read, its head was found and its own bytes read too, and the events have been run
+pub record Led (own head : Own) (state : CodeFormatter) (left : List ℕ) (before : Run) (events : Events) (levels : ℕ) (bytes : List ℕ) (at : ℕ) : Type 0 where
   pub token : readOwn bytes at BareToken levels ≡ Record own
-  pub head : (found : Head) × (headAt levels bytes BareToken at ≡ Found found) × (found .place ≡ place)
+  pub found : Head
+  pub finds : headAt levels bytes BareToken at ≡ Found found
+  pub reads : readOwn bytes (found .place) (found .class) (found .levels) ≡ Record head
   pub ran : run events before ≡ going left state
 
 -- or the walk ended there, so that the answer is what the events leave, whatever comes behind them
 abbrev pub LeadsAt : Lead → List ℕ → Run → Events → ℕ → List ℕ → ℕ → Type 0
-LeadsAt (Ready own place state) left before events levels bytes at = Led own place state left before events levels bytes at
+LeadsAt (Ready own head state) left before events levels bytes at = Led own head state left before events levels bytes at
 LeadsAt (Over answer) left before events levels bytes at = (next : Events) (end : ℕ) → Shown answer left (events ▹ next) before end
 
 -- at the place where the last answer ended

@@ -31,10 +31,10 @@ pub struct Before {
     pub previous: usize,
 }
 
-// A token whose lead-in was printed: its own bytes, the place of its head, and the state behind the lead-in; or the answer where the walk
+// A token whose lead-in was printed: its own bytes, those of its head, and the state behind the lead-in; or the answer where the walk
 // ended before the token.
 pub enum Lead {
-    Ready(Own, usize, CodeFormatter),
+    Ready(Own, Own, CodeFormatter),
     Over(Printed),
 }
 
@@ -213,7 +213,7 @@ pub fn format_lead_in(
     let block = has_block(number, token.map / 2);
     let shown = list_trivia(tree, room, context, own, drops, state);
     let next = break_before(room, context, stood, number, block, shown);
-    Lead::Ready(token, head.place, next)
+    Lead::Ready(token, own, next)
 }
 
 // What stands behind the last token of a block: the trivia of its `}`, and a newline as before an end.

@@ -24,12 +24,12 @@ use Rattle.tree.specs.declared.own.OwnRead.the-variants.{Record, Refused}
 use Rattle.tree.specs.declared.own.TriviaSpan.{TriviaSpan}
 use Rattle.tree.proofs.OwnBytes.{Headed, own-cases}
 use Rattle.printing.specs.Events.{Events, nothing, _▹_}
-use Rattle.printing.specs.Running.{Run, going, finished, Shown}
+use Rattle.printing.specs.Running.{Run, going, run, finished, Shown}
 use Rattle.printing.specs.declared.CodeFormatter.{CodeFormatter}
 use Rattle.printing.specs.declared.Context.{Context}
 use Rattle.printing.specs.declared.Printed.{Printed}
 use Rattle.printing.specs.declared.Printed.the-variants as answer-is
-use Rattle.printing.proofs.Running.{told, stopped-there, full-before}
+use Rattle.printing.proofs.Running.{told, alike, stopped-there, full-before}
 use Rattle.events.specs.Printed.{Style, printed}
 use Rattle.events.specs.Trees.{word, triviaEvents, leaf, eventsIn}
 use Rattle.leaves.specs.Items.{itemsAt}
@@ -107,6 +107,13 @@ module _ (bytes : List ℕ) (class : Class) (leaves : LeafClass class) (at : ℕ
       → Shown answer room (ownEvents context style shown bytes (readOwn bytes at class levels)) before (ownEnd at (readOwn bytes at class levels))
       → Shown answer room (eventsIn context (leaf style) shown (read levels bytes class at .tree)) before (read levels bytes class at .end)
   leaf-shown context style shown levels done = let same = leaf-read context style shown levels in told (same .0) (same .1) done
+
+  -- and what is shown of its text alone, where they were read, is shown of it without its trivia
+  pub text-shown : (context : Context) (style : Style) (levels : ℕ) (own : Own) {answer : Printed} {room : List ℕ} {before : Run} → readOwn bytes at class levels ≡ Record own
+      → Shown answer room (word context (printed context style (slice (own .text) (own .end) bytes))) before (own .end)
+      → Shown answer room (eventsIn context (leaf style) false (read levels bytes class at .tree)) before (read levels bytes class at .end)
+  unfolding run
+  text-shown context style levels own is done = leaf-shown context style false levels (rw is (alike (λ x. refl) done))
 
 -- ---- what a printer of a leaf shows
 

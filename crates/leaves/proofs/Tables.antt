@@ -222,10 +222,23 @@ printed-index context variableType index rest indexed = refl
 printed-index context numberType index rest indexed = refl
 printed-index context modifier index rest indexed = refl
 
+module _ (context : Context) (style : Style) (room : List ℕ) (state : CodeFormatter) where
+  -- a stored text of no bytes
+  pub run-textless : (text : List ℕ) → length text ≡ 0 → run (word context (printed context style text)) (going room state) ≡ going room state
+  run-textless [] none = run-none context room state _ (printed-none context style)
+  run-textless (first ∷ rest) none = absurd (omega (arith, none))
+
+  -- one that prints by the index that is its first byte
+  pub run-by-first : (after : List ℕ) (next : CodeFormatter) (text : List ℕ) → (length text ≡ 0 → ⊥) → byIndex style ≡ true → (index : ℕ) → index ≡ getD text 0 0
+      → run (word context (printed context style (index ∷ []))) (going room state) ≡ going after next
+      → run (word context (printed context style text)) (going room state) ≡ going after next
+  run-by-first after next [] some indexed index byte ran = absurd (some refl)
+  run-by-first after next (first ∷ rest) some indexed index byte ran = rw (printed-index context style first rest indexed, ← byte) ran
+
 module _ (context : Context) (style : Style) (bytes : List ℕ) (start end : ℕ) (room : List ℕ) (state : CodeFormatter) where
   -- a text of no bytes
   pub run-no-text : start ≡ end → run (word context (printed context style (slice start end bytes))) (going room state) ≡ going room state
-  run-no-text none = run-none context room state _ (rw (none, slice-empty) (printed-none context style))
+  run-no-text none = rw (none, slice-empty) (run-textless context style room state [] refl)
 
   module _ (after : List ℕ) (next : CodeFormatter) where
     -- one that prints as it stands
@@ -234,10 +247,11 @@ module _ (context : Context) (style : Style) (bytes : List ℕ) (start end : ℕ
     unfolding printed
     run-plain is done = rw is (ran-push (rw part-slice at done) .ran)
 
-    -- one that prints by the index that is its first byte
+    -- one that prints by its first byte
     pub run-index : (start ≤ end) × (end ≤ length bytes) → (start ≡ end → ⊥) → (named : Style) → byIndex named ≡ true → style ≡ named → (index : ℕ) → index ≡ getD bytes start 0
         → run (word context (printed context named (index ∷ []))) (going room state) ≡ going after next
         → run (word context (printed context style (slice start end bytes))) (going room state) ≡ going after next
     run-index inside some named indexed is index byte ran =
         let before : start < end = omega (arith, inside .0, some) in
-        rw (is, slice-cons start end bytes 0 before (inside .1), ← byte, printed-index context named index (slice (suc start) end bytes) indexed) ran
+        rw (is, slice-cons start end bytes 0 before (inside .1))
+        (run-by-first context named room state after next (getD bytes start 0 ∷ slice (suc start) end bytes) (λ none. omega (arith, none)) indexed index byte ran)

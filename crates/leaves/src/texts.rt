@@ -183,3 +183,34 @@ pub(crate) fn push_text(
         Style::Modifier => modifier(index, context, room, state),
     }
 }
+
+// Pushes a mnemonic by the index that is the first byte of its stored text. For a printer that has this text in hand: `push_text` has one caller, into which it
+// is compiled, and with one more it would not be.
+pub fn push_mnemonic(
+    text: &[u8],
+    context: Context,
+    room: &mut [u8],
+    state: CodeFormatter,
+) -> CodeFormatter
+    ensures { λ r. ⌜ run (word context (printed context Printed.mnemonic (now (text .entry)))) (going (now (room .entry)) state) ≡ going (now (room .exit)) r ⌝ }
+{
+    if text.len() == 0 {
+        return state;
+    }
+    mnemonic(numbers::wide(text[0]), context, room, state)
+}
+
+// The same of the size of data.
+pub fn push_data_size(
+    text: &[u8],
+    context: Context,
+    room: &mut [u8],
+    state: CodeFormatter,
+) -> CodeFormatter
+    ensures { λ r. ⌜ run (word context (printed context Printed.dataSize (now (text .entry)))) (going (now (room .entry)) state) ≡ going (now (room .exit)) r ⌝ }
+{
+    if text.len() == 0 {
+        return state;
+    }
+    data_size(numbers::wide(text[0]), context, room, state)
+}

@@ -1,23 +1,25 @@
--- Laws of a token of a list: what its lead-in has read says what it is, so what is shown behind its own bytes, or of a `Data` from its size on, is shown of the token.
+-- Laws of a token of a list: what its lead-in has read says what it is, so what is shown behind its own bytes, or from its head on, is shown of the token.
 use mathlib.Core.Path.{_≡_, refl, sym, ap, _∙_}
 use mathlib.Core.List.{List}
 use mathlib.Core.Bool.{Bool, true, false}
-use Prim.Native.Nat.{ℕ, _-_, _/_}
+use Prim.Native.Nat.{ℕ, _-_, _/_, _≤_}
 use lib.Dec.{eqb}
-use lib.ListN.{getD}
+use lib.ListN.{length, getD}
 use borrow.Author.Tests.{eqb-true, eqb-false}
 use Rattle.text.proofs.Choices.{by-test}
 use Rattle.answers.specs.declared.Refusal.{Refusal}
 use Rattle.tree.specs.Tree.{built}
+use Rattle.tree.specs.Grammar.{kindOf}
 use Rattle.tree.specs.Own.{readOwn}
 use Rattle.tree.specs.Reading.{read}
 use Rattle.tree.specs.Stored.{storedWith}
-use Rattle.tree.specs.declared.grammar.Class.the-variants.{BareToken, DataSize}
+use Rattle.tree.specs.declared.grammar.Class.the-variants.{BareToken, LocatedExpression, Mnemonic, DataSize}
+use Rattle.tree.specs.declared.grammar.Kind.{Kind}
 use Rattle.tree.specs.declared.grammar.Kind.the-variants as variant
+use Rattle.tree.specs.declared.grammar.KindRead.the-variants.{Known}
 use Rattle.tree.specs.declared.own.Own.{Own}
 use Rattle.tree.specs.declared.own.OwnRead.{OwnRead}
 use Rattle.tree.specs.declared.own.OwnRead.the-variants as own-is
-use Rattle.tree.specs.declared.parts.Skipped.the-variants.{Next}
 use Rattle.tree.proofs.KindLayout.{kindNumber}
 use Rattle.tree.proofs.OwnBytes.{own-fits}
 use Rattle.printing.specs.Running.{going, run, placeOf, outcome, settled, Shown, Prints}
@@ -31,16 +33,16 @@ use Rattle.events.specs.Printed.{plain}
 use Rattle.events.specs.Trees.{Before, leaf}
 use Rattle.events.specs.Views.{tokenNumber}
 use Rattle.events.proofs.Heads.{number-read}
-use Rattle.leaves.specs.Records.{Opens, PrintsField}
+use Rattle.leaves.specs.Records.{Opens, PrintsField, PrintsKind}
 use Rattle.leaves.specs.declared.record.Opened.the-variants as opened-is
-use Rattle.leaves.proofs.Fielded.{opened-kind}
+use Rattle.leaves.proofs.Fielded.{bare, opened-kind}
 use Rattle.leads.specs.Leads.{beforeOf, leadIn, Led, LeadsIn}
 use Rattle.leads.specs.declared.Before as code
 use Rattle.leads.specs.declared.Lead.{Lead}
 use Rattle.leads.specs.declared.Lead.the-variants.{Ready, Over}
 use Rattle.leads.proofs.Leads.{token-missing, lead-stopped}
 use Rattle.tokens.specs.Inner.{sizedEvents, listedEvents}
-use Rattle.tokens.proofs.PlainTokens.{kind-named, data-shown, values-skipped}
+use Rattle.tokens.proofs.PlainTokens.{kind-named, data-shown, data-headed, instruction-headed}
 use Rattle.tokens.proofs.Cycle.{token-opened}
 
 -- ---- the number of a token
@@ -75,7 +77,7 @@ module _ {context : Context} {drops : Bool} {before : Before} {levels : ℕ} {by
         let over : LeadsIn (Over answer) left last room context drops before levels bytes = rw is at leads in
         record { from = λ at here. over .from at here _ _ }
 
-    module _ {own : Own} {head : ℕ} {state : CodeFormatter} (is : lead ≡ Ready own head state) (at : ℕ) (here : placeOf last at ≡ at) where
+    module _ {own head : Own} {state : CodeFormatter} (is : lead ≡ Ready own head state) (at : ℕ) (here : placeOf last at ≡ at) where
       -- what was read and run there
       led : Led own head state left (outcome last room) (leadIn context drops before (read levels bytes BareToken at .tree)) levels bytes at
       led =
@@ -89,22 +91,44 @@ module _ {context : Context} {drops : Bool} {before : Before} {levels : ℕ} {by
         from = λ place same. rw (← same) (refl, led .token, own-fits bytes at BareToken levels own (led .token), refl);
       }
 
+      -- and the text of its head lies within the bytes
+      pub head-text : (head .text ≤ head .end) × (head .end ≤ length bytes)
+      head-text = let held = own-fits bytes _ _ _ head (led .reads) in (held .part, held .inside)
+
       module _ {answer : Printed} {after : List ℕ} where
         -- what is shown of the record is shown of the token of the list
         pub listed-shown : PrintsField answer after (Done state at) left context (leaf plain) false levels bytes BareToken true
             → Shown answer after (listedEvents context drops before (read levels bytes BareToken at .tree)) (outcome last room) (read levels bytes BareToken at .end)
         listed-shown token = record { ran = led .ran } then token .from at refl
 
-        -- of a `Data` what is shown from its size on
-        pub listed-data : {number : ℕ} → number ≡ getD bytes at 0 → number ≡ 5
-            → Prints answer after (Done state head) left (λ place. sizedEvents context (read (levels - 1) bytes) (own .end) place) (λ place. read (levels - 1) bytes DataSize place .end)
+        -- so is what is shown behind its own bytes, by its number
+        listed-kind : (number : ℕ) (kind : Kind) → getD bytes at 0 ≡ number → kindOf number ≡ Known kind → bare kind ≡ false
+            → (own .kind ≡ kind → PrintsKind answer after (Done state (own .end)) left context (leaf plain) kind LocatedExpression (own .map / 2) (levels - 1) bytes)
+            → Shown answer after (listedEvents context drops before (read levels bytes BareToken at .tree)) (outcome last room) (read levels bytes BareToken at .end)
+        listed-kind number kind byte known fielded done =
+            let opens = listed-opens in
+            let named = kind-named byte known (token-opened false at opens refl refl .known) in
+            listed-shown (opened-kind opens refl (leaf plain) kind named fielded (done named))
+
+        -- of an `Instruction` what is shown from its mnemonic on
+        pub listed-instruction : getD bytes at 0 ≡ 13
+            → ((place : ℕ) → readOwn bytes place Mnemonic (levels - 1) ≡ own-is.Record head
+            → PrintsKind answer after (Done state place) left context (leaf plain) variant.Instruction LocatedExpression (own .map / 2) (levels - 1) bytes)
             → Shown answer after (listedEvents context drops before (read levels bytes BareToken at .tree)) (outcome last room) (read levels bytes BareToken at .end)
         unfolding built kindNumber storedWith
-        listed-data byte five sized =
-            let number : getD bytes at 0 ≡ 5 = sym byte ∙ five in
-            let opens = listed-opens in
-            let found = led .head in
-            let skips = values-skipped levels bytes at own (found .0) (led .token) (found .1) number ∙ ap (λ (place : ℕ). Next place) (found .2) in
-            let kind = kind-named number refl (token-opened false at opens refl refl .known) in
-            listed-shown (opened-kind opens refl (leaf plain) variant.Data kind refl
-            (done-before refl (data-shown context (levels - 1) bytes (own .map / 2) (own .end) head skips (sized .from head refl))))
+        listed-instruction number shown =
+            listed-kind 13 variant.Instruction number refl refl (λ kind.
+            let same = instruction-headed levels bytes at own (led .token) (led .found) (led .finds) number kind in
+            shown (own .end) (rw (← same) at (led .reads)))
+
+        -- of a `Data` what is shown from its size on
+        pub listed-data : getD bytes at 0 ≡ 5
+            → ((place : ℕ) → readOwn bytes place DataSize (levels - 1) ≡ own-is.Record head
+            → Prints answer after (Done state place) left (λ at. sizedEvents context (read (levels - 1) bytes) (own .end) at) (λ at. read (levels - 1) bytes DataSize at .end))
+            → Shown answer after (listedEvents context drops before (read levels bytes BareToken at .tree)) (outcome last room) (read levels bytes BareToken at .end)
+        unfolding built kindNumber storedWith
+        listed-data number shown =
+            listed-kind 5 variant.Data number refl refl (λ kind.
+            let size = data-headed levels bytes at own (led .token) (led .found) (led .finds) number in
+            let sized = shown (led .found .place) (rw (size .1, size .2) at (led .reads)) in
+            done-before refl (data-shown context (levels - 1) bytes (own .map / 2) (own .end) _ (size .0) (sized .from _ refl)))

@@ -14,7 +14,7 @@ use Rattle.tree.specs.Own.{readOwn}
 use Rattle.tree.specs.Parts.{skipped, secondField, fieldHead, headAt}
 use Rattle.tree.specs.Reading.{read}
 use Rattle.tree.specs.declared.grammar.Class.{Class}
-use Rattle.tree.specs.declared.grammar.Class.the-variants.{BareToken, LocatedExpression, ExpressionArguments, DataSize}
+use Rattle.tree.specs.declared.grammar.Class.the-variants.{BareToken, LocatedExpression, ExpressionArguments, DataSize, Mnemonic}
 use Rattle.tree.specs.declared.grammar.Kind.{Kind}
 use Rattle.tree.specs.declared.grammar.Kind.the-variants as variant
 use Rattle.tree.specs.declared.grammar.KindRead.the-variants.{Known}
@@ -28,13 +28,13 @@ use Rattle.printing.specs.Events.{nothing, _▹_}
 use Rattle.printing.specs.Running.{Run, run, Shown}
 use Rattle.printing.specs.declared.Context.{Context}
 use Rattle.printing.specs.declared.Printed.{Printed}
-use Rattle.printing.proofs.Running.{told, alike}
-use Rattle.events.specs.Printed.{plain, dataSize}
+use Rattle.printing.proofs.Running.{alike}
+use Rattle.events.specs.Printed.{plain}
 use Rattle.events.specs.Trees.{blank, oneOf, leaf, arguments, eventsIn}
 use Rattle.events.proofs.Refusals.{skip-passed}
 use Rattle.leaves.specs.Records.{fieldTrees, fieldsEnd}
 use Rattle.tokens.specs.Fronts.{isPlain}
-use Rattle.tokens.specs.Inner.{sizedEvents}
+use Rattle.tokens.specs.Inner.{valueEvents, sizedEvents}
 
 -- ---- by the number of the kind
 
@@ -72,13 +72,11 @@ end-left {number} among align assert values error expression file instruction in
 -- ---- data
 
 -- the values are printed behind the size; moving to another place is no event
-pub sized-shown : (context : Context) (levels : ℕ) (bytes : List ℕ) (values at : ℕ) {answer : Printed} {room : List ℕ} {before : Run} {end : ℕ}
-    → end ≡ read levels bytes DataSize at .end
-    → Shown answer room (eventsIn context (leaf dataSize) false (read levels bytes DataSize at .tree) ▹ blank context
-    ▹ nothing ▹ eventsIn context arguments true (read levels bytes ExpressionArguments values .tree) ▹ nothing) before end
-    → Shown answer room (sizedEvents context (read levels bytes) values at) before (read levels bytes DataSize at .end)
+pub values-shown : (context : Context) (levels : ℕ) (bytes : List ℕ) (values : ℕ) {answer : Printed} {room : List ℕ} {before : Run} {end : ℕ}
+    → Shown answer room (blank context ▹ nothing ▹ eventsIn context arguments true (read levels bytes ExpressionArguments values .tree) ▹ nothing) before end
+    → Shown answer room (valueEvents context (read levels bytes) values) before end
 unfolding run
-sized-shown context levels bytes values at behind done = told refl behind (alike (λ x. refl) done)
+values-shown context levels bytes values done = alike (λ x. refl) done
 
 -- where skipping found a place the values hold no refusal, so what is shown from the size on is shown of both
 pub data-shown : (context : Context) (levels : ℕ) (bytes : List ℕ) (bits at size : ℕ) {answer : Printed} {room : List ℕ} {before : Run}
@@ -91,14 +89,26 @@ data-shown context levels bytes bits at size skips done =
     let passed = skip-passed levels bytes ExpressionArguments at size skips in
     rw (passed .0) (alike (λ x. refl) (rw (passed .1) at done))
 
+-- ---- heads
+
 -- a second field was found behind the first
-second-behind : (levels : ℕ) (class : Class) (head : Head) (first : Skipped) → secondField levels class first ≡ Found head → first ≡ Next (head .place)
+second-behind : (levels : ℕ) (class : Class) (head : Head) (first : Skipped) → secondField levels class first ≡ Found head
+    → (first ≡ Next (head .place)) × (head .class ≡ class) × (head .levels ≡ levels)
 second-behind levels class head (Next place) e =
-    let same : record { place = place; class = class; levels = levels } ≡ head = cc in ap (λ (found : Head). Next (found .place)) same
+    let same : record { place = place; class = class; levels = levels } ≡ head = cc in rw (← same) (refl, refl, refl)
 second-behind levels class head (NotSkipped why) e = let z : _≡_ {A = ℕ} 0 1 = cc in absurd (omega arith)
 
--- so where the head of a `Data` was found its values were skipped
-pub values-skipped : (levels : ℕ) (bytes : List ℕ) (at : ℕ) (own : Own) (head : Head) → readOwn bytes at BareToken levels ≡ Record own
-    → headAt levels bytes BareToken at ≡ Found head → getD bytes at 0 ≡ 5 → skipped (levels - 1) bytes ExpressionArguments (own .end) ≡ Next (head .place)
-unfolding headAt fieldHead
-values-skipped levels bytes at own head is found five = second-behind (levels - 1) DataSize head _ (rw (is, five) at found)
+module _ (levels : ℕ) (bytes : List ℕ) (at : ℕ) (own : Own) (is : readOwn bytes at BareToken levels ≡ Record own) (head : Head)
+    (found : headAt levels bytes BareToken at ≡ Found head)
+  where
+    -- so where the head of a `Data` was found its values were skipped, and it is the size
+    pub data-headed : getD bytes at 0 ≡ 5
+        → (skipped (levels - 1) bytes ExpressionArguments (own .end) ≡ Next (head .place)) × (head .class ≡ DataSize) × (head .levels ≡ levels - 1)
+    unfolding headAt fieldHead
+    data-headed five = second-behind (levels - 1) DataSize head _ (rw (is, five) at found)
+
+    -- that of an `Instruction` is its mnemonic
+    pub instruction-headed : getD bytes at 0 ≡ 13 → own .kind ≡ variant.Instruction → record { place = own .end; class = Mnemonic; levels = levels - 1 } ≡ head
+    unfolding headAt fieldHead
+    instruction-headed thirteen kind =
+        let same : Found (record { place = own .end; class = Mnemonic; levels = levels - 1 }) ≡ Found head = rw (is, thirteen, kind) at found in cc

@@ -6,11 +6,11 @@ use mathlib.Core.Bool.{Bool, true, false, cond}
 use lib.Dec.{eqb}
 use Rattle.options.specs.declared.BracePosition.{BracePosition}
 use Rattle.options.specs.declared.BracePosition.the-variants.{SameLine, NewLine}
-use Rattle.tree.specs.Tree.{Tree}
+use Rattle.tree.specs.Tree.{Tree, absent}
 use Rattle.tree.specs.Reading.{Reader}
 use Rattle.tree.specs.declared.grammar.Class.{Class}
-use Rattle.tree.specs.declared.grammar.Class.the-variants.{Word, DataSize, BareToken, LocatedToken, ExpressionArguments, BlockRecord}
-use Rattle.printing.specs.Events.{Events, nothing, _▹_}
+use Rattle.tree.specs.declared.grammar.Class.the-variants.{Word, DataSize, BareToken, LocatedToken, ExpressionArguments, BlockRecord, OperandRecord}
+use Rattle.printing.specs.Events.{Events, nothing, space, clear, _▹_}
 use Rattle.printing.specs.declared.Context.{Context}
 use Rattle.events.specs.Printed.{plain, dataSize}
 use Rattle.events.specs.Views.{bitAt}
@@ -61,9 +61,19 @@ branchesEnd other reader at = cond other (reader BlockRecord (reader Word (behin
 
 -- ---- a `Data`, from its size on, which is stored behind its values
 
+abbrev pub valueEvents : Context → Reader → ℕ → Events
+valueEvents context reader values = blank context ▹ eventsIn context arguments true (reader ExpressionArguments values .tree)
+
 abbrev pub sizedEvents : Context → Reader → ℕ → ℕ → Events
-sizedEvents context reader values at =
-    eventsIn context (leaf dataSize) false (reader DataSize at .tree) ▹ blank context ▹ eventsIn context arguments true (reader ExpressionArguments values .tree)
+sizedEvents context reader values at = eventsIn context (leaf dataSize) false (reader DataSize at .tree) ▹ valueEvents context reader values
+
+-- ---- an `Instruction` behind its mnemonic
+
+abbrev pub operandEvents : Context → ℕ → Reader → ℕ → Events
+operandEvents context bits reader at = space ▹ eventsIn context (leaf plain) true (cond (bitAt 1 bits) (reader OperandRecord at .tree) absent) ▹ clear
+
+abbrev pub operandEnd : ℕ → Reader → ℕ → ℕ
+operandEnd bits reader at = cond (bitAt 1 bits) (reader OperandRecord at .end) at
 
 -- ---- a token of a list: what stands before it, and the token without its own trivia
 

@@ -5,24 +5,32 @@ use expressions::operand;
 use expressions::strings;
 use leaves::leaf;
 use leaves::record;
+use leaves::texts;
 use leaves::texts::Style;
+use printing::CodeFormatter;
 use printing::Context;
 use printing::Printed;
 use tree::grammar::Class;
+use tree::own::Own;
 ghost use mathlib.Core.Path.{_≡_};
 ghost use mathlib.Core.Bool.{true, false};
+ghost use Prim.Native.Nat.{ℕ, _≤_};
+ghost use lib.ListN.{length};
 ghost use Rattle.tree.specs.Grammar.{kindOf};
+ghost use Rattle.tree.specs.Own.{readOwn};
 ghost use Rattle.tree.specs.Reading.{read};
 ghost use Rattle.tree.specs.declared.grammar.Class.the-variants as class;
 ghost use Rattle.tree.specs.declared.grammar.Kind.{Kind};
 ghost use Rattle.tree.specs.declared.grammar.KindRead.the-variants.{Known};
 ghost use Rattle.tree.specs.declared.grammar.Kind.the-variants as kind;
+ghost use Rattle.tree.specs.declared.own.OwnRead.the-variants.{Record};
 ghost use Rattle.printing.specs.Running.{Prints};
+ghost use Rattle.printing.specs.declared.Printed.the-variants.{Done};
 ghost use Rattle.events.specs.Printed.{plain};
 ghost use Rattle.events.specs.Trees as Trees;
 ghost use Rattle.leaves.specs.Records.{PrintsKind};
 ghost use Rattle.tokens.specs.Fronts.{isPlain};
-ghost use Rattle.tokens.specs.Inner.{sizedEvents};
+ghost use Rattle.tokens.specs.Inner.{valueEvents, sizedEvents, operandEvents, operandEnd};
 
 // A tag and an expression.
 pub(crate) fn format_tagged(
@@ -64,27 +72,17 @@ fn format_assert(
     strings::format_string(tree, room, context, levels, record::stands(bits, 2), gap)
 }
 
-// A size, and behind it the values, which are stored before it; the answer ends behind the size.
-pub(crate) fn format_sized(
+// What is printed behind a size: the values, which are stored before it. The answer ends behind the size.
+fn format_behind_size(
     tree: &[u8],
     room: &mut [u8],
     context: Context,
     levels: usize,
     values: usize,
-    last: Printed,
+    size: Printed,
 ) -> Printed
-    ensures { λ r. ⌜ Prints r (now (room .exit)) last (now (room .entry)) (λ at. sizedEvents context (read levels (now (tree .entry))) values at) (λ at. read levels (now (tree .entry)) class.DataSize at .end) ⌝ }
+    ensures { λ r. ⌜ Prints r (now (room .exit)) size (now (room .entry)) (λ at. valueEvents context (read levels (now (tree .entry))) values) (λ at. at) ⌝ }
 {
-    let size = leaf::format_leaf(
-        tree,
-        room,
-        context,
-        levels,
-        Class::DataSize,
-        Style::DataSize,
-        false,
-        last,
-    );
     let Printed::Done(_, end) = size else {
         return size;
     };
@@ -100,7 +98,26 @@ pub(crate) fn format_sized(
     printed.moved_to(end)
 }
 
-// The values are skipped on the way to the size. In a list the lead-in has found the size, and this is not called.
+// A `Data` of a list, whose lead-in has read the own bytes of its size.
+pub(crate) fn format_sized(
+    tree: &[u8],
+    room: &mut [u8],
+    context: Context,
+    levels: usize,
+    values: usize,
+    size: Own,
+    state: CodeFormatter,
+) -> Printed
+    requires { ⌜ (size .text ≤ size .end) × (size .end ≤ length (now tree)) ⌝ }
+    ensures { λ r. ⌜ ((at : ℕ) → readOwn (now (tree .entry)) at class.DataSize levels ≡ Record size → Prints r (now (room .exit)) (Done state at) (now (room .entry)) (λ place. sizedEvents context (read levels (now (tree .entry))) values place) (λ place. read levels (now (tree .entry)) class.DataSize place .end)) ⌝ }
+{
+    let start = size.text;
+    let end = size.end;
+    let pushed = texts::push_data_size(&tree[start..end], context, room, state);
+    format_behind_size(tree, room, context, levels, values, pushed.finish(end))
+}
+
+// The values are skipped on the way to the size. In a list the lead-in has read the size, and this is not called.
 fn format_data(
     tree: &[u8],
     room: &mut [u8],
@@ -114,7 +131,17 @@ fn format_data(
         return last;
     };
     let skipped = record::skip(tree, levels, Class::ExpressionArguments, true, last);
-    format_sized(tree, room, context, levels, values, skipped)
+    let size = leaf::format_leaf(
+        tree,
+        room,
+        context,
+        levels,
+        Class::DataSize,
+        Style::DataSize,
+        false,
+        skipped,
+    );
+    format_behind_size(tree, room, context, levels, values, size)
 }
 
 // A tag and a file's name.
@@ -141,7 +168,49 @@ fn format_file(
     strings::format_string(tree, room, context, levels, true, gap)
 }
 
-// A mnemonic, with an operand or without.
+// What is printed behind a mnemonic: an operand or none.
+fn format_behind_mnemonic(
+    tree: &[u8],
+    room: &mut [u8],
+    context: Context,
+    levels: usize,
+    bits: usize,
+    mnemonic: Printed,
+) -> Printed
+    ensures { λ r. ⌜ Prints r (now (room .exit)) mnemonic (now (room .entry)) (λ at. operandEvents context bits (read levels (now (tree .entry))) at) (λ at. operandEnd bits (read levels (now (tree .entry))) at) ⌝ }
+{
+    let gap = mnemonic.spc_if_next();
+    let operand = operand::format_operand(
+        tree,
+        room,
+        context,
+        levels,
+        record::stands(bits, 1),
+        gap,
+    );
+    operand.clear_spc_if_next()
+}
+
+// An `Instruction` of a list, whose lead-in has read the own bytes of its mnemonic.
+pub(crate) fn format_listed_instruction(
+    tree: &[u8],
+    room: &mut [u8],
+    context: Context,
+    levels: usize,
+    bits: usize,
+    mnemonic: Own,
+    state: CodeFormatter,
+) -> Printed
+    requires { ⌜ (mnemonic .text ≤ mnemonic .end) × (mnemonic .end ≤ length (now tree)) ⌝ }
+    ensures { λ r. ⌜ ((at : ℕ) → readOwn (now (tree .entry)) at class.Mnemonic levels ≡ Record mnemonic → PrintsKind r (now (room .exit)) (Done state at) (now (room .entry)) context (Trees.leaf plain) kind.Instruction class.LocatedExpression bits levels (now (tree .entry))) ⌝ }
+{
+    let start = mnemonic.text;
+    let end = mnemonic.end;
+    let pushed = texts::push_mnemonic(&tree[start..end], context, room, state);
+    format_behind_mnemonic(tree, room, context, levels, bits, pushed.finish(end))
+}
+
+// A mnemonic, with an operand or without. In a list the lead-in has read the mnemonic, and this is not called.
 fn format_instruction(
     tree: &[u8],
     room: &mut [u8],
@@ -162,16 +231,7 @@ fn format_instruction(
         false,
         last,
     );
-    let gap = mnemonic.spc_if_next();
-    let operand = operand::format_operand(
-        tree,
-        room,
-        context,
-        levels,
-        record::stands(bits, 1),
-        gap,
-    );
-    operand.clear_spc_if_next()
+    format_behind_mnemonic(tree, room, context, levels, bits, mnemonic)
 }
 
 // A macro's name with its arguments.

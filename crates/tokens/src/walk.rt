@@ -195,8 +195,8 @@ fn format_token(
     format_inner(tree, room, context, levels - 1, number, own.map / 2, start)
 }
 
-// A token of a list, and what stands before it. The lead-in has read the token's own bytes and found its head, so neither is read again; the
-// head of a `Data` (5) is its size.
+// A token of a list, and what stands before it. What the lead-in has read is not read again: the token's own bytes, and those of its head where that is the
+// mnemonic of an `Instruction` (13) or the size of a `Data` (5).
 fn format_listed_token(
     tree: &[u8],
     room: &mut [u8],
@@ -217,9 +217,19 @@ fn format_listed_token(
         Lead::Over(answer) => answer,
         Lead::Ready(own, head, state) => {
             let number = leads::byte_at(tree, at);
+            if number == 13 {
+                return plain::format_listed_instruction(
+                    tree,
+                    room,
+                    context,
+                    levels - 1,
+                    own.map / 2,
+                    head,
+                    state,
+                );
+            }
             if number == 5 {
-                let size = Printed::Done(state, head);
-                return plain::format_sized(tree, room, context, levels - 1, own.end, size);
+                return plain::format_sized(tree, room, context, levels - 1, own.end, head, state);
             }
             let start = Printed::Done(state, own.end);
             format_inner(tree, room, context, levels - 1, number, own.map / 2, start)

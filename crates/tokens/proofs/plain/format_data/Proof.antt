@@ -1,9 +1,10 @@
--- The values are skipped on the way to their size, from which on both are shown.
+-- The values are skipped on the way to their size, which is shown, and what is printed behind it.
 use mathlib.Core.Path.{refl}
 use Rattle.tree.specs.Tree.{built}
 use Rattle.printing.proofs.Running.{_thence_, refused-before, done-before}
 use Rattle.events.specs.Trees.{eventsIn}
 use Rattle.leaves.specs.Records.{fieldTrees, fieldsEnd}
+use Rattle.leaves.proofs.Classes.{data-size-leaf}
 use borrow.Author.Needs.{needs}
 use Rattle.tokens.proofs.plain.format_data.Statement.{statement}
 use Rattle.tokens.proofs.plain.format_data.Tie as tie
@@ -20,8 +21,11 @@ returns c = refused-before (c .enum-told .given .1)
 skip-requires : tie.Need-skip-requires
 skip-requires c κs = search needs
 
-format-sized-requires : tie.Need-format-sized-requires
-format-sized-requires c κs = search needs
+format-leaf-requires : tie.Need-format-leaf-requires
+format-leaf-requires c κs = search needs
+
+format-behind-size-requires : tie.Need-format-behind-size-requires
+format-behind-size-requires c κs = search needs
 
 same-length : tie.Need-same-length
 same-length c = search needs
@@ -29,12 +33,14 @@ same-length c = search needs
 returns-2 : tie.Need-returns-2
 unfolding built fieldTrees fieldsEnd eventsIn
 returns-2 c =
-    let at-format-sized = c .before .before in
-    let at-skip = at-format-sized .before .before in
+    let at-behind = c .before .before in
+    let at-format-leaf = at-behind .before .before .before .before in
+    let at-skip = at-format-leaf .before .before in
     let at-last = at-skip .before .before in
     let skipped = at-skip .skip .ensures .from _ .from _ refl in
-    let sized = at-format-sized .format-sized .ensures .from _ (skipped .next) in
-    done-before (at-last .last .given .1) (skipped thence sized)
+    let size = at-format-leaf .format-leaf .ensures .1 data-size-leaf .from _ (skipped .next) in
+    let behind = at-behind .format-behind-size .ensures .from _ (size .next) in
+    done-before (at-last .last .given .1) (skipped thence size thence behind)
 
 pub format-data-spec : {M : Type 1} → statement M
 format-data-spec =
@@ -44,6 +50,7 @@ format-data-spec =
     enum-told
     returns
     skip-requires
-    format-sized-requires
+    format-leaf-requires
+    format-behind-size-requires
     same-length
     returns-2)

@@ -27,7 +27,7 @@ use Rattle.leaves.proofs.Fielded.{opened-levels, opened-one, opened-kind, shown
 use Rattle.tokens.specs.Tokens.{eachEvents}
 use Rattle.tokens.proofs.Cycle.{stays-refused, inside-shown, not-nothing, plain-number, one-branch, both-branches, token-rule, token-opened, tokens-shown}
 use Rattle.tokens.proofs.Cycle.{only-in, not-in, restEvents, all-left, block-left, file-left, one-left, rest-from}
-use Rattle.tokens.proofs.Listed.{listed-number, listed-over, listed-opens, listed-shown, listed-data}
+use Rattle.tokens.proofs.Listed.{listed-number, listed-over, listed-opens, head-text, listed-shown, listed-instruction, listed-data}
 use Prim.Native.Nat.{ℕ, _<_, _+_, _*_, _-_}
 use borrow.Fn.Kinds.{In}
 use borrow.Fn.PlainCycle.{Measures, is, falls, and}
@@ -63,6 +63,7 @@ use Rattle.printing.proofs.Printed.push.Reads as push-reads
 use Rattle.printing.proofs.Printed.settled.Reads as settled-reads
 use Rattle.printing.proofs.Printed.trim_newlines.Reads as trim-newlines-reads
 use Rattle.tokens.proofs.fronts.format_token_front.Reads as format-token-front-reads
+use Rattle.tokens.proofs.plain.format_listed_instruction.Reads as format-listed-instruction-reads
 use Rattle.tokens.proofs.plain.format_plain_token.Reads as format-plain-token-reads
 use Rattle.tokens.proofs.plain.format_sized.Reads as format-sized-reads
 use Rattle.tokens.proofs.walk.deeper.Reads as deeper-reads
@@ -199,6 +200,8 @@ format-listed-token-claims t = (
   format-lead-in-reads.Learnt,
   byte-at-reads.Asked,
   byte-at-reads.Learnt,
+  format-listed-instruction-reads.Asked,
+  format-listed-instruction-reads.Learnt,
   format-sized-reads.Asked,
   format-sized-reads.Learnt,
   format-inner-below t,
@@ -650,7 +653,7 @@ format-inner-returns-5 t c =
     let at-match = c .before .before .before .before .before .before in
     not-nothing (at-match .match .keys2) (c .enum-told3 .given .1)
 
--- ---- format_listed_token: the lead-in has opened the record, and the walk goes on behind its own bytes, or at the size of a `Data`
+-- ---- format_listed_token: the lead-in has opened the record, and the walk goes on behind its own bytes, or from its head on where that was read for it
 
 format-listed-token-enum-known-last : (t : ℕ) → format-listed-token-lts.Need-enum-known-last (format-listed-token-claims t) (format-listed-token-at t) format-listed-token.Post
 format-listed-token-enum-known-last t c = search needs
@@ -673,38 +676,71 @@ format-listed-token-enum-known-lead-2 t c = search needs
 format-listed-token-byte-at-requires : (t : ℕ) → format-listed-token-lts.Need-byte-at-requires (format-listed-token-claims t) (format-listed-token-at t) format-listed-token.Post
 format-listed-token-byte-at-requires t c κs = search needs
 
-format-listed-token-sub-format-sized : (t : ℕ) → format-listed-token-lts.Need-sub-format-sized (format-listed-token-claims t) (format-listed-token-at t) format-listed-token.Post
-format-listed-token-sub-format-sized t c =
+format-listed-token-sub-format-listed-instruction : (t : ℕ)
+    → format-listed-token-lts.Need-sub-format-listed-instruction (format-listed-token-claims t) (format-listed-token-at t) format-listed-token.Post
+format-listed-token-sub-format-listed-instruction t c =
     let at-ready = c .before .before .before .before in
     let at-lead = at-ready .before .before .before .before in
     opened-levels (listed-opens (at-lead .format-lead-in .ensures) (at-ready .lead2 .given .1) _ refl) refl
 
-format-listed-token-format-sized-requires : (t : ℕ) → format-listed-token-lts.Need-format-sized-requires (format-listed-token-claims t) (format-listed-token-at t) format-listed-token.Post
-format-listed-token-format-sized-requires t c κs = search needs
+format-listed-token-format-listed-instruction-requires : (t : ℕ)
+    → format-listed-token-lts.Need-format-listed-instruction-requires (format-listed-token-claims t) (format-listed-token-at t) format-listed-token.Post
+format-listed-token-format-listed-instruction-requires t c κs =
+    let at-ready = c .before .before .before .before .before in
+    let at-lead = at-ready .before .before .before .before in
+    head-text (at-lead .format-lead-in .ensures) (at-ready .lead2 .given .1) _ refl
 
 format-listed-token-same-length : (t : ℕ) → format-listed-token-lts.Need-same-length (format-listed-token-claims t) (format-listed-token-at t) format-listed-token.Post
 format-listed-token-same-length t c = search needs
 
 format-listed-token-returns-2 : (t : ℕ) → format-listed-token-lts.Need-returns-2 (format-listed-token-claims t) (format-listed-token-at t) format-listed-token.Post
 format-listed-token-returns-2 t c =
-    let at-sized = c .before .before in
-    let at-if1 = at-sized .before .before in
+    let at-printed = c .before .before in
+    let at-if1 = at-printed .before .before .before in
     let at-byte = at-if1 .before in
     let at-ready = at-byte .before .before in
     let at-lead = at-ready .before .before .before .before in
     let at-last = at-lead .before .before .before in
+    let number = sym (at-byte .byte-at .ensures) ∙ at-if1 .if1 .taken in
     done-before (at-last .last .given .1)
-    (listed-data (at-lead .format-lead-in .ensures) (at-ready .lead2 .given .1) _ refl (at-byte .byte-at .ensures) (at-if1 .if1 .taken) (at-sized .format-sized .ensures))
+    (listed-instruction (at-lead .format-lead-in .ensures) (at-ready .lead2 .given .1) _ refl number (at-printed .format-listed-instruction .ensures))
+
+format-listed-token-sub-format-sized : (t : ℕ) → format-listed-token-lts.Need-sub-format-sized (format-listed-token-claims t) (format-listed-token-at t) format-listed-token.Post
+format-listed-token-sub-format-sized t c =
+    let at-ready = c .before .before .before .before .before in
+    let at-lead = at-ready .before .before .before .before in
+    opened-levels (listed-opens (at-lead .format-lead-in .ensures) (at-ready .lead2 .given .1) _ refl) refl
+
+format-listed-token-format-sized-requires : (t : ℕ) → format-listed-token-lts.Need-format-sized-requires (format-listed-token-claims t) (format-listed-token-at t) format-listed-token.Post
+format-listed-token-format-sized-requires t c κs =
+    let at-ready = c .before .before .before .before .before in
+    let at-lead = at-ready .before .before .before .before in
+    head-text (at-lead .format-lead-in .ensures) (at-ready .lead2 .given .1) _ refl
+
+format-listed-token-same-length-2 : (t : ℕ) → format-listed-token-lts.Need-same-length-2 (format-listed-token-claims t) (format-listed-token-at t) format-listed-token.Post
+format-listed-token-same-length-2 t c = search needs
+
+format-listed-token-returns-3 : (t : ℕ) → format-listed-token-lts.Need-returns-3 (format-listed-token-claims t) (format-listed-token-at t) format-listed-token.Post
+format-listed-token-returns-3 t c =
+    let at-printed = c .before .before in
+    let at-if2 = at-printed .before .before in
+    let at-byte = at-if2 .before .before in
+    let at-ready = at-byte .before .before in
+    let at-lead = at-ready .before .before .before .before in
+    let at-last = at-lead .before .before .before in
+    let number = sym (at-byte .byte-at .ensures) ∙ at-if2 .if2 .taken in
+    done-before (at-last .last .given .1)
+    (listed-data (at-lead .format-lead-in .ensures) (at-ready .lead2 .given .1) _ refl number (at-printed .format-sized .ensures))
 
 format-listed-token-sub-format-inner : (t : ℕ) → format-listed-token-lts.Need-sub-format-inner (format-listed-token-claims t) (format-listed-token-at t) format-listed-token.Post
 format-listed-token-sub-format-inner t c =
-    let at-ready = c .before .before .before .before in
+    let at-ready = c .before .before .before .before .before in
     let at-lead = at-ready .before .before .before .before in
     opened-levels (listed-opens (at-lead .format-lead-in .ensures) (at-ready .lead2 .given .1) _ refl) refl
 
 format-listed-token-format-inner-requires : (t : ℕ) → format-listed-token-lts.Need-format-inner-requires (format-listed-token-claims t) (format-listed-token-at t) format-listed-token.Post
 format-listed-token-format-inner-requires t c κs =
-    let at-byte = c .before .before .before in
+    let at-byte = c .before .before .before .before in
     let at-ready = at-byte .before .before in
     let at-lead = at-ready .before .before .before .before in
     let at-last = at-lead .before .before .before in
@@ -716,23 +752,23 @@ format-listed-token-format-inner-requires t c κs =
     let narrow = start .pre .1 in
     (omega (arith, levels-left, measured), ((narrow .0, omega (arith, narrow .1)), rw (at-byte .byte-at .ensures) (token .ends)))
 
-format-listed-token-same-length-2 : (t : ℕ) → format-listed-token-lts.Need-same-length-2 (format-listed-token-claims t) (format-listed-token-at t) format-listed-token.Post
-format-listed-token-same-length-2 t c = search needs
-
-format-listed-token-returns-3 : (t : ℕ) → format-listed-token-lts.Need-returns-3 (format-listed-token-claims t) (format-listed-token-at t) format-listed-token.Post
-format-listed-token-returns-3 t c =
-    let at-over = c .before in
-    let at-lead = at-over .before .before .before .before in
-    let at-last = at-lead .before .before .before in
-    done-before (at-last .last .given .1) (listed-over (at-lead .format-lead-in .ensures) (at-over .lead .given .1) .from _ refl)
-
 format-listed-token-same-length-3 : (t : ℕ) → format-listed-token-lts.Need-same-length-3 (format-listed-token-claims t) (format-listed-token-at t) format-listed-token.Post
 format-listed-token-same-length-3 t c = search needs
 
 format-listed-token-returns-4 : (t : ℕ) → format-listed-token-lts.Need-returns-4 (format-listed-token-claims t) (format-listed-token-at t) format-listed-token.Post
 format-listed-token-returns-4 t c =
+    let at-over = c .before in
+    let at-lead = at-over .before .before .before .before in
+    let at-last = at-lead .before .before .before in
+    done-before (at-last .last .given .1) (listed-over (at-lead .format-lead-in .ensures) (at-over .lead .given .1) .from _ refl)
+
+format-listed-token-same-length-4 : (t : ℕ) → format-listed-token-lts.Need-same-length-4 (format-listed-token-claims t) (format-listed-token-at t) format-listed-token.Post
+format-listed-token-same-length-4 t c = search needs
+
+format-listed-token-returns-5 : (t : ℕ) → format-listed-token-lts.Need-returns-5 (format-listed-token-claims t) (format-listed-token-at t) format-listed-token.Post
+format-listed-token-returns-5 t c =
     let at-format-inner = c .before .before in
-    let at-byte = at-format-inner .before .before .before .before in
+    let at-byte = at-format-inner .before .before .before .before .before in
     let at-ready = at-byte .before .before in
     let at-lead = at-ready .before .before .before .before in
     let at-last = at-lead .before .before .before in
@@ -969,16 +1005,20 @@ pub +format-block+format-branches+format-each-token+format-inner+format-listed-t
     (format-listed-token-enum-known-lead t)
     (format-listed-token-enum-known-lead-2 t)
     (format-listed-token-byte-at-requires t)
-    (format-listed-token-sub-format-sized t)
-    (format-listed-token-format-sized-requires t)
+    (format-listed-token-sub-format-listed-instruction t)
+    (format-listed-token-format-listed-instruction-requires t)
     (format-listed-token-same-length t)
     (format-listed-token-returns-2 t)
-    (format-listed-token-sub-format-inner t)
-    (format-listed-token-format-inner-requires t)
+    (format-listed-token-sub-format-sized t)
+    (format-listed-token-format-sized-requires t)
     (format-listed-token-same-length-2 t)
     (format-listed-token-returns-3 t)
+    (format-listed-token-sub-format-inner t)
+    (format-listed-token-format-inner-requires t)
     (format-listed-token-same-length-3 t)
-    (format-listed-token-returns-4 t))
+    (format-listed-token-returns-4 t)
+    (format-listed-token-same-length-4 t)
+    (format-listed-token-returns-5 t))
     (λ t. format-token-lts.spec (format-token-claims t)
     (format-token-at t)
     format-token.Post
