@@ -1,4 +1,5 @@
--- Laws of tokens without a block or a token inside: the kind a number stands for, the number that is left, and values that are printed behind their size.
+-- Laws of tokens without a block or a token inside: the kind a number stands for, the number that is left, an instruction without an operand, and values that
+-- are printed behind their size.
 use mathlib.Core.Path.{_≡_, refl, sym, ap, _∙_}
 use mathlib.Core.List.{List, []}
 use mathlib.Core.Bool.{true, false}
@@ -24,17 +25,18 @@ use Rattle.tree.specs.declared.parts.Head.{Head}
 use Rattle.tree.specs.declared.parts.HeadRead.the-variants.{Found}
 use Rattle.tree.specs.declared.parts.Skipped.{Skipped}
 use Rattle.tree.specs.declared.parts.Skipped.the-variants.{Next, NotSkipped}
-use Rattle.printing.specs.Events.{nothing, _▹_}
-use Rattle.printing.specs.Running.{Run, run, Shown}
+use Rattle.printing.specs.Events.{nothing, space, clear, _▹_}
+use Rattle.printing.specs.Running.{Run, going, ended, run, Shown}
 use Rattle.printing.specs.declared.Context.{Context}
 use Rattle.printing.specs.declared.Printed.{Printed}
 use Rattle.printing.proofs.Running.{alike}
 use Rattle.events.specs.Printed.{plain}
 use Rattle.events.specs.Trees.{blank, oneOf, leaf, arguments, eventsIn}
+use Rattle.events.specs.Views.{bitAt}
 use Rattle.events.proofs.Refusals.{skip-passed}
 use Rattle.leaves.specs.Records.{fieldTrees, fieldsEnd}
 use Rattle.tokens.specs.Fronts.{isPlain}
-use Rattle.tokens.specs.Inner.{valueEvents, sizedEvents}
+use Rattle.tokens.specs.Inner.{valueEvents, sizedEvents, operandEvents, operandEnd}
 
 -- ---- by the number of the kind
 
@@ -68,6 +70,20 @@ end-left {number} among align assert values error expression file instruction in
       ne-eqb _ _ variable,
     ) at among in
     true-false (sym none))
+
+-- ---- an instruction without an operand
+
+-- a space that is taken back at once
+taken-back : (x : Run) → run clear x ≡ run (space ▹ nothing ▹ clear) x
+unfolding run
+taken-back (going room state) = refl
+taken-back (ended room why) = refl
+
+-- so where no operand stands it need not be asked for
+pub no-operand : (context : Context) (levels : ℕ) (bytes : List ℕ) (bits at : ℕ) {answer : Printed} {room : List ℕ} {before : Run} → bitAt 1 bits ≡ false
+    → Shown answer room clear before at → Shown answer room (operandEvents context bits (read levels bytes) at) before (operandEnd bits (read levels bytes) at)
+unfolding eventsIn
+no-operand context levels bytes bits at none shown = rw none (alike taken-back shown)
 
 -- ---- data
 

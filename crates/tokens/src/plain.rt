@@ -168,7 +168,7 @@ fn format_file(
     strings::format_string(tree, room, context, levels, true, gap)
 }
 
-// What is printed behind a mnemonic: an operand or none.
+// What is printed behind a mnemonic: an operand or none. Where none stands no space is asked for, since it would be taken back at once.
 fn format_behind_mnemonic(
     tree: &[u8],
     room: &mut [u8],
@@ -179,15 +179,11 @@ fn format_behind_mnemonic(
 ) -> Printed
     ensures { λ r. ⌜ Prints r (now (room .exit)) mnemonic (now (room .entry)) (λ at. operandEvents context bits (read levels (now (tree .entry))) at) (λ at. operandEnd bits (read levels (now (tree .entry))) at) ⌝ }
 {
+    if !record::stands(bits, 1) {
+        return mnemonic.clear_spc_if_next();
+    }
     let gap = mnemonic.spc_if_next();
-    let operand = operand::format_operand(
-        tree,
-        room,
-        context,
-        levels,
-        record::stands(bits, 1),
-        gap,
-    );
+    let operand = operand::format_operand(tree, room, context, levels, true, gap);
     operand.clear_spc_if_next()
 }
 
