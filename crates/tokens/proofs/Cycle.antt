@@ -41,7 +41,7 @@ use Rattle.events.specs.Trees.{first, tokens, leaf, oneOf, elseEvents, closingE
 use Rattle.events.specs.Views.{tokenNumber, bitAt}
 use Rattle.events.proofs.OwnParts.{both-stand, record-headed, record-fields}
 use Rattle.leaves.specs.Lists.{itemTrees, itemsEnd}
-use Rattle.leaves.specs.Records.{fieldTrees, fieldsEnd, Opens}
+use Rattle.leaves.specs.Records.{PrintsField, PrintsKind, fieldTrees, fieldsEnd, Opens}
 use Rattle.leaves.specs.declared.record.Opened.{Opened}
 use Rattle.leaves.specs.declared.record.Opened.the-variants as opened-is
 use Rattle.leaves.proofs.Fielded.{bare, opened-range, opened-by-number, opened-list}
@@ -49,7 +49,7 @@ use Rattle.leaves.proofs.Records.{read-record}
 use Rattle.leads.specs.Leads.{beforeOf}
 use Rattle.leads.specs.declared.Before as code
 use Rattle.expressions.proofs.Stands.{field-stands}
-use Rattle.tokens.specs.Fronts.{isPlain, frontEvents, frontEnd}
+use Rattle.tokens.specs.Fronts.{isPlain, frontEvents, frontEnd, PrintsFront}
 use Rattle.tokens.specs.Inner.{tokenClass, innerOf, Ends, elseFront, branchEvents, branchesEnd, listedEvents}
 use Rattle.tokens.specs.Tokens.{closingAt, PrintsTokens, eachEvents}
 use Rattle.tokens.specs.declared.walk.Inner.{Inner}
@@ -201,6 +201,25 @@ module _ (context : Context) (levels : ℕ) (bytes : List ℕ) (bits at : ℕ) (
       (λ is. by-kind number 16 kind variant.MacroDefinition known is refl inner macro-in shown)
       (λ is. by-kind number 20 kind variant.Test known is refl inner test-in shown)
       (λ none. let nothing-in : inside ≡ Nothing = sym inner ∙ none in rw nothing-in at shown)
+
+-- ---- labels
+
+module _ (context : Context) (levels : ℕ) (bytes : List ℕ) (bits : ℕ) {last front : Printed} {room shown : List ℕ} (printed : PrintsFront front shown last room context 14 levels bytes)
+  where
+    -- without a block a label is what stands before it
+    pub label-alone : bitAt 2 bits ≡ false → PrintsKind front shown last room context (leaf plain) variant.Label LocatedExpression bits levels bytes
+    unfolding eventsIn run oneOf
+    label-alone none = record { from = λ at here. label-in context levels bytes bits at front shown (outcome last room) (rw none (alike (λ x. refl) (printed .from at here))) }
+
+    -- and else that and the block
+    pub label-block : {answer : Printed} {after : List ℕ} → bitAt 2 bits ≡ true → PrintsField answer after front shown context (leaf plain) true levels bytes BlockRecord true
+        → PrintsKind answer after last room context (leaf plain) variant.Label LocatedExpression bits levels bytes
+    unfolding oneOf
+    label-block {answer} {after} one block = record {
+      from = λ at here.
+          let before = printed .from at here in
+          label-in context levels bytes bits at answer after (outcome last room) (rw one (before thence block .from _ (before .next)));
+    }
 
 -- ---- tokens with nothing inside
 

@@ -9,11 +9,12 @@ use borrow.Author.Tests.{eqb-true, eqb-false}
 use Rattle.text.proofs.Choices.{by-test}
 use Rattle.answers.specs.declared.Refusal.{Refusal}
 use Rattle.tree.specs.Tree.{built}
-use Rattle.tree.specs.Grammar.{kindOf}
+use Rattle.tree.specs.Grammar.{kindOf, fields}
 use Rattle.tree.specs.Own.{readOwn}
+use Rattle.tree.specs.Parts.{firstClass}
 use Rattle.tree.specs.Reading.{read}
 use Rattle.tree.specs.Stored.{storedWith}
-use Rattle.tree.specs.declared.grammar.Class.the-variants.{BareToken, LocatedExpression, Mnemonic, DataSize}
+use Rattle.tree.specs.declared.grammar.Class.the-variants.{Word, BareToken, LocatedExpression, Mnemonic, DataSize}
 use Rattle.tree.specs.declared.grammar.Kind.{Kind}
 use Rattle.tree.specs.declared.grammar.Kind.the-variants as variant
 use Rattle.tree.specs.declared.grammar.KindRead.the-variants.{Known}
@@ -42,7 +43,7 @@ use Rattle.leads.specs.declared.Lead.{Lead}
 use Rattle.leads.specs.declared.Lead.the-variants.{Ready, Over}
 use Rattle.leads.proofs.Leads.{token-missing, lead-stopped}
 use Rattle.tokens.specs.Inner.{sizedEvents, listedEvents}
-use Rattle.tokens.proofs.PlainTokens.{kind-named, data-shown, data-headed, instruction-headed}
+use Rattle.tokens.proofs.PlainTokens.{HeadFirst, kind-named, data-shown, data-headed, first-headed}
 use Rattle.tokens.proofs.Cycle.{token-opened}
 
 -- ---- the number of a token
@@ -110,16 +111,31 @@ module _ {context : Context} {drops : Bool} {before : Before} {levels : ℕ} {by
             let named = kind-named byte known (token-opened false at opens refl refl .known) in
             listed-shown (opened-kind opens refl (leaf plain) kind named fielded (done named))
 
-        -- of an `Instruction` what is shown from its mnemonic on
+        -- and what is shown from its head on, where that is its first field
+        listed-first : (number : ℕ) (kind : Kind) → HeadFirst number → getD bytes at 0 ≡ number → kindOf number ≡ Known kind → bare kind ≡ false
+            → ((place : ℕ) → readOwn bytes place (firstClass BareToken (fields kind LocatedExpression)) (levels - 1) ≡ own-is.Record head
+            → PrintsKind answer after (Done state place) left context (leaf plain) kind LocatedExpression (own .map / 2) (levels - 1) bytes)
+            → Shown answer after (listedEvents context drops before (read levels bytes BareToken at .tree)) (outcome last room) (read levels bytes BareToken at .end)
+        listed-first number kind others byte known fielded shown =
+            listed-kind number kind byte known fielded (λ named.
+            let same = first-headed levels bytes at own (led .token) (led .found) (led .finds) number kind others byte named in
+            shown (own .end) (rw (← same) at (led .reads)))
+
+        -- that of an `Instruction` is its mnemonic
         pub listed-instruction : getD bytes at 0 ≡ 13
             → ((place : ℕ) → readOwn bytes place Mnemonic (levels - 1) ≡ own-is.Record head
             → PrintsKind answer after (Done state place) left context (leaf plain) variant.Instruction LocatedExpression (own .map / 2) (levels - 1) bytes)
             → Shown answer after (listedEvents context drops before (read levels bytes BareToken at .tree)) (outcome last room) (read levels bytes BareToken at .end)
         unfolding built kindNumber storedWith
-        listed-instruction number shown =
-            listed-kind 13 variant.Instruction number refl refl (λ kind.
-            let same = instruction-headed levels bytes at own (led .token) (led .found) (led .finds) number kind in
-            shown (own .end) (rw (← same) at (led .reads)))
+        listed-instruction number shown = listed-first 13 variant.Instruction (refl, refl, refl, refl) number refl refl shown
+
+        -- that of a `Label` is its id
+        pub listed-label : getD bytes at 0 ≡ 14
+            → ((place : ℕ) → readOwn bytes place Word (levels - 1) ≡ own-is.Record head
+            → PrintsKind answer after (Done state place) left context (leaf plain) variant.Label LocatedExpression (own .map / 2) (levels - 1) bytes)
+            → Shown answer after (listedEvents context drops before (read levels bytes BareToken at .tree)) (outcome last room) (read levels bytes BareToken at .end)
+        unfolding built kindNumber storedWith
+        listed-label number shown = listed-first 14 variant.Label (refl, refl, refl, refl) number refl refl shown
 
         -- of a `Data` what is shown from its size on
         pub listed-data : getD bytes at 0 ≡ 5

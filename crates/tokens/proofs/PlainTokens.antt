@@ -2,7 +2,7 @@
 -- are printed behind their size.
 use mathlib.Core.Path.{_≡_, refl, sym, ap, _∙_}
 use mathlib.Core.List.{List, []}
-use mathlib.Core.Bool.{true, false}
+use mathlib.Core.Bool.{true, false, _||_}
 use Prim.Native.Nat.{ℕ, _-_}
 use native.Mathlib.Omega.{arith}
 use lib.Dec.{eqb}
@@ -12,10 +12,10 @@ use Rattle.text.proofs.Choices.{by-test, true-false}
 use Rattle.tree.specs.Tree.{built}
 use Rattle.tree.specs.Grammar.{kindOf, fields}
 use Rattle.tree.specs.Own.{readOwn}
-use Rattle.tree.specs.Parts.{skipped, secondField, fieldHead, headAt}
+use Rattle.tree.specs.Parts.{skipped, firstClass, secondField, fieldHead, headAt}
 use Rattle.tree.specs.Reading.{read}
 use Rattle.tree.specs.declared.grammar.Class.{Class}
-use Rattle.tree.specs.declared.grammar.Class.the-variants.{BareToken, LocatedExpression, ExpressionArguments, DataSize, Mnemonic}
+use Rattle.tree.specs.declared.grammar.Class.the-variants.{BareToken, LocatedExpression, ExpressionArguments, DataSize}
 use Rattle.tree.specs.declared.grammar.Kind.{Kind}
 use Rattle.tree.specs.declared.grammar.Kind.the-variants as variant
 use Rattle.tree.specs.declared.grammar.KindRead.the-variants.{Known}
@@ -114,6 +114,10 @@ second-behind levels class head (Next place) e =
     let same : record { place = place; class = class; levels = levels } ≡ head = cc in rw (← same) (refl, refl, refl)
 second-behind levels class head (NotSkipped why) e = let z : _≡_ {A = ℕ} 0 1 = cc in absurd (omega arith)
 
+-- a token of none of the numbers whose head lies elsewhere
+abbrev pub HeadFirst : ℕ → Type 0
+HeadFirst number = ((eqb number 2 || eqb number 3) ≡ false) × (eqb number 9 ≡ false) × (eqb number 5 ≡ false) × (eqb number 28 ≡ false)
+
 module _ (levels : ℕ) (bytes : List ℕ) (at : ℕ) (own : Own) (is : readOwn bytes at BareToken levels ≡ Record own) (head : Head)
     (found : headAt levels bytes BareToken at ≡ Found head)
   where
@@ -123,8 +127,11 @@ module _ (levels : ℕ) (bytes : List ℕ) (at : ℕ) (own : Own) (is : readOwn 
     unfolding headAt fieldHead
     data-headed five = second-behind (levels - 1) DataSize head _ (rw (is, five) at found)
 
-    -- that of an `Instruction` is its mnemonic
-    pub instruction-headed : getD bytes at 0 ≡ 13 → own .kind ≡ variant.Instruction → record { place = own .end; class = Mnemonic; levels = levels - 1 } ≡ head
+    -- that of another token is its first field
+    pub first-headed : (number : ℕ) (kind : Kind) → HeadFirst number → getD bytes at 0 ≡ number → own .kind ≡ kind
+        → record { place = own .end; class = firstClass BareToken (fields kind LocatedExpression); levels = levels - 1 } ≡ head
     unfolding headAt fieldHead
-    instruction-headed thirteen kind =
-        let same : Found (record { place = own .end; class = Mnemonic; levels = levels - 1 }) ≡ Found head = rw (is, thirteen, kind) at found in cc
+    first-headed number kind others is-number is-kind =
+        let same : Found (record { place = own .end; class = firstClass BareToken (fields kind LocatedExpression); levels = levels - 1 }) ≡ Found head =
+        rw (is, is-number, is-kind, others .0, others .1, others .2, others .3) at found in
+        cc

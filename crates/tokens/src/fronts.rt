@@ -8,13 +8,21 @@ use leaves::leaf;
 use leaves::record;
 use leaves::record::Opened;
 use leaves::texts::Style;
+use printing::CodeFormatter;
 use printing::Context;
 use printing::Printed;
 use tree::grammar::Class;
+use tree::own::Own;
+ghost use mathlib.Core.Path.{_≡_};
 ghost use mathlib.Core.Bool.{false};
+ghost use Prim.Native.Nat.{ℕ, _≤_};
+ghost use lib.ListN.{length};
 ghost use Rattle.tree.specs.declared.grammar.Class.the-variants as class;
+ghost use Rattle.tree.specs.declared.own.OwnRead.the-variants.{Record};
+ghost use Rattle.tree.specs.Own.{readOwn};
 ghost use Rattle.tree.specs.Reading.{read};
 ghost use Rattle.printing.specs.Running.{Prints};
+ghost use Rattle.printing.specs.declared.Printed.the-variants.{Done};
 ghost use Rattle.events.specs.Trees as Trees;
 ghost use Rattle.leaves.specs.Records.{PrintsRecord};
 ghost use Rattle.tokens.specs.Fronts.{behindName, namedEvents, PrintsFront};
@@ -112,7 +120,24 @@ fn import_front(
     filename.spc_if_next()
 }
 
-// A label with its colon, in one chunk; its trivia are printed by the list.
+// The id of a label, whose own bytes were read, with its colon, in one chunk.
+fn push_label(
+    tree: &[u8],
+    room: &mut [u8],
+    context: Context,
+    id: Own,
+    state: CodeFormatter,
+) -> Printed
+    requires { ⌜ (id .text ≤ id .end) × (id .end ≤ length (now tree)) ⌝ }
+    ensures { λ r. ⌜ ((levels at : ℕ) → readOwn (now (tree .entry)) at class.Word levels ≡ Record id → PrintsRecord r (now (room .exit)) (Done state at) (now (room .entry)) context Trees.labelled false levels (now (tree .entry)) class.Word) ⌝ }
+{
+    let start = id.text;
+    let end = id.end;
+    let pushed = state.push_type(room, context, ChunkType::Label, &tree[start..end], true);
+    pushed.finish(end)
+}
+
+// The id of a label with its colon, without its trivia.
 fn format_label(
     tree: &[u8],
     room: &mut [u8],
@@ -126,13 +151,10 @@ fn format_label(
     let Opened::Record(own, state) = opened else {
         return record::closed(opened);
     };
-    let start = own.text;
-    let end = own.end;
-    let next = state.push_type(room, context, ChunkType::Label, &tree[start..end], true);
-    next.finish(end)
+    push_label(tree, room, context, own, state)
 }
 
-// The colon is skipped: it has been printed.
+// The colon is skipped: it has been printed. In a list the lead-in has read the id, and this is not called.
 fn label_front(
     tree: &[u8],
     room: &mut [u8],
@@ -144,6 +166,22 @@ fn label_front(
 {
     let id = format_label(tree, room, context, levels, last);
     record::skip(tree, levels, Class::Colon, true, id)
+}
+
+// A `Label` of a list, whose lead-in has read the own bytes of its id, without its block.
+pub(crate) fn format_listed_label(
+    tree: &[u8],
+    room: &mut [u8],
+    context: Context,
+    levels: usize,
+    id: Own,
+    state: CodeFormatter,
+) -> Printed
+    requires { ⌜ (id .text ≤ id .end) × (id .end ≤ length (now tree)) ⌝ }
+    ensures { λ r. ⌜ ((at : ℕ) → readOwn (now (tree .entry)) at class.Word levels ≡ Record id → PrintsFront r (now (room .exit)) (Done state at) (now (room .entry)) context 14 levels (now (tree .entry))) ⌝ }
+{
+    let label = push_label(tree, room, context, id, state);
+    record::skip(tree, levels, Class::Colon, true, label)
 }
 
 // A tag and a name.

@@ -196,7 +196,7 @@ fn format_token(
 }
 
 // A token of a list, and what stands before it. What the lead-in has read is not read again: the token's own bytes, and those of its head where that is the
-// mnemonic of an `Instruction` (13) or the size of a `Data` (5).
+// mnemonic of an `Instruction` (13), the size of a `Data` (5) or the id of a `Label` (14). A label without a block ends with what stands before one.
 fn format_listed_token(
     tree: &[u8],
     room: &mut [u8],
@@ -217,22 +217,31 @@ fn format_listed_token(
         Lead::Over(answer) => answer,
         Lead::Ready(own, head, state) => {
             let number = leads::byte_at(tree, at);
+            let below = levels - 1;
+            let bits = own.map / 2;
             if number == 13 {
                 return plain::format_listed_instruction(
                     tree,
                     room,
                     context,
-                    levels - 1,
-                    own.map / 2,
+                    below,
+                    bits,
                     head,
                     state,
                 );
             }
             if number == 5 {
-                return plain::format_sized(tree, room, context, levels - 1, own.end, head, state);
+                return plain::format_sized(tree, room, context, below, own.end, head, state);
+            }
+            if number == 14 {
+                let front = fronts::format_listed_label(tree, room, context, below, head, state);
+                if !record::stands(bits, 2) {
+                    return front;
+                }
+                return format_block(tree, room, context, below, true, front);
             }
             let start = Printed::Done(state, own.end);
-            format_inner(tree, room, context, levels - 1, number, own.map / 2, start)
+            format_inner(tree, room, context, below, number, bits, start)
         }
     }
 }

@@ -25,9 +25,9 @@ use Rattle.leaves.specs.Records.{fieldTrees, fieldsEnd}
 use Rattle.leaves.proofs.Classes.{close-brace-leaf}
 use Rattle.leaves.proofs.Fielded.{opened-levels, opened-one, opened-kind, shown-closed}
 use Rattle.tokens.specs.Tokens.{eachEvents}
-use Rattle.tokens.proofs.Cycle.{stays-refused, inside-shown, not-nothing, plain-number, one-branch, both-branches, token-rule, token-opened, tokens-shown}
+use Rattle.tokens.proofs.Cycle.{stays-refused, inside-shown, label-alone, label-block, not-nothing, plain-number, one-branch, both-branches, token-rule, token-opened, tokens-shown}
 use Rattle.tokens.proofs.Cycle.{only-in, not-in, restEvents, all-left, block-left, file-left, one-left, rest-from}
-use Rattle.tokens.proofs.Listed.{listed-number, listed-over, listed-opens, head-text, listed-shown, listed-instruction, listed-data}
+use Rattle.tokens.proofs.Listed.{listed-number, listed-over, listed-opens, head-text, listed-shown, listed-instruction, listed-label, listed-data}
 use Prim.Native.Nat.{ℕ, _<_, _+_, _*_, _-_}
 use borrow.Fn.Kinds.{In}
 use borrow.Fn.PlainCycle.{Measures, is, falls, and}
@@ -62,6 +62,7 @@ use Rattle.leaves.proofs.record.stands.Reads as stands-reads
 use Rattle.printing.proofs.Printed.push.Reads as push-reads
 use Rattle.printing.proofs.Printed.settled.Reads as settled-reads
 use Rattle.printing.proofs.Printed.trim_newlines.Reads as trim-newlines-reads
+use Rattle.tokens.proofs.fronts.format_listed_label.Reads as format-listed-label-reads
 use Rattle.tokens.proofs.fronts.format_token_front.Reads as format-token-front-reads
 use Rattle.tokens.proofs.plain.format_listed_instruction.Reads as format-listed-instruction-reads
 use Rattle.tokens.proofs.plain.format_plain_token.Reads as format-plain-token-reads
@@ -204,6 +205,12 @@ format-listed-token-claims t = (
   format-listed-instruction-reads.Learnt,
   format-sized-reads.Asked,
   format-sized-reads.Learnt,
+  format-listed-label-reads.Asked,
+  format-listed-label-reads.Learnt,
+  stands-reads.Asked,
+  stands-reads.Learnt,
+  format-block-below t,
+  format-block.Post,
   format-inner-below t,
   format-inner.Post,
 )
@@ -676,10 +683,9 @@ format-listed-token-enum-known-lead-2 t c = search needs
 format-listed-token-byte-at-requires : (t : ℕ) → format-listed-token-lts.Need-byte-at-requires (format-listed-token-claims t) (format-listed-token-at t) format-listed-token.Post
 format-listed-token-byte-at-requires t c κs = search needs
 
-format-listed-token-sub-format-listed-instruction : (t : ℕ)
-    → format-listed-token-lts.Need-sub-format-listed-instruction (format-listed-token-claims t) (format-listed-token-at t) format-listed-token.Post
-format-listed-token-sub-format-listed-instruction t c =
-    let at-ready = c .before .before .before .before in
+format-listed-token-sub-below : (t : ℕ) → format-listed-token-lts.Need-sub-below (format-listed-token-claims t) (format-listed-token-at t) format-listed-token.Post
+format-listed-token-sub-below t c =
+    let at-ready = c .before .before in
     let at-lead = at-ready .before .before .before .before in
     opened-levels (listed-opens (at-lead .format-lead-in .ensures) (at-ready .lead2 .given .1) _ refl) refl
 
@@ -696,8 +702,8 @@ format-listed-token-same-length t c = search needs
 format-listed-token-returns-2 : (t : ℕ) → format-listed-token-lts.Need-returns-2 (format-listed-token-claims t) (format-listed-token-at t) format-listed-token.Post
 format-listed-token-returns-2 t c =
     let at-printed = c .before .before in
-    let at-if1 = at-printed .before .before .before in
-    let at-byte = at-if1 .before in
+    let at-if1 = at-printed .before .before in
+    let at-byte = at-if1 .before .before in
     let at-ready = at-byte .before .before in
     let at-lead = at-ready .before .before .before .before in
     let at-last = at-lead .before .before .before in
@@ -705,15 +711,9 @@ format-listed-token-returns-2 t c =
     done-before (at-last .last .given .1)
     (listed-instruction (at-lead .format-lead-in .ensures) (at-ready .lead2 .given .1) _ refl number (at-printed .format-listed-instruction .ensures))
 
-format-listed-token-sub-format-sized : (t : ℕ) → format-listed-token-lts.Need-sub-format-sized (format-listed-token-claims t) (format-listed-token-at t) format-listed-token.Post
-format-listed-token-sub-format-sized t c =
-    let at-ready = c .before .before .before .before .before in
-    let at-lead = at-ready .before .before .before .before in
-    opened-levels (listed-opens (at-lead .format-lead-in .ensures) (at-ready .lead2 .given .1) _ refl) refl
-
 format-listed-token-format-sized-requires : (t : ℕ) → format-listed-token-lts.Need-format-sized-requires (format-listed-token-claims t) (format-listed-token-at t) format-listed-token.Post
 format-listed-token-format-sized-requires t c κs =
-    let at-ready = c .before .before .before .before .before in
+    let at-ready = c .before .before .before .before .before .before in
     let at-lead = at-ready .before .before .before .before in
     head-text (at-lead .format-lead-in .ensures) (at-ready .lead2 .given .1) _ refl
 
@@ -724,7 +724,7 @@ format-listed-token-returns-3 : (t : ℕ) → format-listed-token-lts.Need-retur
 format-listed-token-returns-3 t c =
     let at-printed = c .before .before in
     let at-if2 = at-printed .before .before in
-    let at-byte = at-if2 .before .before in
+    let at-byte = at-if2 .before .before .before in
     let at-ready = at-byte .before .before in
     let at-lead = at-ready .before .before .before .before in
     let at-last = at-lead .before .before .before in
@@ -732,15 +732,69 @@ format-listed-token-returns-3 t c =
     done-before (at-last .last .given .1)
     (listed-data (at-lead .format-lead-in .ensures) (at-ready .lead2 .given .1) _ refl number (at-printed .format-sized .ensures))
 
-format-listed-token-sub-format-inner : (t : ℕ) → format-listed-token-lts.Need-sub-format-inner (format-listed-token-claims t) (format-listed-token-at t) format-listed-token.Post
-format-listed-token-sub-format-inner t c =
-    let at-ready = c .before .before .before .before .before in
+format-listed-token-format-listed-label-requires : (t : ℕ)
+    → format-listed-token-lts.Need-format-listed-label-requires (format-listed-token-claims t) (format-listed-token-at t) format-listed-token.Post
+format-listed-token-format-listed-label-requires t c κs =
+    let at-ready = c .before .before .before .before .before .before .before in
     let at-lead = at-ready .before .before .before .before in
-    opened-levels (listed-opens (at-lead .format-lead-in .ensures) (at-ready .lead2 .given .1) _ refl) refl
+    head-text (at-lead .format-lead-in .ensures) (at-ready .lead2 .given .1) _ refl
+
+format-listed-token-stands-requires : (t : ℕ) → format-listed-token-lts.Need-stands-requires (format-listed-token-claims t) (format-listed-token-at t) format-listed-token.Post
+format-listed-token-stands-requires t c κs = search needs
+
+format-listed-token-same-length-3 : (t : ℕ) → format-listed-token-lts.Need-same-length-3 (format-listed-token-claims t) (format-listed-token-at t) format-listed-token.Post
+format-listed-token-same-length-3 t c = search needs
+
+format-listed-token-returns-4 : (t : ℕ) → format-listed-token-lts.Need-returns-4 (format-listed-token-claims t) (format-listed-token-at t) format-listed-token.Post
+format-listed-token-returns-4 t c =
+    let at-stands = c .before in
+    let at-front = at-stands .before .before .before in
+    let at-if3 = at-front .before .before in
+    let at-byte = at-if3 .before .before .before .before in
+    let at-ready = at-byte .before .before in
+    let at-lead = at-ready .before .before .before .before in
+    let at-last = at-lead .before .before .before in
+    let number = sym (at-byte .byte-at .ensures) ∙ at-if3 .if3 .taken in
+    let none = sym (at-stands .stands .ensures) ∙ not-true _ (c .if4 .taken) in
+    done-before (at-last .last .given .1)
+    (listed-label (at-lead .format-lead-in .ensures) (at-ready .lead2 .given .1) _ refl number (λ place read. label-alone _ _ _ _ (at-front .format-listed-label .ensures place read) none))
+
+format-listed-token-format-block-requires : (t : ℕ) → format-listed-token-lts.Need-format-block-requires (format-listed-token-claims t) (format-listed-token-at t) format-listed-token.Post
+format-listed-token-format-block-requires t c κs =
+    let at-front = c .before .before .before .before .before in
+    let at-ready = at-front .before .before .before .before .before .before .before .before in
+    let at-lead = at-ready .before .before .before .before in
+    let at-last = at-lead .before .before .before in
+    let start = at-last .before .before .before .before in
+    let opens = listed-opens (at-lead .format-lead-in .ensures) (at-ready .lead2 .given .1) _ refl in
+    let levels-left = opened-levels opens refl in
+    let measured = start .pre .0 in
+    let narrow = start .pre .1 in
+    (omega (arith, levels-left, measured), (narrow .0, omega (arith, narrow .1)))
+
+format-listed-token-same-length-4 : (t : ℕ) → format-listed-token-lts.Need-same-length-4 (format-listed-token-claims t) (format-listed-token-at t) format-listed-token.Post
+format-listed-token-same-length-4 t c = search needs
+
+format-listed-token-returns-5 : (t : ℕ) → format-listed-token-lts.Need-returns-5 (format-listed-token-claims t) (format-listed-token-at t) format-listed-token.Post
+format-listed-token-returns-5 t c =
+    let at-block = c .before .before in
+    let at-if4 = at-block .before .before in
+    let at-stands = at-if4 .before in
+    let at-front = at-stands .before .before .before in
+    let at-if3 = at-front .before .before in
+    let at-byte = at-if3 .before .before .before .before in
+    let at-ready = at-byte .before .before in
+    let at-lead = at-ready .before .before .before .before in
+    let at-last = at-lead .before .before .before in
+    let number = sym (at-byte .byte-at .ensures) ∙ at-if3 .if3 .taken in
+    let one = sym (at-stands .stands .ensures) ∙ not-false _ (at-if4 .if4 .left) in
+    done-before (at-last .last .given .1)
+    (listed-label (at-lead .format-lead-in .ensures) (at-ready .lead2 .given .1) _ refl number (λ place read.
+    label-block _ _ _ _ (at-front .format-listed-label .ensures place read) one (at-block .format-block .ensures)))
 
 format-listed-token-format-inner-requires : (t : ℕ) → format-listed-token-lts.Need-format-inner-requires (format-listed-token-claims t) (format-listed-token-at t) format-listed-token.Post
 format-listed-token-format-inner-requires t c κs =
-    let at-byte = c .before .before .before .before in
+    let at-byte = c .before .before .before .before .before in
     let at-ready = at-byte .before .before in
     let at-lead = at-ready .before .before .before .before in
     let at-last = at-lead .before .before .before in
@@ -752,23 +806,23 @@ format-listed-token-format-inner-requires t c κs =
     let narrow = start .pre .1 in
     (omega (arith, levels-left, measured), ((narrow .0, omega (arith, narrow .1)), rw (at-byte .byte-at .ensures) (token .ends)))
 
-format-listed-token-same-length-3 : (t : ℕ) → format-listed-token-lts.Need-same-length-3 (format-listed-token-claims t) (format-listed-token-at t) format-listed-token.Post
-format-listed-token-same-length-3 t c = search needs
+format-listed-token-same-length-5 : (t : ℕ) → format-listed-token-lts.Need-same-length-5 (format-listed-token-claims t) (format-listed-token-at t) format-listed-token.Post
+format-listed-token-same-length-5 t c = search needs
 
-format-listed-token-returns-4 : (t : ℕ) → format-listed-token-lts.Need-returns-4 (format-listed-token-claims t) (format-listed-token-at t) format-listed-token.Post
-format-listed-token-returns-4 t c =
+format-listed-token-returns-6 : (t : ℕ) → format-listed-token-lts.Need-returns-6 (format-listed-token-claims t) (format-listed-token-at t) format-listed-token.Post
+format-listed-token-returns-6 t c =
     let at-over = c .before in
     let at-lead = at-over .before .before .before .before in
     let at-last = at-lead .before .before .before in
     done-before (at-last .last .given .1) (listed-over (at-lead .format-lead-in .ensures) (at-over .lead .given .1) .from _ refl)
 
-format-listed-token-same-length-4 : (t : ℕ) → format-listed-token-lts.Need-same-length-4 (format-listed-token-claims t) (format-listed-token-at t) format-listed-token.Post
-format-listed-token-same-length-4 t c = search needs
+format-listed-token-same-length-6 : (t : ℕ) → format-listed-token-lts.Need-same-length-6 (format-listed-token-claims t) (format-listed-token-at t) format-listed-token.Post
+format-listed-token-same-length-6 t c = search needs
 
-format-listed-token-returns-5 : (t : ℕ) → format-listed-token-lts.Need-returns-5 (format-listed-token-claims t) (format-listed-token-at t) format-listed-token.Post
-format-listed-token-returns-5 t c =
+format-listed-token-returns-7 : (t : ℕ) → format-listed-token-lts.Need-returns-7 (format-listed-token-claims t) (format-listed-token-at t) format-listed-token.Post
+format-listed-token-returns-7 t c =
     let at-format-inner = c .before .before in
-    let at-byte = at-format-inner .before .before .before .before .before in
+    let at-byte = at-format-inner .before .before .before .before .before .before in
     let at-ready = at-byte .before .before in
     let at-lead = at-ready .before .before .before .before in
     let at-last = at-lead .before .before .before in
@@ -1005,20 +1059,25 @@ pub +format-block+format-branches+format-each-token+format-inner+format-listed-t
     (format-listed-token-enum-known-lead t)
     (format-listed-token-enum-known-lead-2 t)
     (format-listed-token-byte-at-requires t)
-    (format-listed-token-sub-format-listed-instruction t)
+    (format-listed-token-sub-below t)
     (format-listed-token-format-listed-instruction-requires t)
     (format-listed-token-same-length t)
     (format-listed-token-returns-2 t)
-    (format-listed-token-sub-format-sized t)
     (format-listed-token-format-sized-requires t)
     (format-listed-token-same-length-2 t)
     (format-listed-token-returns-3 t)
-    (format-listed-token-sub-format-inner t)
-    (format-listed-token-format-inner-requires t)
+    (format-listed-token-format-listed-label-requires t)
+    (format-listed-token-stands-requires t)
     (format-listed-token-same-length-3 t)
     (format-listed-token-returns-4 t)
+    (format-listed-token-format-block-requires t)
     (format-listed-token-same-length-4 t)
-    (format-listed-token-returns-5 t))
+    (format-listed-token-returns-5 t)
+    (format-listed-token-format-inner-requires t)
+    (format-listed-token-same-length-5 t)
+    (format-listed-token-returns-6 t)
+    (format-listed-token-same-length-6 t)
+    (format-listed-token-returns-7 t))
     (λ t. format-token-lts.spec (format-token-claims t)
     (format-token-at t)
     format-token.Post
