@@ -16,7 +16,7 @@ use Rattle.chunks.specs.Appending.{withSpace, capacity}
 use Rattle.chunks.specs.declared.stored.ChunkType.{ChunkType}
 use Rattle.chunks.proofs.Storing.{append-no-room, append-stored}
 use Rattle.printing.specs.Events.{Events, nothing, push, space, clear, trim, stop, _▹_}
-use Rattle.printing.specs.Running.{Run, going, ended, run, settled, atStart, chunkWith, grown, filled, trimmed, noRoom}
+use Rattle.printing.specs.Running.{isSpaced, Run, going, ended, run, settled, atStart, chunkWith, grown, filled, trimmed, noRoom}
 use Rattle.printing.specs.Holding.{Held, held, refused, heldLength, withoutNewlines, hold, Storable, Holds, Same}
 use Rattle.printing.specs.declared.Context.{Context}
 use Rattle.printing.specs.declared.CodeFormatter.{CodeFormatter}
@@ -143,7 +143,7 @@ module _ {room : List ℕ} {state : CodeFormatter} {chunks : List Chunk} {pendin
       (λ some.
       let chunk = chunkWith state ty context text in
       let end = state .used + length (storedChunk chunk) in
-      let good : WellFormed chunk = push-stored (state .«spc_if_next») ty (context .indent) text low short some in
+      let good : WellFormed chunk = push-stored (isSpaced state) ty (context .indent) text low short some in
       by-test (ltb (capacity (length room)) end)
       (λ full.
       let over = ltb-true _ _ full in

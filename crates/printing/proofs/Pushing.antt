@@ -11,7 +11,7 @@ use Rattle.text.specs.Lines.{isEmpty, isNewline}
 use Rattle.chunks.specs.Appending.{withSpace, withColon, appended, roomAfter}
 use Rattle.chunks.specs.declared.append.Appended.{Appended}
 use Rattle.chunks.specs.declared.stored.ChunkType.{ChunkType}
-use Rattle.printing.specs.Running.{chunkWith, behind, pushed, pushedRoom}
+use Rattle.printing.specs.Running.{isSpaced, chunkWith, behind, pushed, pushedRoom}
 use Rattle.printing.specs.declared.Context.{Context}
 use Rattle.printing.specs.declared.CodeFormatter.{CodeFormatter}
 
@@ -73,7 +73,7 @@ module _ (room : List ℕ) (state : CodeFormatter) (ty : ChunkType) (context : C
 
   -- elsewhere a chunk is appended
   pub is-pushed : {newline : Bool} {answer : Appended} {next : CodeFormatter} {after : List ℕ}
-      → state .full ≡ 0 → isEmpty text ≡ false → newline ≡ isNewline (withSpace (state .«spc_if_next») text)
+      → state .full ≡ 0 → isEmpty text ≡ false → newline ≡ isNewline (withSpace (isSpaced state) text)
       → answer ≡ appended (length room) (state .used) (chunkWith state ty context text) → after ≡ roomAfter room (state .used) (chunkWith state ty context text)
       → next ≡ behind state newline answer → Pushed room state ty context text next after
   unfolding pushed pushedRoom

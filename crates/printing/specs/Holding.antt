@@ -12,7 +12,7 @@ use Rattle.text.specs.Lines.{isEmpty, isNewline}
 use Rattle.chunks.specs.Stored.{Chunk, storedChunk, storedList}
 use Rattle.chunks.specs.Appending.{withSpace, capacity}
 use Rattle.printing.specs.Events.{Events, nothing, push, space, clear, trim, stop, _▹_}
-use Rattle.printing.specs.Running.{Run, going, ended}
+use Rattle.printing.specs.Running.{isSpaced, Run, going, ended}
 use Rattle.printing.specs.declared.CodeFormatter.{CodeFormatter}
 
 pub data Held : Type 0 where
@@ -71,7 +71,7 @@ pub record Holds (room : List ℕ) (state : CodeFormatter) (chunks : List Chunk)
   pub fits : state .used ≤ capacity (length room)
   pub stored : take (state .used) room ≡ storedList (reverse chunks)
   pub solid : state .solid ≡ heldLength (withoutNewlines chunks)
-  pub flag : state .«spc_if_next» ≡ pending
+  pub flag : isSpaced state ≡ pending
   pub full : state .full ≡ 0
 
 -- a run in a room of so many bytes agrees with what is held: it goes on and holds the chunks, or has ended for the same refusal

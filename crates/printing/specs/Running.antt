@@ -21,15 +21,19 @@ use Rattle.printing.specs.declared.Printed.the-variants.{Done, Refused}
 
 -- the state that every walk starts with
 abbrev pub atStart : CodeFormatter
-atStart = record { used = 0; solid = 0; «spc_if_next» = false; full = 0 }
+atStart = record { used = 0; solid = 0; «spc_if_next» = 0; full = 0 }
+
+-- whether a space goes before the next text
+abbrev pub isSpaced : CodeFormatter → Bool
+isSpaced state = not (eqb (state .«spc_if_next») 0)
 
 -- ---- what each event does to a state that is not full
 
 abbrev pub spaced : CodeFormatter → CodeFormatter
-spaced state = record { used = state .used; solid = state .solid; «spc_if_next» = true; full = state .full }
+spaced state = record { used = state .used; solid = state .solid; «spc_if_next» = 1; full = state .full }
 
 abbrev pub cleared : CodeFormatter → CodeFormatter
-cleared state = record { used = state .used; solid = state .solid; «spc_if_next» = false; full = state .full }
+cleared state = record { used = state .used; solid = state .solid; «spc_if_next» = 0; full = state .full }
 
 -- the newline chunks at the end are dropped: what is used ends where the last other chunk does
 abbrev pub trimmed : CodeFormatter → CodeFormatter
@@ -37,11 +41,11 @@ trimmed state = record { used = state .solid; solid = state .solid; «spc_if_nex
 
 -- the chunk that a push makes
 abbrev pub chunkWith : CodeFormatter → ChunkType → Context → List ℕ → Chunk
-chunkWith state ty context text = record { ty = ty; indent = context .indent; text = withSpace (state .«spc_if_next») text }
+chunkWith state ty context text = record { ty = ty; indent = context .indent; text = withSpace (isSpaced state) text }
 
 -- the state behind a chunk that ends at `end`; a newline chunk leaves the solid end where it was
 abbrev pub grown : CodeFormatter → ℕ → Bool → CodeFormatter
-grown state end newline = record { used = end; solid = cond newline (state .solid) end; «spc_if_next» = false; full = 0 }
+grown state end newline = record { used = end; solid = cond newline (state .solid) end; «spc_if_next» = 0; full = 0 }
 
 -- a state that is full: a push does nothing to it any more
 abbrev pub filled : CodeFormatter → ℕ → CodeFormatter
@@ -61,7 +65,7 @@ noPush state text = not (eqb (state .full) 0) || isEmpty text
 unfoldable pub pushed : ℕ → CodeFormatter → ChunkType → Context → List ℕ → CodeFormatter
 pushed room state ty context text =
     cond (noPush state text) state
-    (behind state (isNewline (withSpace (state .«spc_if_next») text)) (appended room (state .used) (chunkWith state ty context text)))
+    (behind state (isNewline (withSpace (isSpaced state) text)) (appended room (state .used) (chunkWith state ty context text)))
 
 unfoldable pub pushedRoom : List ℕ → CodeFormatter → ChunkType → Context → List ℕ → List ℕ
 pushedRoom room state ty context text = cond (noPush state text) room (roomAfter room (state .used) (chunkWith state ty context text))

@@ -12,7 +12,7 @@ ghost use lib.ListN.{length};
 ghost use Rattle.text.specs.Lines.{isEmpty, isNewline};
 ghost use Rattle.chunks.specs.Appending.{withSpace, withColon};
 ghost use Rattle.printing.specs.Events as Events;
-ghost use Rattle.printing.specs.Running.{atStart, spaced, cleared, trimmed, grown, filled, behind, pushed, pushedRoom, finished, Prints};
+ghost use Rattle.printing.specs.Running.{atStart, isSpaced, spaced, cleared, trimmed, grown, filled, behind, pushed, pushedRoom, finished, Prints};
 
 // What stays the same down a subtree.
 pub struct Context {
@@ -21,11 +21,12 @@ pub struct Context {
 }
 
 // What changes while the walk goes on: the used length of the work room, the end of the last chunk that is not exactly a newline, whether a
-// space goes before the next text, and the length that did not fit (0 while all did).
+// space goes before the next text (1, else 0: a whole word, since a state with a byte in it takes longer to hand on), and the length that did
+// not fit (0 while all did).
 pub struct CodeFormatter {
     pub used: usize,
     pub solid: usize,
-    pub spc_if_next: bool,
+    pub spc_if_next: usize,
     pub full: usize,
 }
 
@@ -43,7 +44,7 @@ impl CodeFormatter {
         CodeFormatter {
             used: 0,
             solid: 0,
-            spc_if_next: false,
+            spc_if_next: 0,
             full: 0,
         }
     }
@@ -52,7 +53,7 @@ impl CodeFormatter {
     pub fn spc_if_next(mut self) -> Self
         ensures { λ r. ⌜ r ≡ spaced self ⌝ }
     {
-        self.spc_if_next = true;
+        self.spc_if_next = 1;
         self
     }
 
@@ -60,7 +61,7 @@ impl CodeFormatter {
     pub fn clear_spc_if_next(mut self) -> Self
         ensures { λ r. ⌜ r ≡ cleared self ⌝ }
     {
-        self.spc_if_next = false;
+        self.spc_if_next = 0;
         self
     }
 
@@ -70,6 +71,13 @@ impl CodeFormatter {
     {
         self.used = self.solid;
         self
+    }
+
+    // Whether a space goes before the next text.
+    fn is_spaced(self) -> bool
+        ensures { λ r. ⌜ r ≡ isSpaced self ⌝ }
+    {
+        self.spc_if_next != 0
     }
 
     // Pushes a text as a chunk; a pending space goes in front, and where it is asked for a colon behind.
@@ -90,7 +98,7 @@ impl CodeFormatter {
         if no_text(text, colon) {
             return self;
         }
-        let pending = self.spc_if_next;
+        let pending = self.is_spaced();
         let newline = lone_newline(pending, text, colon);
         let appended = append::append_chunk(
             room,
@@ -122,7 +130,7 @@ impl CodeFormatter {
     {
         let mut next = self;
         next.used = end;
-        next.spc_if_next = false;
+        next.spc_if_next = 0;
         next.full = 0;
         if newline {
             return next;

@@ -15,6 +15,9 @@ no-text-requires c κs = search needs
 returns-2 : tie.Need-returns-2
 returns-2 c = empty-not-pushed _ _ _ _ _ (c .before .before .if1 .left) (sym (c .before .no-text .ensures) ∙ c .if2 .taken)
 
+is-spaced-requires : tie.Need-is-spaced-requires
+is-spaced-requires c κs = search needs
+
 lone-newline-requires : tie.Need-lone-newline-requires
 lone-newline-requires c κs = search needs
 
@@ -31,10 +34,13 @@ returns-3 : tie.Need-returns-3
 returns-3 c =
     let stored = c .before .before .before in
     let newline = stored .before .before in
-    let tested = newline .before in
+    let spaced = newline .before in
+    let tested = spaced .before in
     let args = tested .before .before .before .before .before .before .args in
+    let lone = rw (spaced .is-spaced .ensures) at (newline .lone-newline .ensures) in
+    let answered = rw (spaced .is-spaced .ensures) at (stored .append-chunk .ensures) in
     is-pushed _ _ _ _ (withColon (args .colon) (args .text .now)) (tested .before .before .if1 .left) (sym (tested .before .no-text .ensures) ∙ tested .if2 .left)
-    (newline .lone-newline .ensures) (stored .append-chunk .ensures .0) (stored .append-chunk .ensures .1) (c .behind .ensures)
+    lone (answered .0) (answered .1) (c .behind .ensures)
 
 pub push-type-spec : {M : Type 1} → statement M
 push-type-spec =
@@ -43,6 +49,7 @@ push-type-spec =
     returns
     no-text-requires
     returns-2
+    is-spaced-requires
     lone-newline-requires
     append-chunk-requires
     behind-requires
