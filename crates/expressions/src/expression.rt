@@ -71,8 +71,21 @@ pub fn format_expression(
 ) -> Printed
     ensures { λ r. ⌜ PrintsRecord r (now (room .exit)) last (now (room .entry)) context (Trees.leaf plain) true levels (now (tree .entry)) (expressionClass located) ⌝ }
 {
+    // Taken apart first: handed on whole, an answer is copied with what is left free in it, and what follows waits for that.
+    let Printed::Done(before, place) = last else {
+        return last;
+    };
     let class = expression_class(located);
-    let opened = record::open(tree, room, context, levels, class, true, true, last);
+    let opened = record::open(
+        tree,
+        room,
+        context,
+        levels,
+        class,
+        true,
+        true,
+        Printed::Done(before, place),
+    );
     let Opened::Record(own, state) = opened else {
         return record::closed(opened);
     };
@@ -190,6 +203,9 @@ fn format_expression_factor(
 ) -> Printed
     ensures { λ r. ⌜ PrintsRecord r (now (room .exit)) last (now (room .entry)) context (Trees.leaf plain) true levels (now (tree .entry)) class.LocatedFactor ⌝ }
 {
+    let Printed::Done(before, place) = last else {
+        return last;
+    };
     let opened = record::open(
         tree,
         room,
@@ -198,7 +214,7 @@ fn format_expression_factor(
         Class::LocatedFactor,
         true,
         true,
-        last,
+        Printed::Done(before, place),
     );
     let Opened::Record(own, state) = opened else {
         return record::closed(opened);
@@ -399,8 +415,20 @@ pub fn format_arguments(
 ) -> Printed
     ensures { λ r. ⌜ PrintsRecord r (now (room .exit)) last (now (room .entry)) context (listPlace of) true levels (now (tree .entry)) (listClass of) ⌝ }
 {
+    let Printed::Done(before, place) = last else {
+        return last;
+    };
     let class = list_class(of);
-    let opened = record::open(tree, room, context, levels, class, true, true, last);
+    let opened = record::open(
+        tree,
+        room,
+        context,
+        levels,
+        class,
+        true,
+        true,
+        Printed::Done(before, place),
+    );
     let Opened::Record(own, state) = opened else {
         return record::closed(opened);
     };
@@ -449,8 +477,20 @@ fn format_argument(
 ) -> Printed
     ensures { λ r. ⌜ PrintsRecord r (now (room .exit)) last (now (room .entry)) context (listPlace of) true levels (now (tree .entry)) (itemClass of) ⌝ }
 {
+    let Printed::Done(before, place) = last else {
+        return last;
+    };
     let class = item_class(of);
-    let opened = record::open(tree, room, context, levels, class, true, true, last);
+    let opened = record::open(
+        tree,
+        room,
+        context,
+        levels,
+        class,
+        true,
+        true,
+        Printed::Done(before, place),
+    );
     let Opened::Record(own, state) = opened else {
         return record::closed(opened);
     };

@@ -288,6 +288,15 @@ format-value-claims t = (
 
 -- ---- format_argument: the value, its comma and a space to come are the events of the record that was opened
 
+format-argument-enum-known-last : (t : ℕ) → format-argument-lts.Need-enum-known-last (format-argument-claims t) (format-argument-at t) format-argument.Post
+format-argument-enum-known-last t c = search needs
+
+format-argument-enum-told : (t : ℕ) → format-argument-lts.Need-enum-told (format-argument-claims t) (format-argument-at t) format-argument.Post
+format-argument-enum-told t c = search needs
+
+format-argument-returns : (t : ℕ) → format-argument-lts.Need-returns (format-argument-claims t) (format-argument-at t) format-argument.Post
+format-argument-returns t c = refused-before (c .enum-told .given .1)
+
 format-argument-item-class-requires : (t : ℕ) → format-argument-lts.Need-item-class-requires (format-argument-claims t) (format-argument-at t) format-argument.Post
 format-argument-item-class-requires t c κs = search needs
 
@@ -297,8 +306,8 @@ format-argument-open-requires t c κs = search needs
 format-argument-enum-known-opened : (t : ℕ) → format-argument-lts.Need-enum-known-opened (format-argument-claims t) (format-argument-at t) format-argument.Post
 format-argument-enum-known-opened t c = search needs
 
-format-argument-enum-told : (t : ℕ) → format-argument-lts.Need-enum-told (format-argument-claims t) (format-argument-at t) format-argument.Post
-format-argument-enum-told t c = search needs
+format-argument-enum-told-2 : (t : ℕ) → format-argument-lts.Need-enum-told-2 (format-argument-claims t) (format-argument-at t) format-argument.Post
+format-argument-enum-told-2 t c = search needs
 
 format-argument-closed-requires : (t : ℕ) → format-argument-lts.Need-closed-requires (format-argument-claims t) (format-argument-at t) format-argument.Post
 format-argument-closed-requires t c κs = search needs
@@ -306,13 +315,15 @@ format-argument-closed-requires t c κs = search needs
 format-argument-same-length : (t : ℕ) → format-argument-lts.Need-same-length (format-argument-claims t) (format-argument-at t) format-argument.Post
 format-argument-same-length t c = search needs
 
-format-argument-returns : (t : ℕ) → format-argument-lts.Need-returns (format-argument-claims t) (format-argument-at t) format-argument.Post
-format-argument-returns t c =
+format-argument-returns-2 : (t : ℕ) → format-argument-lts.Need-returns-2 (format-argument-claims t) (format-argument-at t) format-argument.Post
+format-argument-returns-2 t c =
     let at-enum-told = c .before in
     let at-open = at-enum-told .before .before .before .before in
     let at-item-class = at-open .before .before in
-    let of = at-item-class .before .before .before .args .of in
-    rw (← (at-item-class .item-class .ensures)) (shown-closed (at-open .«open» .ensures) (listPlace of) (at-enum-told .enum-told .given .1) (c .closed .ensures))
+    let of = at-item-class .before .before .before .before .before .before .args .of in
+    let done = at-item-class .before .before .last .given .1 in
+    rw done
+    (rw (← (at-item-class .item-class .ensures)) (shown-closed (at-open .«open» .ensures) (listPlace of) (at-enum-told .enum-told2 .given .1) (c .closed .ensures)))
 
 format-argument-sub-inner : (t : ℕ) → format-argument-lts.Need-sub-inner (format-argument-claims t) (format-argument-at t) format-argument.Post
 format-argument-sub-inner t c =
@@ -328,7 +339,7 @@ format-argument-format-value-requires t c κs =
     let at-opened = c .before .before .before .before in
     let at-open = at-opened .before .before .before .before in
     let levels-left = opened-levels (at-open .«open» .ensures) (at-opened .opened .given .1) in
-    let measured = at-open .before .before .before .before .before .pre .0 in
+    let measured = at-open .before .before .before .before .before .before .before .before .pre .0 in
     (omega (arith, levels-left, measured), tt)
 
 format-argument-format-optional-leaf-requires : (t : ℕ)
@@ -341,19 +352,21 @@ format-argument-spc-if-next-requires t c κs = search needs
 format-argument-same-length-2 : (t : ℕ) → format-argument-lts.Need-same-length-2 (format-argument-claims t) (format-argument-at t) format-argument.Post
 format-argument-same-length-2 t c = search needs
 
-format-argument-returns-2 : (t : ℕ) → format-argument-lts.Need-returns-2 (format-argument-claims t) (format-argument-at t) format-argument.Post
+format-argument-returns-3 : (t : ℕ) → format-argument-lts.Need-returns-3 (format-argument-claims t) (format-argument-at t) format-argument.Post
 unfolding built fieldTrees fieldsEnd eventsIn bitAt kindNumber storedWith
-format-argument-returns-2 t c =
+format-argument-returns-3 t c =
     let at-format-optional-leaf = c .before .before .before in
     let at-format-value = at-format-optional-leaf .before .before .before .before in
     let at-stands = at-format-value .before .before in
     let at-opened = at-stands .before .before .before in
     let at-open = at-opened .before .before .before .before in
     let at-item-class = at-open .before .before in
-    let of = at-item-class .before .before .before .args .of in
+    let of = at-item-class .before .before .before .before .before .before .args .of in
     let opens = rw (at-item-class .item-class .ensures) at (at-open .«open» .ensures) in
     let is = at-opened .opened .given .1 in
-    opened-kind opens is (listPlace of) variant.ArgItem
+    let done = at-item-class .before .before .last .given .1 in
+    rw done
+    (opened-kind opens is (listPlace of) variant.ArgItem
     (opened-one opens is 42 variant.ArgItem (item-rule of .0) (item-rule of .1) (item-rule of .2) refl) refl
     (rw (item-rule of .3) (record {
       from = λ at here.
@@ -361,9 +374,18 @@ format-argument-returns-2 t c =
           let comma = at-format-optional-leaf .format-optional-leaf .ensures .1 char-leaf .from _ (value .next) in
           let gap = c .spc-if-next .ensures _ .from _ (comma .next) in
           rw (← (at-stands .stands .ensures)) (value thence comma thence gap);
-    }))
+    })))
 
 -- ---- format_arguments: a list is its items and a star its fields; what is no star is a list, as nothing else may stand there
+
+format-arguments-enum-known-last : (t : ℕ) → format-arguments-lts.Need-enum-known-last (format-arguments-claims t) (format-arguments-at t) format-arguments.Post
+format-arguments-enum-known-last t c = search needs
+
+format-arguments-enum-told : (t : ℕ) → format-arguments-lts.Need-enum-told (format-arguments-claims t) (format-arguments-at t) format-arguments.Post
+format-arguments-enum-told t c = search needs
+
+format-arguments-returns : (t : ℕ) → format-arguments-lts.Need-returns (format-arguments-claims t) (format-arguments-at t) format-arguments.Post
+format-arguments-returns t c = refused-before (c .enum-told .given .1)
 
 format-arguments-list-class-requires : (t : ℕ) → format-arguments-lts.Need-list-class-requires (format-arguments-claims t) (format-arguments-at t) format-arguments.Post
 format-arguments-list-class-requires t c κs = search needs
@@ -374,8 +396,8 @@ format-arguments-open-requires t c κs = search needs
 format-arguments-enum-known-opened : (t : ℕ) → format-arguments-lts.Need-enum-known-opened (format-arguments-claims t) (format-arguments-at t) format-arguments.Post
 format-arguments-enum-known-opened t c = search needs
 
-format-arguments-enum-told : (t : ℕ) → format-arguments-lts.Need-enum-told (format-arguments-claims t) (format-arguments-at t) format-arguments.Post
-format-arguments-enum-told t c = search needs
+format-arguments-enum-told-2 : (t : ℕ) → format-arguments-lts.Need-enum-told-2 (format-arguments-claims t) (format-arguments-at t) format-arguments.Post
+format-arguments-enum-told-2 t c = search needs
 
 format-arguments-closed-requires : (t : ℕ) → format-arguments-lts.Need-closed-requires (format-arguments-claims t) (format-arguments-at t) format-arguments.Post
 format-arguments-closed-requires t c κs = search needs
@@ -383,16 +405,18 @@ format-arguments-closed-requires t c κs = search needs
 format-arguments-same-length : (t : ℕ) → format-arguments-lts.Need-same-length (format-arguments-claims t) (format-arguments-at t) format-arguments.Post
 format-arguments-same-length t c = search needs
 
-format-arguments-returns : (t : ℕ) → format-arguments-lts.Need-returns (format-arguments-claims t) (format-arguments-at t) format-arguments.Post
-format-arguments-returns t c =
+format-arguments-returns-2 : (t : ℕ) → format-arguments-lts.Need-returns-2 (format-arguments-claims t) (format-arguments-at t) format-arguments.Post
+format-arguments-returns-2 t c =
     let at-enum-told = c .before in
     let at-open = at-enum-told .before .before .before .before in
     let at-list-class = at-open .before .before in
-    let of = at-list-class .before .before .before .args .of in
-    rw (← (at-list-class .list-class .ensures)) (shown-closed (at-open .«open» .ensures) (listPlace of) (at-enum-told .enum-told .given .1) (c .closed .ensures))
+    let of = at-list-class .before .before .before .before .before .before .args .of in
+    let done = at-list-class .before .before .last .given .1 in
+    rw done
+    (rw (← (at-list-class .list-class .ensures)) (shown-closed (at-open .«open» .ensures) (listPlace of) (at-enum-told .enum-told2 .given .1) (c .closed .ensures)))
 
-format-arguments-enum-told-2 : (t : ℕ) → format-arguments-lts.Need-enum-told-2 (format-arguments-claims t) (format-arguments-at t) format-arguments.Post
-format-arguments-enum-told-2 t c = search needs
+format-arguments-enum-told-3 : (t : ℕ) → format-arguments-lts.Need-enum-told-3 (format-arguments-claims t) (format-arguments-at t) format-arguments.Post
+format-arguments-enum-told-3 t c = search needs
 
 format-arguments-sub-format-import-all : (t : ℕ) → format-arguments-lts.Need-sub-format-import-all (format-arguments-claims t) (format-arguments-at t) format-arguments.Post
 format-arguments-sub-format-import-all t c =
@@ -416,40 +440,44 @@ format-arguments-format-each-argument-requires t c κs =
     let at-opened = c .before .before .before in
     let at-open = at-opened .before .before .before .before in
     let levels-left = opened-levels (at-open .«open» .ensures) (at-opened .opened .given .1) in
-    let measured = at-open .before .before .before .before .before .pre .0 in
+    let measured = at-open .before .before .before .before .before .before .before .before .pre .0 in
     (omega (arith, levels-left, measured), tt)
 
 format-arguments-same-length-2 : (t : ℕ) → format-arguments-lts.Need-same-length-2 (format-arguments-claims t) (format-arguments-at t) format-arguments.Post
 format-arguments-same-length-2 t c = search needs
 
-format-arguments-returns-2 : (t : ℕ) → format-arguments-lts.Need-returns-2 (format-arguments-claims t) (format-arguments-at t) format-arguments.Post
+format-arguments-returns-3 : (t : ℕ) → format-arguments-lts.Need-returns-3 (format-arguments-claims t) (format-arguments-at t) format-arguments.Post
 unfolding built fieldTrees fieldsEnd eventsIn bitAt kindNumber storedWith
-format-arguments-returns-2 t c =
+format-arguments-returns-3 t c =
     let at-format-import-all = c .before .before in
     let at-enum-told2 = at-format-import-all .before .before .before in
     let at-opened = at-enum-told2 .before .before .before in
     let at-open = at-opened .before .before .before .before in
     let at-list-class = at-open .before .before in
-    let of = at-list-class .before .before .before .args .of in
+    let of = at-list-class .before .before .before .before .before .before .args .of in
     let opens = rw (at-list-class .list-class .ensures) at (at-open .«open» .ensures) in
     let is = at-opened .opened .given .1 in
-    opened-kind opens is (listPlace of) variant.ImportAll (at-enum-told2 .enum-told2 .given .1) refl
-    (record { from = λ at here. at-format-import-all .format-import-all .ensures .from at here })
+    let done = at-list-class .before .before .last .given .1 in
+    rw done
+    (opened-kind opens is (listPlace of) variant.ImportAll (at-enum-told2 .enum-told3 .given .1) refl
+    (record { from = λ at here. at-format-import-all .format-import-all .ensures .from at here }))
 
 format-arguments-same-length-3 : (t : ℕ) → format-arguments-lts.Need-same-length-3 (format-arguments-claims t) (format-arguments-at t) format-arguments.Post
 format-arguments-same-length-3 t c = search needs
 
-format-arguments-returns-3 : (t : ℕ) → format-arguments-lts.Need-returns-3 (format-arguments-claims t) (format-arguments-at t) format-arguments.Post
-format-arguments-returns-3 t c =
+format-arguments-returns-4 : (t : ℕ) → format-arguments-lts.Need-returns-4 (format-arguments-claims t) (format-arguments-at t) format-arguments.Post
+format-arguments-returns-4 t c =
     let at-format-each-argument = c .before .before in
-    let at-match2 = at-format-each-argument .before .before in
-    let at-opened = at-match2 .before .before in
+    let at-match3 = at-format-each-argument .before .before in
+    let at-opened = at-match3 .before .before in
     let at-open = at-opened .before .before .before .before in
     let at-list-class = at-open .before .before in
-    let of = at-list-class .before .before .before .args .of in
+    let of = at-list-class .before .before .before .before .before .before .args .of in
     let opens = rw (at-list-class .list-class .ensures) at (at-open .«open» .ensures) in
     let is = at-opened .opened .given .1 in
-    opened-list opens is (listPlace of) (itemClass of) (list-is of opens is (at-match2 .match2 .keys2)) (list-items of) (at-format-each-argument .format-each-argument .ensures)
+    let done = at-list-class .before .before .last .given .1 in
+    rw done
+    (opened-list opens is (listPlace of) (itemClass of) (list-is of opens is (at-match3 .match3 .keys2)) (list-items of) (at-format-each-argument .format-each-argument .ensures))
 
 -- ---- format_binary_expression: the operator is skipped, and printed where it stands once the left side is; then the walk goes on behind the left side
 
@@ -719,6 +747,15 @@ format-each-argument-returns-2 t c =
 
 -- ---- format_expression: what is no binary expression is a factor, as nothing else may stand there
 
+format-expression-enum-known-last : (t : ℕ) → format-expression-lts.Need-enum-known-last (format-expression-claims t) (format-expression-at t) format-expression.Post
+format-expression-enum-known-last t c = search needs
+
+format-expression-enum-told : (t : ℕ) → format-expression-lts.Need-enum-told (format-expression-claims t) (format-expression-at t) format-expression.Post
+format-expression-enum-told t c = search needs
+
+format-expression-returns : (t : ℕ) → format-expression-lts.Need-returns (format-expression-claims t) (format-expression-at t) format-expression.Post
+format-expression-returns t c = refused-before (c .enum-told .given .1)
+
 format-expression-expression-class-requires : (t : ℕ)
     → format-expression-lts.Need-expression-class-requires (format-expression-claims t) (format-expression-at t) format-expression.Post
 format-expression-expression-class-requires t c κs = search needs
@@ -729,8 +766,8 @@ format-expression-open-requires t c κs = search needs
 format-expression-enum-known-opened : (t : ℕ) → format-expression-lts.Need-enum-known-opened (format-expression-claims t) (format-expression-at t) format-expression.Post
 format-expression-enum-known-opened t c = search needs
 
-format-expression-enum-told : (t : ℕ) → format-expression-lts.Need-enum-told (format-expression-claims t) (format-expression-at t) format-expression.Post
-format-expression-enum-told t c = search needs
+format-expression-enum-told-2 : (t : ℕ) → format-expression-lts.Need-enum-told-2 (format-expression-claims t) (format-expression-at t) format-expression.Post
+format-expression-enum-told-2 t c = search needs
 
 format-expression-closed-requires : (t : ℕ) → format-expression-lts.Need-closed-requires (format-expression-claims t) (format-expression-at t) format-expression.Post
 format-expression-closed-requires t c κs = search needs
@@ -738,15 +775,17 @@ format-expression-closed-requires t c κs = search needs
 format-expression-same-length : (t : ℕ) → format-expression-lts.Need-same-length (format-expression-claims t) (format-expression-at t) format-expression.Post
 format-expression-same-length t c = search needs
 
-format-expression-returns : (t : ℕ) → format-expression-lts.Need-returns (format-expression-claims t) (format-expression-at t) format-expression.Post
-format-expression-returns t c =
+format-expression-returns-2 : (t : ℕ) → format-expression-lts.Need-returns-2 (format-expression-claims t) (format-expression-at t) format-expression.Post
+format-expression-returns-2 t c =
     let at-enum-told = c .before in
     let at-open = at-enum-told .before .before .before .before in
     let at-expression-class = at-open .before .before in
-    rw (← (at-expression-class .expression-class .ensures)) (shown-closed (at-open .«open» .ensures) (leaf plain) (at-enum-told .enum-told .given .1) (c .closed .ensures))
+    let done = at-expression-class .before .before .last .given .1 in
+    rw done
+    (rw (← (at-expression-class .expression-class .ensures)) (shown-closed (at-open .«open» .ensures) (leaf plain) (at-enum-told .enum-told2 .given .1) (c .closed .ensures)))
 
-format-expression-enum-told-2 : (t : ℕ) → format-expression-lts.Need-enum-told-2 (format-expression-claims t) (format-expression-at t) format-expression.Post
-format-expression-enum-told-2 t c = search needs
+format-expression-enum-told-3 : (t : ℕ) → format-expression-lts.Need-enum-told-3 (format-expression-claims t) (format-expression-at t) format-expression.Post
+format-expression-enum-told-3 t c = search needs
 
 format-expression-sub-format-binary-expression : (t : ℕ)
     → format-expression-lts.Need-sub-format-binary-expression (format-expression-claims t) (format-expression-at t) format-expression.Post
@@ -761,7 +800,7 @@ format-expression-format-binary-expression-requires t c κs =
     let at-opened = c .before .before .before .before in
     let at-open = at-opened .before .before .before .before in
     let levels-left = opened-levels (at-open .«open» .ensures) (at-opened .opened .given .1) in
-    let measured = at-open .before .before .before .before .before .pre .0 in
+    let measured = at-open .before .before .before .before .before .before .before .before .pre .0 in
     (omega (arith, levels-left, measured), tt)
 
 format-expression-sub-format-factor : (t : ℕ) → format-expression-lts.Need-sub-format-factor (format-expression-claims t) (format-expression-at t) format-expression.Post
@@ -775,15 +814,15 @@ format-expression-format-factor-requires t c κs =
     let at-opened = c .before .before .before .before in
     let at-open = at-opened .before .before .before .before in
     let levels-left = opened-levels (at-open .«open» .ensures) (at-opened .opened .given .1) in
-    let measured = at-open .before .before .before .before .before .pre .0 in
+    let measured = at-open .before .before .before .before .before .before .before .before .pre .0 in
     (omega (arith, levels-left, measured), tt)
 
 format-expression-same-length-2 : (t : ℕ) → format-expression-lts.Need-same-length-2 (format-expression-claims t) (format-expression-at t) format-expression.Post
 format-expression-same-length-2 t c = search needs
 
-format-expression-returns-2 : (t : ℕ) → format-expression-lts.Need-returns-2 (format-expression-claims t) (format-expression-at t) format-expression.Post
+format-expression-returns-3 : (t : ℕ) → format-expression-lts.Need-returns-3 (format-expression-claims t) (format-expression-at t) format-expression.Post
 unfolding built fieldTrees fieldsEnd eventsIn bitAt kindNumber storedWith
-format-expression-returns-2 t c =
+format-expression-returns-3 t c =
     let at-format-binary-expression = c .before .before in
     let at-enum-told2 = at-format-binary-expression .before .before in
     let at-opened = at-enum-told2 .before .before .before in
@@ -791,26 +830,39 @@ format-expression-returns-2 t c =
     let at-expression-class = at-open .before .before in
     let opens = rw (at-expression-class .expression-class .ensures) at (at-open .«open» .ensures) in
     let is = at-opened .opened .given .1 in
-    opened-kind opens is (leaf plain) variant.BinaryExpression (at-enum-told2 .enum-told2 .given .1) refl
-    (record { from = λ at here. at-format-binary-expression .format-binary-expression .ensures .from at here })
+    let done = at-expression-class .before .before .last .given .1 in
+    rw done
+    (opened-kind opens is (leaf plain) variant.BinaryExpression (at-enum-told2 .enum-told3 .given .1) refl
+    (record { from = λ at here. at-format-binary-expression .format-binary-expression .ensures .from at here }))
 
 format-expression-same-length-3 : (t : ℕ) → format-expression-lts.Need-same-length-3 (format-expression-claims t) (format-expression-at t) format-expression.Post
 format-expression-same-length-3 t c = search needs
 
-format-expression-returns-3 : (t : ℕ) → format-expression-lts.Need-returns-3 (format-expression-claims t) (format-expression-at t) format-expression.Post
+format-expression-returns-4 : (t : ℕ) → format-expression-lts.Need-returns-4 (format-expression-claims t) (format-expression-at t) format-expression.Post
 unfolding kindNumber storedWith built
-format-expression-returns-3 t c =
+format-expression-returns-4 t c =
     let at-format-factor = c .before .before in
-    let at-match2 = at-format-factor .before .before .before in
-    let at-opened = at-match2 .before .before in
+    let at-match3 = at-format-factor .before .before .before in
+    let at-opened = at-match3 .before .before in
     let at-open = at-opened .before .before .before .before in
     let at-expression-class = at-open .before .before in
-    let located = at-expression-class .before .before .before .args .located in
+    let located = at-expression-class .before .before .before .before .before .before .args .located in
     let opens = rw (at-expression-class .expression-class .ensures) at (at-open .«open» .ensures) in
     let is = at-opened .opened .given .1 in
-    opened-kind opens is (leaf plain) variant.Factor (factor-is located opens is (at-match2 .match2 .keys2)) refl (at-format-factor .format-factor .ensures)
+    let done = at-expression-class .before .before .last .given .1 in
+    rw done
+    (opened-kind opens is (leaf plain) variant.Factor (factor-is located opens is (at-match3 .match3 .keys2)) refl (at-format-factor .format-factor .ensures))
 
 -- ---- format_expression_factor: each case has its printer; what has no arm is the program counter
+
+format-expression-factor-enum-known-last : (t : ℕ) → format-expression-factor-lts.Need-enum-known-last (format-expression-factor-claims t) (format-expression-factor-at t) format-expression-factor.Post
+format-expression-factor-enum-known-last t c = search needs
+
+format-expression-factor-enum-told : (t : ℕ) → format-expression-factor-lts.Need-enum-told (format-expression-factor-claims t) (format-expression-factor-at t) format-expression-factor.Post
+format-expression-factor-enum-told t c = search needs
+
+format-expression-factor-returns : (t : ℕ) → format-expression-factor-lts.Need-returns (format-expression-factor-claims t) (format-expression-factor-at t) format-expression-factor.Post
+format-expression-factor-returns t c = refused-before (c .enum-told .given .1)
 
 format-expression-factor-open-requires : (t : ℕ)
     → format-expression-factor-lts.Need-open-requires (format-expression-factor-claims t) (format-expression-factor-at t) format-expression-factor.Post
@@ -820,9 +872,9 @@ format-expression-factor-enum-known-opened : (t : ℕ)
     → format-expression-factor-lts.Need-enum-known-opened (format-expression-factor-claims t) (format-expression-factor-at t) format-expression-factor.Post
 format-expression-factor-enum-known-opened t c = search needs
 
-format-expression-factor-enum-told : (t : ℕ)
-    → format-expression-factor-lts.Need-enum-told (format-expression-factor-claims t) (format-expression-factor-at t) format-expression-factor.Post
-format-expression-factor-enum-told t c = search needs
+format-expression-factor-enum-told-2 : (t : ℕ)
+    → format-expression-factor-lts.Need-enum-told-2 (format-expression-factor-claims t) (format-expression-factor-at t) format-expression-factor.Post
+format-expression-factor-enum-told-2 t c = search needs
 
 format-expression-factor-closed-requires : (t : ℕ)
     → format-expression-factor-lts.Need-closed-requires (format-expression-factor-claims t) (format-expression-factor-at t) format-expression-factor.Post
@@ -832,12 +884,14 @@ format-expression-factor-same-length : (t : ℕ)
     → format-expression-factor-lts.Need-same-length (format-expression-factor-claims t) (format-expression-factor-at t) format-expression-factor.Post
 format-expression-factor-same-length t c = search needs
 
-format-expression-factor-returns : (t : ℕ)
-    → format-expression-factor-lts.Need-returns (format-expression-factor-claims t) (format-expression-factor-at t) format-expression-factor.Post
-format-expression-factor-returns t c =
+format-expression-factor-returns-2 : (t : ℕ)
+    → format-expression-factor-lts.Need-returns-2 (format-expression-factor-claims t) (format-expression-factor-at t) format-expression-factor.Post
+format-expression-factor-returns-2 t c =
     let at-enum-told = c .before in
     let at-open = at-enum-told .before .before .before .before in
-    shown-closed (at-open .«open» .ensures) (leaf plain) (at-enum-told .enum-told .given .1) (c .closed .ensures)
+    let done = at-open .before .before .before .last .given .1 in
+    rw done
+    (shown-closed (at-open .«open» .ensures) (leaf plain) (at-enum-told .enum-told2 .given .1) (c .closed .ensures))
 
 format-expression-factor-sub-inner : (t : ℕ)
     → format-expression-factor-lts.Need-sub-inner (format-expression-factor-claims t) (format-expression-factor-at t) format-expression-factor.Post
@@ -846,9 +900,9 @@ format-expression-factor-sub-inner t c =
     let at-open = at-opened .before .before .before .before in
     opened-levels (at-open .«open» .ensures) (at-opened .opened .given .1)
 
-format-expression-factor-enum-told-2 : (t : ℕ)
-    → format-expression-factor-lts.Need-enum-told-2 (format-expression-factor-claims t) (format-expression-factor-at t) format-expression-factor.Post
-format-expression-factor-enum-told-2 t c = search needs
+format-expression-factor-enum-told-3 : (t : ℕ)
+    → format-expression-factor-lts.Need-enum-told-3 (format-expression-factor-claims t) (format-expression-factor-at t) format-expression-factor.Post
+format-expression-factor-enum-told-3 t c = search needs
 
 format-expression-factor-format-parens-requires : (t : ℕ)
     → format-expression-factor-lts.Need-format-parens-requires (format-expression-factor-claims t) (format-expression-factor-at t) format-expression-factor.Post
@@ -856,12 +910,12 @@ format-expression-factor-format-parens-requires t c κs =
     let at-opened = c .before .before .before .before in
     let at-open = at-opened .before .before .before .before in
     let levels-left = opened-levels (at-open .«open» .ensures) (at-opened .opened .given .1) in
-    let measured = at-open .before .before .before .before .pre .0 in
+    let measured = at-open .before .before .before .before .before .before .before .pre .0 in
     (omega (arith, levels-left, measured), tt)
 
-format-expression-factor-enum-told-3 : (t : ℕ)
-    → format-expression-factor-lts.Need-enum-told-3 (format-expression-factor-claims t) (format-expression-factor-at t) format-expression-factor.Post
-format-expression-factor-enum-told-3 t c = search needs
+format-expression-factor-enum-told-4 : (t : ℕ)
+    → format-expression-factor-lts.Need-enum-told-4 (format-expression-factor-claims t) (format-expression-factor-at t) format-expression-factor.Post
+format-expression-factor-enum-told-4 t c = search needs
 
 format-expression-factor-format-call-requires : (t : ℕ)
     → format-expression-factor-lts.Need-format-call-requires (format-expression-factor-claims t) (format-expression-factor-at t) format-expression-factor.Post
@@ -869,28 +923,28 @@ format-expression-factor-format-call-requires t c κs =
     let at-opened = c .before .before .before .before in
     let at-open = at-opened .before .before .before .before in
     let levels-left = opened-levels (at-open .«open» .ensures) (at-opened .opened .given .1) in
-    let measured = at-open .before .before .before .before .pre .0 in
+    let measured = at-open .before .before .before .before .before .before .before .pre .0 in
     (omega (arith, levels-left, measured), tt)
-
-format-expression-factor-enum-told-4 : (t : ℕ)
-    → format-expression-factor-lts.Need-enum-told-4 (format-expression-factor-claims t) (format-expression-factor-at t) format-expression-factor.Post
-format-expression-factor-enum-told-4 t c = search needs
-
-format-expression-factor-format-identifier-value-requires : (t : ℕ)
-    → format-expression-factor-lts.Need-format-identifier-value-requires (format-expression-factor-claims t) (format-expression-factor-at t) format-expression-factor.Post
-format-expression-factor-format-identifier-value-requires t c κs = search needs
 
 format-expression-factor-enum-told-5 : (t : ℕ)
     → format-expression-factor-lts.Need-enum-told-5 (format-expression-factor-claims t) (format-expression-factor-at t) format-expression-factor.Post
 format-expression-factor-enum-told-5 t c = search needs
 
-format-expression-factor-format-number-requires : (t : ℕ)
-    → format-expression-factor-lts.Need-format-number-requires (format-expression-factor-claims t) (format-expression-factor-at t) format-expression-factor.Post
-format-expression-factor-format-number-requires t c κs = search needs
+format-expression-factor-format-identifier-value-requires : (t : ℕ)
+    → format-expression-factor-lts.Need-format-identifier-value-requires (format-expression-factor-claims t) (format-expression-factor-at t) format-expression-factor.Post
+format-expression-factor-format-identifier-value-requires t c κs = search needs
 
 format-expression-factor-enum-told-6 : (t : ℕ)
     → format-expression-factor-lts.Need-enum-told-6 (format-expression-factor-claims t) (format-expression-factor-at t) format-expression-factor.Post
 format-expression-factor-enum-told-6 t c = search needs
+
+format-expression-factor-format-number-requires : (t : ℕ)
+    → format-expression-factor-lts.Need-format-number-requires (format-expression-factor-claims t) (format-expression-factor-at t) format-expression-factor.Post
+format-expression-factor-format-number-requires t c κs = search needs
+
+format-expression-factor-enum-told-7 : (t : ℕ)
+    → format-expression-factor-lts.Need-enum-told-7 (format-expression-factor-claims t) (format-expression-factor-at t) format-expression-factor.Post
+format-expression-factor-enum-told-7 t c = search needs
 
 format-expression-factor-format-string-requires : (t : ℕ)
     → format-expression-factor-lts.Need-format-string-requires (format-expression-factor-claims t) (format-expression-factor-at t) format-expression-factor.Post
@@ -904,103 +958,115 @@ format-expression-factor-same-length-2 : (t : ℕ)
     → format-expression-factor-lts.Need-same-length-2 (format-expression-factor-claims t) (format-expression-factor-at t) format-expression-factor.Post
 format-expression-factor-same-length-2 t c = search needs
 
-format-expression-factor-returns-2 : (t : ℕ)
-    → format-expression-factor-lts.Need-returns-2 (format-expression-factor-claims t) (format-expression-factor-at t) format-expression-factor.Post
+format-expression-factor-returns-3 : (t : ℕ)
+    → format-expression-factor-lts.Need-returns-3 (format-expression-factor-claims t) (format-expression-factor-at t) format-expression-factor.Post
 unfolding built fieldTrees fieldsEnd eventsIn bitAt kindNumber storedWith
-format-expression-factor-returns-2 t c =
+format-expression-factor-returns-3 t c =
     let at-format-parens = c .before .before in
     let at-enum-told2 = at-format-parens .before .before in
     let at-opened = at-enum-told2 .before .before .before in
     let at-open = at-opened .before .before .before .before in
     let opens = at-open .«open» .ensures in
     let is = at-opened .opened .given .1 in
-    opened-kind opens is (leaf plain) variant.ExprParens (at-enum-told2 .enum-told2 .given .1) refl
-    (record { from = λ at here. at-format-parens .format-parens .ensures .from at here })
+    let done = at-open .before .before .before .last .given .1 in
+    rw done
+    (opened-kind opens is (leaf plain) variant.ExprParens (at-enum-told2 .enum-told3 .given .1) refl
+    (record { from = λ at here. at-format-parens .format-parens .ensures .from at here }))
 
 format-expression-factor-same-length-3 : (t : ℕ)
     → format-expression-factor-lts.Need-same-length-3 (format-expression-factor-claims t) (format-expression-factor-at t) format-expression-factor.Post
 format-expression-factor-same-length-3 t c = search needs
 
-format-expression-factor-returns-3 : (t : ℕ)
-    → format-expression-factor-lts.Need-returns-3 (format-expression-factor-claims t) (format-expression-factor-at t) format-expression-factor.Post
+format-expression-factor-returns-4 : (t : ℕ)
+    → format-expression-factor-lts.Need-returns-4 (format-expression-factor-claims t) (format-expression-factor-at t) format-expression-factor.Post
 unfolding built fieldTrees fieldsEnd eventsIn bitAt kindNumber storedWith
-format-expression-factor-returns-3 t c =
+format-expression-factor-returns-4 t c =
     let at-format-call = c .before .before in
     let at-enum-told3 = at-format-call .before .before in
     let at-opened = at-enum-told3 .before .before .before in
     let at-open = at-opened .before .before .before .before in
     let opens = at-open .«open» .ensures in
     let is = at-opened .opened .given .1 in
-    opened-kind opens is (leaf plain) variant.FunctionCall (at-enum-told3 .enum-told3 .given .1) refl
-    (record { from = λ at here. at-format-call .format-call .ensures .from at here })
+    let done = at-open .before .before .before .last .given .1 in
+    rw done
+    (opened-kind opens is (leaf plain) variant.FunctionCall (at-enum-told3 .enum-told4 .given .1) refl
+    (record { from = λ at here. at-format-call .format-call .ensures .from at here }))
 
 format-expression-factor-same-length-4 : (t : ℕ)
     → format-expression-factor-lts.Need-same-length-4 (format-expression-factor-claims t) (format-expression-factor-at t) format-expression-factor.Post
 format-expression-factor-same-length-4 t c = search needs
 
-format-expression-factor-returns-4 : (t : ℕ)
-    → format-expression-factor-lts.Need-returns-4 (format-expression-factor-claims t) (format-expression-factor-at t) format-expression-factor.Post
+format-expression-factor-returns-5 : (t : ℕ)
+    → format-expression-factor-lts.Need-returns-5 (format-expression-factor-claims t) (format-expression-factor-at t) format-expression-factor.Post
 unfolding built fieldTrees fieldsEnd eventsIn bitAt kindNumber storedWith
-format-expression-factor-returns-4 t c =
+format-expression-factor-returns-5 t c =
     let at-format-identifier-value = c .before .before in
     let at-enum-told4 = at-format-identifier-value .before .before .before in
     let at-opened = at-enum-told4 .before .before .before in
     let at-open = at-opened .before .before .before .before in
     let opens = at-open .«open» .ensures in
     let is = at-opened .opened .given .1 in
-    opened-kind opens is (leaf plain) variant.IdentifierValue (at-enum-told4 .enum-told4 .given .1) refl
-    (record { from = λ at here. at-format-identifier-value .format-identifier-value .ensures .from at here })
+    let done = at-open .before .before .before .last .given .1 in
+    rw done
+    (opened-kind opens is (leaf plain) variant.IdentifierValue (at-enum-told4 .enum-told5 .given .1) refl
+    (record { from = λ at here. at-format-identifier-value .format-identifier-value .ensures .from at here }))
 
 format-expression-factor-same-length-5 : (t : ℕ)
     → format-expression-factor-lts.Need-same-length-5 (format-expression-factor-claims t) (format-expression-factor-at t) format-expression-factor.Post
 format-expression-factor-same-length-5 t c = search needs
 
-format-expression-factor-returns-5 : (t : ℕ)
-    → format-expression-factor-lts.Need-returns-5 (format-expression-factor-claims t) (format-expression-factor-at t) format-expression-factor.Post
+format-expression-factor-returns-6 : (t : ℕ)
+    → format-expression-factor-lts.Need-returns-6 (format-expression-factor-claims t) (format-expression-factor-at t) format-expression-factor.Post
 unfolding built fieldTrees fieldsEnd eventsIn bitAt kindNumber storedWith
-format-expression-factor-returns-5 t c =
+format-expression-factor-returns-6 t c =
     let at-format-number = c .before .before in
     let at-enum-told5 = at-format-number .before .before in
     let at-opened = at-enum-told5 .before .before .before in
     let at-open = at-opened .before .before .before .before in
     let opens = at-open .«open» .ensures in
     let is = at-opened .opened .given .1 in
-    opened-kind opens is (leaf plain) variant.Number (at-enum-told5 .enum-told5 .given .1) refl
-    (record { from = λ at here. at-format-number .format-number .ensures .from at here })
+    let done = at-open .before .before .before .last .given .1 in
+    rw done
+    (opened-kind opens is (leaf plain) variant.Number (at-enum-told5 .enum-told6 .given .1) refl
+    (record { from = λ at here. at-format-number .format-number .ensures .from at here }))
 
 format-expression-factor-same-length-6 : (t : ℕ)
     → format-expression-factor-lts.Need-same-length-6 (format-expression-factor-claims t) (format-expression-factor-at t) format-expression-factor.Post
 format-expression-factor-same-length-6 t c = search needs
 
-format-expression-factor-returns-6 : (t : ℕ)
-    → format-expression-factor-lts.Need-returns-6 (format-expression-factor-claims t) (format-expression-factor-at t) format-expression-factor.Post
+format-expression-factor-returns-7 : (t : ℕ)
+    → format-expression-factor-lts.Need-returns-7 (format-expression-factor-claims t) (format-expression-factor-at t) format-expression-factor.Post
 unfolding built fieldTrees fieldsEnd eventsIn bitAt kindNumber storedWith
-format-expression-factor-returns-6 t c =
+format-expression-factor-returns-7 t c =
     let at-format-string = c .before .before in
     let at-enum-told6 = at-format-string .before .before in
     let at-opened = at-enum-told6 .before .before .before in
     let at-open = at-opened .before .before .before .before in
     let opens = at-open .«open» .ensures in
     let is = at-opened .opened .given .1 in
-    opened-kind opens is (leaf plain) variant.StringFactor (at-enum-told6 .enum-told6 .given .1) refl
-    (record { from = λ at here. at-format-string .format-string .ensures .from at here })
+    let done = at-open .before .before .before .last .given .1 in
+    rw done
+    (opened-kind opens is (leaf plain) variant.StringFactor (at-enum-told6 .enum-told7 .given .1) refl
+    (record { from = λ at here. at-format-string .format-string .ensures .from at here }))
 
 format-expression-factor-same-length-7 : (t : ℕ)
     → format-expression-factor-lts.Need-same-length-7 (format-expression-factor-claims t) (format-expression-factor-at t) format-expression-factor.Post
 format-expression-factor-same-length-7 t c = search needs
 
-format-expression-factor-returns-7 : (t : ℕ)
-    → format-expression-factor-lts.Need-returns-7 (format-expression-factor-claims t) (format-expression-factor-at t) format-expression-factor.Post
+format-expression-factor-returns-8 : (t : ℕ)
+    → format-expression-factor-lts.Need-returns-8 (format-expression-factor-claims t) (format-expression-factor-at t) format-expression-factor.Post
 unfolding built fieldTrees fieldsEnd eventsIn bitAt kindNumber storedWith
-format-expression-factor-returns-7 t c =
+format-expression-factor-returns-8 t c =
     let at-format-leaf = c .before .before in
-    let at-match2 = at-format-leaf .before .before in
-    let at-opened = at-match2 .before .before in
+    let at-match3 = at-format-leaf .before .before in
+    let at-opened = at-match3 .before .before in
     let at-open = at-opened .before .before .before .before in
     let opens = at-open .«open» .ensures in
     let is = at-opened .opened .given .1 in
-    opened-kind opens is (leaf plain) variant.CurrentProgramCounter (counter-is opens is (at-match2 .match2 .keys6)) refl
-    (record { from = λ at here. at-format-leaf .format-leaf .ensures .1 char-leaf .from at here })
+    let done = at-open .before .before .before .last .given .1 in
+    rw done
+    (opened-kind opens is (leaf plain) variant.CurrentProgramCounter (counter-is opens is (at-match3 .match3 .keys6)) refl
+    (record { from = λ at here. at-format-leaf .format-leaf .ensures .1 char-leaf .from at here }))
 
 -- ---- format_factor: the signs are printed behind the factor that was skipped, and the walk goes back to it; without signs nothing is skipped
 
@@ -1206,39 +1272,45 @@ pub +format-argument+format-arguments+format-binary-expression+format-call+forma
     (λ t. format-argument-lts.spec (format-argument-claims t)
     (format-argument-at t)
     format-argument.Post
+    (format-argument-enum-known-last t)
+    (format-argument-enum-told t)
+    (format-argument-returns t)
     (format-argument-item-class-requires t)
     (format-argument-open-requires t)
     (format-argument-enum-known-opened t)
-    (format-argument-enum-told t)
+    (format-argument-enum-told-2 t)
     (format-argument-closed-requires t)
     (format-argument-same-length t)
-    (format-argument-returns t)
+    (format-argument-returns-2 t)
     (format-argument-sub-inner t)
     (format-argument-stands-requires t)
     (format-argument-format-value-requires t)
     (format-argument-format-optional-leaf-requires t)
     (format-argument-spc-if-next-requires t)
     (format-argument-same-length-2 t)
-    (format-argument-returns-2 t))
+    (format-argument-returns-3 t))
     (λ t. format-arguments-lts.spec (format-arguments-claims t)
     (format-arguments-at t)
     format-arguments.Post
+    (format-arguments-enum-known-last t)
+    (format-arguments-enum-told t)
+    (format-arguments-returns t)
     (format-arguments-list-class-requires t)
     (format-arguments-open-requires t)
     (format-arguments-enum-known-opened t)
-    (format-arguments-enum-told t)
+    (format-arguments-enum-told-2 t)
     (format-arguments-closed-requires t)
     (format-arguments-same-length t)
-    (format-arguments-returns t)
-    (format-arguments-enum-told-2 t)
+    (format-arguments-returns-2 t)
+    (format-arguments-enum-told-3 t)
     (format-arguments-sub-format-import-all t)
     (format-arguments-format-import-all-requires t)
     (format-arguments-sub-format-each-argument t)
     (format-arguments-format-each-argument-requires t)
     (format-arguments-same-length-2 t)
-    (format-arguments-returns-2 t)
+    (format-arguments-returns-3 t)
     (format-arguments-same-length-3 t)
-    (format-arguments-returns-3 t))
+    (format-arguments-returns-4 t))
     (λ t. format-binary-expression-lts.spec (format-binary-expression-claims t)
     (format-binary-expression-at t)
     format-binary-expression.Post
@@ -1290,55 +1362,61 @@ pub +format-argument+format-arguments+format-binary-expression+format-call+forma
     (λ t. format-expression-lts.spec (format-expression-claims t)
     (format-expression-at t)
     format-expression.Post
+    (format-expression-enum-known-last t)
+    (format-expression-enum-told t)
+    (format-expression-returns t)
     (format-expression-expression-class-requires t)
     (format-expression-open-requires t)
     (format-expression-enum-known-opened t)
-    (format-expression-enum-told t)
+    (format-expression-enum-told-2 t)
     (format-expression-closed-requires t)
     (format-expression-same-length t)
-    (format-expression-returns t)
-    (format-expression-enum-told-2 t)
+    (format-expression-returns-2 t)
+    (format-expression-enum-told-3 t)
     (format-expression-sub-format-binary-expression t)
     (format-expression-format-binary-expression-requires t)
     (format-expression-sub-format-factor t)
     (format-expression-format-factor-requires t)
     (format-expression-same-length-2 t)
-    (format-expression-returns-2 t)
+    (format-expression-returns-3 t)
     (format-expression-same-length-3 t)
-    (format-expression-returns-3 t))
+    (format-expression-returns-4 t))
     (λ t. format-expression-factor-lts.spec (format-expression-factor-claims t)
     (format-expression-factor-at t)
     format-expression-factor.Post
+    (format-expression-factor-enum-known-last t)
+    (format-expression-factor-enum-told t)
+    (format-expression-factor-returns t)
     (format-expression-factor-open-requires t)
     (format-expression-factor-enum-known-opened t)
-    (format-expression-factor-enum-told t)
+    (format-expression-factor-enum-told-2 t)
     (format-expression-factor-closed-requires t)
     (format-expression-factor-same-length t)
-    (format-expression-factor-returns t)
+    (format-expression-factor-returns-2 t)
     (format-expression-factor-sub-inner t)
-    (format-expression-factor-enum-told-2 t)
-    (format-expression-factor-format-parens-requires t)
     (format-expression-factor-enum-told-3 t)
-    (format-expression-factor-format-call-requires t)
+    (format-expression-factor-format-parens-requires t)
     (format-expression-factor-enum-told-4 t)
-    (format-expression-factor-format-identifier-value-requires t)
+    (format-expression-factor-format-call-requires t)
     (format-expression-factor-enum-told-5 t)
-    (format-expression-factor-format-number-requires t)
+    (format-expression-factor-format-identifier-value-requires t)
     (format-expression-factor-enum-told-6 t)
+    (format-expression-factor-format-number-requires t)
+    (format-expression-factor-enum-told-7 t)
     (format-expression-factor-format-string-requires t)
     (format-expression-factor-format-leaf-requires t)
     (format-expression-factor-same-length-2 t)
-    (format-expression-factor-returns-2 t)
-    (format-expression-factor-same-length-3 t)
     (format-expression-factor-returns-3 t)
-    (format-expression-factor-same-length-4 t)
+    (format-expression-factor-same-length-3 t)
     (format-expression-factor-returns-4 t)
-    (format-expression-factor-same-length-5 t)
+    (format-expression-factor-same-length-4 t)
     (format-expression-factor-returns-5 t)
-    (format-expression-factor-same-length-6 t)
+    (format-expression-factor-same-length-5 t)
     (format-expression-factor-returns-6 t)
+    (format-expression-factor-same-length-6 t)
+    (format-expression-factor-returns-7 t)
     (format-expression-factor-same-length-7 t)
-    (format-expression-factor-returns-7 t))
+    (format-expression-factor-returns-8 t))
     (λ t. format-factor-lts.spec (format-factor-claims t)
     (format-factor-at t)
     format-factor.Post
