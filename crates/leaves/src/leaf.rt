@@ -101,7 +101,7 @@ fn leaf_at(
     format_own(tree, own, style, shown, context, room, state)
 }
 
-// A leaf of a class where the last answer ended.
+// A leaf of a class where the last answer ended. A refusal is made anew: handed on whole, an answer is copied with what is left free in it.
 pub fn format_leaf(
     tree: &[u8],
     room: &mut [u8],
@@ -115,10 +115,12 @@ pub fn format_leaf(
     ensures { λ r. ⌜ Prints r (now (room .exit)) last (now (room .entry)) (λ at. ownEvents context (styleOf style) shown (now (tree .entry)) (readOwn (now (tree .entry)) at class levels)) (λ at. ownEnd at (readOwn (now (tree .entry)) at class levels)) ⌝ }
     ensures { λ r. ⌜ (LeafClass class → PrintsRecord r (now (room .exit)) last (now (room .entry)) context (Trees.leaf (styleOf style)) shown levels (now (tree .entry)) class) ⌝ }
 {
-    let Printed::Done(state, at) = last else {
-        return last;
-    };
-    leaf_at(tree, at, class, levels, style, shown, context, room, state)
+    match last {
+        Printed::Done(state, at) => {
+            leaf_at(tree, at, class, levels, style, shown, context, room, state)
+        }
+        Printed::Refused(refusal) => Printed::Refused(refusal),
+    }
 }
 
 // A leaf that may stand or not, with its trivia: where it does not, nothing is printed.

@@ -1,5 +1,5 @@
 -- Laws of a run of events, and of what a printer promises of one.
-use mathlib.Core.Path.{_≡_, refl, sym, ap, _∙_}
+use mathlib.Core.Path.{_≡_, refl, sym, ap, subst, _∙_}
 use mathlib.Core.List.{List}
 use Prim.Native.Nat.{ℕ}
 use native.Mathlib.Omega.{arith}
@@ -204,6 +204,11 @@ refused-before {room = room} {events} {end} {why} is = record {
     next = ap (λ (a : Printed). placeOf a (end at)) is;
   };
 }
+
+-- and so does a refusal that is made anew
+pub refused-anew : {before : Printed} {room : List ℕ} {events : ℕ → Events} {end : ℕ → ℕ} {why : Refusal} → before ≡ Refused why
+    → Prints (Refused why) room before room events end
+refused-anew {before} {room} {events} {end} is = subst (λ (answer : Printed). Prints answer room before room events end) is (refused-before is)
 
 -- what was done goes on
 pub done-before : {answer before : Printed} {room left : List ℕ} {events : ℕ → Events} {end : ℕ → ℕ} {state : CodeFormatter} {place : ℕ} → before ≡ Done state place
