@@ -1,7 +1,10 @@
 -- Document 01, "Answer numbers, in checking order": the number of each refusal, and for each answer its number with its length or place.
 use Prim.Native.Nat.{ℕ}
+use mathlib.Core.Bool.{cond}
+use lib.Dec.{eqb}
 use Rattle.answers.specs.declared.Reason.{Reason}
 use Rattle.answers.specs.declared.Reason.the-variants.{OptionsLength, OptionsValue, TreeLength, TreeDepth, TreeLayout, ChunkLayout, NotAscii, WorkRoom, TextRoom}
+use Rattle.answers.specs.declared.Refusal.{Refusal}
 use Rattle.answers.specs.declared.Answer.{Answer}
 use Rattle.answers.specs.declared.Answer.the-variants.{Accepted, Refused}
 use Rattle.answers.specs.declared.Checked.{Checked}
@@ -18,10 +21,14 @@ number NotAscii = 7
 number WorkRoom = 8
 number TextRoom = 9
 
--- "Acceptance is 0 with the text's length"; "A refusal is a number and a place."
+-- "A refusal is a number and a place."
+abbrev pub numbersOf : Refusal → ℕ × ℕ
+numbersOf refusal = (number (refusal .reason), refusal .place)
+
+-- "Acceptance is 0 with the text's length"
 abbrev pub numbers : Answer → ℕ × ℕ
 numbers (Accepted length) = (0, length)
-numbers (Refused refusal) = (number (refusal .reason), refusal .place)
+numbers (Refused refusal) = numbersOf refusal
 
 -- a judgement has no text: where it is passed its number and value are 0
 abbrev pub answerOf : Checked → Answer
@@ -30,6 +37,10 @@ answerOf (Failed refusal) = Refused refusal
 
 abbrev pub numbersChecked : Checked → ℕ × ℕ
 numbersChecked checked = numbers (answerOf checked)
+
+-- two judgements in checking order, as numbers and places: the second counts where the first is passed
+abbrev pub unlessRefused : ℕ × ℕ → ℕ × ℕ → ℕ × ℕ
+unlessRefused first next = cond (eqb (first .0) 0) next first
 
 -- the first refusal in checking order
 abbrev pub andThen : Checked → Checked → Checked

@@ -8,6 +8,7 @@ use Rattle.answers.specs.declared.Reason.the-variants.{TextRoom}
 use Rattle.answers.specs.declared.Refusal.{Refusal}
 use Rattle.answers.specs.declared.Answer.{Answer}
 use Rattle.answers.specs.declared.Answer.the-variants.{Accepted, Refused}
+use Rattle.answers.specs.Numbers.{numbersOf}
 
 -- a text, or the refusal that comes before it
 pub data Outcome : Type 0 where
@@ -23,3 +24,8 @@ answerIn (refusal why) room = Refused why
 abbrev pub bufferAfter : Outcome → List ℕ → List ℕ
 bufferAfter (text bytes) buffer = cond (leb (length bytes) (length buffer)) (bytes ++ drop (length bytes) buffer) buffer
 bufferAfter (refusal why) buffer = buffer
+
+-- the answer's number and value by document 01's table: 0 with the text's length; 9 with that length where it is more than the buffer has; or the refusal's
+unfoldable pub numbersIn : Outcome → ℕ → ℕ × ℕ
+numbersIn (text bytes) room = (cond (leb (length bytes) room) 0 9, length bytes)
+numbersIn (refusal why) room = numbersOf why

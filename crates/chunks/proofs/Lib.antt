@@ -6,3 +6,4 @@ pub mod Judging
 pub mod Placed
 pub mod Restored
 pub mod RoundTrip
+pub mod Numbers

@@ -8,7 +8,7 @@ use lib.Dec.{eqb, ltb}
 use Rattle.answers.specs.declared.Checked.{Checked}
 use Rattle.answers.specs.declared.Checked.the-variants.{Passed, Failed}
 use Rattle.answers.specs.declared.Reason.the-variants.{ChunkLayout, NotAscii}
-use Rattle.answers.specs.Numbers.{andThen}
+use Rattle.answers.specs.Numbers.{andThen, unlessRefused}
 use Rattle.text.specs.Accepted.{acceptedText, faultAt}
 use Rattle.chunks.specs.Reading.{storedChunks}
 use Rattle.chunks.specs.declared.stored.StoredChunk.{StoredChunk}
@@ -36,3 +36,20 @@ textsChecked list (chunk ∷ chunks) =
 -- 6 over the whole list, then 7
 unfoldable pub chunksChecked : List ℕ → Checked
 chunksChecked list = andThen (layoutChecked list) (textsChecked list (storedChunks list 0))
+
+-- ---- in document 01's numbers: (0, 0), or a refusal's number and place
+
+unfoldable pub layoutNumbers : List ℕ → ℕ × ℕ
+layoutNumbers list =
+    cond (ltb 1048576 (length list)) (6, 0)
+    (cond (eqb (endFrom 0 (storedChunks list 0)) (length list)) (0, 0) (6, endFrom 0 (storedChunks list 0)))
+
+unfoldable pub textsNumbers : List ℕ → List StoredChunk → ℕ × ℕ
+textsNumbers list [] = (0, 0)
+textsNumbers list (chunk ∷ chunks) =
+    let text = slice (chunk .start) (chunk .end) list in
+    cond (acceptedText text) (textsNumbers list chunks) (7, chunk .start + faultAt text)
+
+-- 6 over the whole list, then 7
+unfoldable pub chunksNumbers : List ℕ → ℕ × ℕ
+chunksNumbers list = unlessRefused (layoutNumbers list) (textsNumbers list (storedChunks list 0))

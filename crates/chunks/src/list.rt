@@ -10,10 +10,11 @@ ghost use mathlib.Core.Path.{_≡_};
 ghost use mathlib.Core.Bool.{true};
 ghost use Prim.Native.Nat.{_+_, _≤_, _<_};
 ghost use lib.ListN.{length};
+ghost use Rattle.answers.specs.Numbers.{numbersChecked};
 ghost use Rattle.text.specs.Numbers.{numberAt};
 ghost use Rattle.text.specs.Accepted.{acceptedText};
 ghost use Rattle.chunks.specs.Reading.{chunkAt, storedChunks};
-ghost use Rattle.chunks.specs.Judging.{endFrom, chunksChecked};
+ghost use Rattle.chunks.specs.Judging.{endFrom, chunksChecked, chunksNumbers};
 ghost use Rattle.chunks.specs.Steps.{firstFault, Plain, endOn};
 
 // The two-byte number at a place.
@@ -107,6 +108,7 @@ fn fault_in(list: &[u8], start: usize, end: usize, fault: usize) -> usize
 // Whether a list keeps the layout and its texts hold only accepted bytes: refusal 6 of the first bad chunk, else 7 of the first bad byte.
 pub fn check_chunks(list: &[u8]) -> Checked
     ensures { λ r. ⌜ r ≡ chunksChecked (now (list .entry)) ⌝ }
+    ensures { λ r. ⌜ numbersChecked r ≡ chunksNumbers (now (list .entry)) ⌝ }
 {
     let length = list.len();
     if 1048576 < length {

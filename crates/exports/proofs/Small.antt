@@ -26,13 +26,13 @@ use Rattle.printing.specs.Holding.{Held, held, refused}
 use Rattle.tokens.specs.Chunks.{chunksHeld, chunksAnswer, RoomHolds}
 use Rattle.formatting.specs.Formatting.{outcomeOf, formatted}
 use Rattle.formatting.specs.Demands.{LessonUnder, Lesson}
-use Rattle.losses.specs.Lost.{firstsIn, leastOf, answerWith, lostOn, lostFrom, Narrow}
+use Rattle.losses.specs.Lost.{firstsIn, leastOf, answerWith, lostOn, lostFrom, lossAnswer, Narrow}
 use Rattle.losses.specs.declared.firsts.First.{First}
 use Rattle.losses.specs.declared.firsts.First.the-variants.{At, Never}
 use Rattle.losses.specs.declared.firsts.Firsts.{Firsts}
 use Rattle.losses.specs.declared.search.Loss.{Loss}
 use Rattle.losses.specs.declared.search.Loss.the-variants.{Used}
-use Rattle.exports.specs.Packed.{Small, lossAnswer}
+use Rattle.exports.specs.Packed.{Small}
 use Rattle.exports.proofs.Within.{Within}
 use Rattle.exports.proofs.ListPlaces.{ReadWithin, list-within, options-within}
 use Rattle.exports.proofs.TreePlaces.{tree-within}

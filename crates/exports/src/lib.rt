@@ -14,8 +14,8 @@ ghost use Rattle.tree.specs.Checking.{batchChecked};
 ghost use Rattle.tokens.specs.Chunks.{chunksHeld, chunksAnswer, RoomHolds, chunksRoom};
 ghost use Rattle.formatting.specs.Formatting.{formatted};
 ghost use Rattle.formatting.specs.Demands.{Lesson};
-ghost use Rattle.losses.specs.Lost.{lostFrom, Narrow};
-ghost use Rattle.exports.specs.Packed.{packedOf, Small, lossAnswer};
+ghost use Rattle.losses.specs.Lost.{lostFrom, lossAnswer, Narrow};
+ghost use Rattle.exports.specs.Packed.{packedOf, Small};
 
 // An answer as one number.
 fn packed(answer: Answer) -> u64

@@ -3,7 +3,8 @@ use answers::Answer;
 use text::stores;
 ghost use mathlib.Core.Path.{_≡_};
 ghost use lib.ListN.{length};
-ghost use Rattle.answers.specs.Texts.{answerIn, bufferAfter};
+ghost use Rattle.answers.specs.Numbers.{numbers};
+ghost use Rattle.answers.specs.Texts.{answerIn, bufferAfter, numbersIn};
 ghost use Rattle.text.specs.Stores.{zeros};
 ghost use Rattle.formatting.specs.Formatting.{formatted};
 ghost use Rattle.formatting.specs.Demands.{Lesson};
@@ -27,6 +28,7 @@ pub fn format(tree: &[u8], options: &[u8], work: &mut [u8], text: &mut [u8]) -> 
     ensures { λ _. ⌜ now (text .exit) ≡ bufferAfter (formatted (now (tree .entry)) (now (options .entry)) (length (now (work .entry)))) (now (text .entry)) ⌝ }
     ensures { λ _. ⌜ now (work .exit) ≡ zeros (length (now (work .entry))) ⌝ }
     ensures { λ _. ⌜ Lesson (now (tree .entry)) (now (options .entry)) (formatted (now (tree .entry)) (now (options .entry)) (length (now (work .entry)))) ⌝ }
+    ensures { λ r. ⌜ numbers r ≡ numbersIn (formatted (now (tree .entry)) (now (options .entry)) (length (now (work .entry)))) (length (now (text .entry))) ⌝ }
 {
     let answer = format_in(tree, options, work, text);
     stores::clear(work);

@@ -9,7 +9,8 @@ use columns::Margins;
 use options::OptionsRead;
 ghost use mathlib.Core.Path.{_≡_};
 ghost use lib.ListN.{length};
-ghost use Rattle.answers.specs.Texts.{answerIn, bufferAfter};
+ghost use Rattle.answers.specs.Numbers.{numbers};
+ghost use Rattle.answers.specs.Texts.{answerIn, bufferAfter, numbersIn};
 ghost use Rattle.chunks.specs.Reading.{chunksOf};
 ghost use Rattle.chunks.specs.Judging.{chunksChecked};
 ghost use Rattle.columns.specs.Setting.{textOf, unlessFailed, joinOutcome};
@@ -43,6 +44,7 @@ pub fn join_chunks(chunks: &[u8], options: &[u8], text: &mut [u8]) -> Answer
     ensures { λ r. ⌜ r ≡ answerIn (joinOutcome (now (chunks .entry)) (now (options .entry))) (length (now (text .entry))) ⌝ }
     ensures { λ _. ⌜ now (text .exit) ≡ bufferAfter (joinOutcome (now (chunks .entry)) (now (options .entry))) (now (text .entry)) ⌝ }
     ensures { λ _. ⌜ Promised (chunksOf (now (chunks .entry))) (joinOutcome (now (chunks .entry)) (now (options .entry))) ⌝ }
+    ensures { λ r. ⌜ numbers r ≡ numbersIn (joinOutcome (now (chunks .entry)) (now (options .entry))) (length (now (text .entry))) ⌝ }
 {
     let read = options::read_options(options);
     match read {

@@ -1,6 +1,4 @@
 // What stands before a token of a list, and behind the last: trivia of its head, and the newline rule of `format_tokens`.
-use answers::Reason;
-use answers::Refusal;
 use leaves::record;
 use leaves::trivia;
 use printing::CodeFormatter;
@@ -23,7 +21,8 @@ ghost use Rattle.events.specs.Views.{blockBit};
 ghost use Rattle.events.specs.Trees as Trees;
 ghost use Rattle.events.specs.Trees.{listTrivia, breakBefore};
 ghost use Rattle.leaves.specs.Items.{itemsAt};
-ghost use Rattle.leads.specs.Leads.{beforeOf, headRefusalOf, LeadsIn};
+ghost use Rattle.leads.specs.Leads.{beforeOf, LeadsIn, leadBy, leadRoom, numbersLead, leadNumbers, overBy, overNumbers};
+ghost use Rattle.printing.specs.Running.{numbersPrinted};
 
 // What stood before a token in its list: whether it is the first, and the number of the kind of the one before.
 pub struct Before {
@@ -155,19 +154,6 @@ fn list_trivia(
     trivia::format_trivia(tree, own.trivia, own.trivia_count, context, room, state)
 }
 
-// The refusal on the way to a head; a head that was found has none, and its place stands for one.
-fn refused_head(found: HeadRead) -> Refusal
-    ensures { λ r. ⌜ r ≡ headRefusalOf found ⌝ }
-{
-    match found {
-        HeadRead::NoHead(refusal) => refusal,
-        HeadRead::Found(head) => Refusal {
-            reason: Reason::TreeLayout,
-            place: head.place,
-        },
-    }
-}
-
 // The byte at a place; 0 past the end.
 pub fn byte_at(tree: &[u8], at: usize) -> usize
     ensures { λ r. ⌜ r ≡ getD (now (tree .entry)) at 0 ⌝ }
@@ -189,6 +175,9 @@ pub fn format_lead_in(
     last: Printed,
 ) -> Lead
     ensures { λ r. ⌜ LeadsIn r (now (room .exit)) last (now (room .entry)) context drops (beforeOf stood) levels (now (tree .entry)) ⌝ }
+    ensures { λ r. ⌜ r ≡ leadBy last (now (room .entry)) context drops (beforeOf stood) levels (now (tree .entry)) ⌝ }
+    ensures { λ _. ⌜ now (room .exit) ≡ leadRoom last (now (room .entry)) context drops (beforeOf stood) levels (now (tree .entry)) ⌝ }
+    ensures { λ r. ⌜ numbersLead r ≡ leadNumbers last levels (now (tree .entry)) ⌝ }
 {
     let Printed::Done(state, at) = last else {
         return Lead::Over(last);
@@ -202,7 +191,7 @@ pub fn format_lead_in(
     };
     let found = parts::head_behind(tree, at, Class::BareToken, levels, token);
     let HeadRead::Found(head) = found else {
-        return Lead::Over(Printed::Refused(refused_head(found)));
+        return Lead::Over(Printed::Refused(parts::refused_head(found)));
     };
     let class = head.class;
     let opened = own::read_own(tree, head.place, class, head.levels);
@@ -214,6 +203,17 @@ pub fn format_lead_in(
     let shown = list_trivia(tree, room, context, own, drops, state);
     let next = break_before(room, context, stood, number, block, shown);
     Lead::Ready(token, own, next)
+}
+
+// The answer where a token was not ready.
+pub fn over(lead: Lead) -> Printed
+    ensures { λ r. ⌜ r ≡ overBy lead ⌝ }
+    ensures { λ r. ⌜ numbersPrinted r ≡ overNumbers lead ⌝ }
+{
+    match lead {
+        Lead::Over(answer) => answer,
+        Lead::Ready(own, _, state) => state.finish(own.end),
+    }
 }
 
 // What stands behind the last token of a block: the trivia of its `}`, and a newline as before an end.

@@ -12,7 +12,7 @@ use Rattle.answers.specs.declared.Refusal.{Refusal}
 use Rattle.text.proofs.Choices.{by-test, true-false, and-true-left, and-true-right}
 use Rattle.tree.specs.Tree.{built}
 use Rattle.tree.specs.Grammar.{kindOf, rule}
-use Rattle.tree.specs.Own.{mayStand, readOwn, refusalOf, Fits, OwnFits}
+use Rattle.tree.specs.Own.{mayStand, readOwn, refusalOf, Fits, OwnFits, ownEnd}
 use Rattle.tree.specs.Reading.{Reader, triviaOf, fieldsDue, partsDue, readParts, readOn, unread, read}
 use Rattle.tree.specs.declared.grammar.Class.{Class}
 use Rattle.tree.specs.declared.grammar.Kind.{Kind}
@@ -33,7 +33,7 @@ use Rattle.printing.proofs.Running.{told, alike, stopped-there, full-before}
 use Rattle.events.specs.Printed.{Style, printed}
 use Rattle.events.specs.Trees.{word, triviaEvents, leaf, eventsIn}
 use Rattle.leaves.specs.Items.{itemsAt}
-use Rattle.leaves.specs.Leaves.{LeafClass, ownEvents, ownEnd}
+use Rattle.leaves.specs.Leaves.{LeafClass, ownEvents}
 use Rattle.leaves.proofs.Items.{items-kept}
 
 -- ---- own bytes that were read

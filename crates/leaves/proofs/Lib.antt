@@ -4,3 +4,4 @@ pub mod Leaves
 pub mod Records
 pub mod Fielded
 pub mod Classes
+pub mod Opening

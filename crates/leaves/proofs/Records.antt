@@ -14,7 +14,7 @@ use Rattle.tree.specs.declared.grammar.Class.{Class}
 use Rattle.tree.specs.declared.own.Own.{Own}
 use Rattle.tree.specs.declared.own.OwnRead.{OwnRead}
 use Rattle.tree.specs.declared.own.OwnRead.the-variants.{Record, Refused}
-use Rattle.tree.specs.Parts.{skipped}
+use Rattle.tree.specs.Parts.{skipped, refusedSkip}
 use Rattle.tree.specs.declared.parts.Skipped.{Skipped}
 use Rattle.tree.specs.declared.parts.Skipped.the-variants.{Next, NotSkipped}
 use Rattle.tree.proofs.Readings.{no-record}
@@ -30,7 +30,7 @@ use Rattle.events.specs.Refusals.{firstRefusal}
 use Rattle.events.specs.Trees.{triviaEvents, skipping, Place, eventsIn}
 use Rattle.events.proofs.Refusals.{skip-passed, skip-refused}
 use Rattle.leaves.specs.Items.{itemsAt}
-use Rattle.leaves.specs.Records.{OpensAt, Opens, Skips, refusedSkip}
+use Rattle.leaves.specs.Records.{OpensAt, Opens, Skips}
 use Rattle.leaves.specs.declared.record.Opened.{Opened}
 use Rattle.leaves.specs.declared.record.Opened.the-variants as opened-is
 use Rattle.leaves.proofs.Leaves.{own-items, full-refused}

@@ -22,8 +22,3 @@ abbrev pub ownEvents : Context → Style → Bool → List ℕ → OwnRead → E
 ownEvents context style shown bytes (Record own) =
     cond shown (triviaEvents context (triviaOf bytes own)) nothing ▹ word context (printed context style (textOf bytes own))
 ownEvents context style shown bytes (Refused why) = stop why
-
--- the place behind a record's own bytes, which of a leaf are all
-abbrev pub ownEnd : ℕ → OwnRead → ℕ
-ownEnd at (Record own) = own .end
-ownEnd at (Refused why) = at

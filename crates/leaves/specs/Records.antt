@@ -2,22 +2,25 @@
 use Prim.Native.Nat.{ℕ, _/_}
 use mathlib.Core.Path.{_≡_}
 use mathlib.Core.List.{List, [], _∷_}
-use mathlib.Core.Bool.{Bool, true, cond}
-use Rattle.answers.specs.declared.Refusal.{Refusal}
+use mathlib.Core.Bool.{Bool, true, false, cond, _&&_}
+use lib.Dec.{eqb}
+use Rattle.answers.specs.Numbers.{numbersOf}
 use Rattle.tree.specs.Tree.{Tree, absent, built}
 use Rattle.tree.specs.Grammar.{Slot, must, may, fields}
-use Rattle.tree.specs.Own.{layout, readOwn, OwnFits}
+use Rattle.tree.specs.Own.{readOwn, OwnFits, ownNumbers}
 use Rattle.tree.specs.Reading.{Reader, triviaOf, read}
 use Rattle.tree.specs.declared.grammar.Class.{Class}
 use Rattle.tree.specs.declared.grammar.Kind.{Kind}
 use Rattle.tree.specs.declared.own.Own.{Own}
+use Rattle.tree.specs.declared.own.OwnRead.{OwnRead}
 use Rattle.tree.specs.declared.own.OwnRead.the-variants as own-is
-use Rattle.tree.specs.declared.parts.Skipped.{Skipped}
-use Rattle.tree.specs.declared.parts.Skipped.the-variants.{Next, NotSkipped}
 use Rattle.printing.specs.Events.{nothing}
-use Rattle.printing.specs.Running.{Run, going, run, placeOf, outcome, finished, Shown, Prints}
+use Rattle.printing.specs.Running.{Run, going, run, placeOf, outcome, finished, roomOf, stateOf, Shown, Prints}
+use Rattle.printing.specs.Running.{numbersPrinted, finishNumbers}
+use Rattle.printing.specs.declared.CodeFormatter.{CodeFormatter}
 use Rattle.printing.specs.declared.Context.{Context}
 use Rattle.printing.specs.declared.Printed.{Printed}
+use Rattle.printing.specs.declared.Printed.the-variants as answer-is
 use Rattle.events.specs.Views.{bitAt}
 use Rattle.events.specs.Trees.{triviaEvents, skipping, Place, eventsIn}
 use Rattle.leaves.specs.declared.record.Opened.{Opened}
@@ -69,17 +72,49 @@ pub record Opens (opened : Opened) (left : List ℕ) (before : Printed) (room : 
     (stands : Bool) : Type 0 where
   pub from : (at : ℕ) → placeOf before at ≡ at → OpensAt opened left (outcome before room) context shown levels bytes class stands at
 
+-- ---- the one answer of `open`, with the room and the numbers: a record is opened behind an answer that can go on, where it stands and its own bytes are read
+
+abbrev pub triviaRun : List ℕ → CodeFormatter → Context → Bool → List ℕ → Own → Run
+triviaRun room state context shown bytes own = run (cond shown (triviaEvents context (triviaOf bytes own)) nothing) (going room state)
+
+abbrev pub openedOn : List ℕ → CodeFormatter → Context → Bool → List ℕ → OwnRead → Opened
+openedOn room state context shown bytes (own-is.Record own) = Record own (stateOf (triviaRun room state context shown bytes own))
+openedOn room state context shown bytes (own-is.Refused why) = Closed (answer-is.Refused why)
+
+abbrev pub roomOn : List ℕ → CodeFormatter → Context → Bool → List ℕ → OwnRead → List ℕ
+roomOn room state context shown bytes (own-is.Record own) = roomOf (triviaRun room state context shown bytes own)
+roomOn room state context shown bytes (own-is.Refused why) = room
+
+unfoldable pub openedBy : Printed → List ℕ → Context → Bool → ℕ → List ℕ → Class → Bool → Opened
+openedBy (answer-is.Refused why) room context shown levels bytes class stands = Closed (answer-is.Refused why)
+openedBy (answer-is.Done state at) room context shown levels bytes class stands =
+    cond (stands && eqb (state .full) 0) (openedOn room state context shown bytes (readOwn bytes at class levels)) (Closed (finished state at))
+
+unfoldable pub openedRoom : Printed → List ℕ → Context → Bool → ℕ → List ℕ → Class → Bool → List ℕ
+openedRoom (answer-is.Refused why) room context shown levels bytes class stands = room
+openedRoom (answer-is.Done state at) room context shown levels bytes class stands =
+    cond (stands && eqb (state .full) 0) (roomOn room state context shown bytes (readOwn bytes at class levels)) room
+
+-- in document 01's numbers: 0 with the place behind the own bytes, or those of the answer
+abbrev pub numbersOpened : Opened → ℕ × ℕ
+numbersOpened (Record own state) = (0, own .end)
+numbersOpened (Closed answer) = numbersPrinted answer
+
+unfoldable pub openedNumbers : Printed → ℕ → List ℕ → Class → Bool → ℕ × ℕ
+openedNumbers (answer-is.Refused why) levels bytes class stands = numbersOf why
+openedNumbers (answer-is.Done state at) levels bytes class stands =
+    cond (stands && eqb (state .full) 0) (ownNumbers bytes at class levels) (finishNumbers state at)
+
 abbrev pub closedBy : Opened → Printed
 closedBy (Closed answer) = answer
 closedBy (Record own state) = finished state (own .end)
+
+unfoldable pub closedNumbers : Opened → ℕ × ℕ
+closedNumbers (Closed answer) = numbersPrinted answer
+closedNumbers (Record own state) = finishNumbers state (own .end)
 
 -- ---- a record that is skipped
 
 pub record Skips (answer last : Printed) (levels : ℕ) (bytes : List ℕ) (class : Class) (stands : Bool) : Type 0 where
   pub from : (room : List ℕ) → Prints answer room last room (λ at. skipping (cond stands (read levels bytes class at .tree) absent))
       (λ at. cond stands (read levels bytes class at .end) at)
-
--- the refusal that skipping met
-abbrev pub refusedSkip : Skipped → Refusal
-refusedSkip (NotSkipped refusal) = refusal
-refusedSkip (Next place) = layout place

@@ -14,7 +14,7 @@ ghost use mathlib.Core.Bool.{true, cond};
 ghost use Prim.Native.Nat.{_≤_};
 ghost use lib.ListN.{length};
 ghost use lib.Seq.{slice};
-ghost use Rattle.tree.specs.Own.{readOwn};
+ghost use Rattle.tree.specs.Own.{readOwn, ownEnd};
 ghost use Rattle.tree.specs.Reading.{read};
 ghost use Rattle.printing.specs.Events.{nothing, _▹_};
 ghost use Rattle.printing.specs.Running.{going, run, Shown, Prints};
@@ -23,7 +23,7 @@ ghost use Rattle.events.specs.Trees as Trees;
 ghost use Rattle.events.specs.Trees.{word, triviaEvents, eventsIn};
 ghost use Rattle.leaves.specs.Items.{itemsAt};
 ghost use Rattle.leaves.specs.Texts.{styleOf};
-ghost use Rattle.leaves.specs.Leaves.{LeafClass, ownEvents, ownEnd};
+ghost use Rattle.leaves.specs.Leaves.{LeafClass, ownEvents};
 ghost use Rattle.leaves.specs.Records.{PrintsRecord, PrintsField};
 
 // The chunks of trivia that may be shown or not. Most records have none: they are not worth a call.

@@ -1,7 +1,5 @@
 // Records: their own bytes are read, their trivia printed where they are shown, and what is stored before it is printed is skipped.
 use crate::leaf;
-use answers::Reason;
-use answers::Refusal;
 use printing::CodeFormatter;
 use printing::Context;
 use printing::Printed;
@@ -12,8 +10,9 @@ use tree::own::OwnRead;
 use tree::parts;
 use tree::parts::Skipped;
 ghost use mathlib.Core.Path.{_≡_};
+ghost use Rattle.printing.specs.Running.{numbersPrinted};
 ghost use Rattle.events.specs.Views.{bitAt};
-ghost use Rattle.leaves.specs.Records.{Opens, closedBy, Skips, refusedSkip};
+ghost use Rattle.leaves.specs.Records.{Opens, openedBy, openedRoom, numbersOpened, openedNumbers, closedBy, closedNumbers, Skips};
 
 // A record that was opened: its own bytes, and the state behind its trivia; or the answer where there is none to go on with.
 pub enum Opened {
@@ -46,6 +45,9 @@ pub fn open(
     last: Printed,
 ) -> Opened
     ensures { λ r. ⌜ Opens r (now (room .exit)) last (now (room .entry)) context shown levels (now (tree .entry)) class stands ⌝ }
+    ensures { λ r. ⌜ r ≡ openedBy last (now (room .entry)) context shown levels (now (tree .entry)) class stands ⌝ }
+    ensures { λ _. ⌜ now (room .exit) ≡ openedRoom last (now (room .entry)) context shown levels (now (tree .entry)) class stands ⌝ }
+    ensures { λ r. ⌜ numbersOpened r ≡ openedNumbers last levels (now (tree .entry)) class stands ⌝ }
 {
     let Printed::Done(state, at) = last else {
         return Opened::Closed(last);
@@ -75,23 +77,11 @@ pub fn open(
 // The answer where a record was not opened.
 pub fn closed(opened: Opened) -> Printed
     ensures { λ r. ⌜ r ≡ closedBy opened ⌝ }
+    ensures { λ r. ⌜ numbersPrinted r ≡ closedNumbers opened ⌝ }
 {
     match opened {
         Opened::Closed(answer) => answer,
         Opened::Record(own, state) => state.finish(own.end),
-    }
-}
-
-// The refusal that skipping met; a record that was skipped has none, and the place behind it stands for one.
-fn refused_skip(found: Skipped) -> Refusal
-    ensures { λ r. ⌜ r ≡ refusedSkip found ⌝ }
-{
-    match found {
-        Skipped::NotSkipped(refusal) => refusal,
-        Skipped::Next(place) => Refusal {
-            reason: Reason::TreeLayout,
-            place: place,
-        },
     }
 }
 
@@ -110,7 +100,7 @@ pub fn skip(tree: &[u8], levels: usize, class: Class, stands: bool, last: Printe
     }
     let found = parts::skip(tree, at, class, levels);
     let Skipped::Next(place) = found else {
-        return Printed::Refused(refused_skip(found));
+        return Printed::Refused(parts::refused_skip(found));
     };
     state.finish(place)
 }

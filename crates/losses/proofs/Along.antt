@@ -10,7 +10,8 @@ use Rattle.text.proofs.Choices.{by-test}
 use Rattle.tree.specs.Grammar.{Slot, rule}
 use Rattle.tree.specs.Reading.{Due, nothing, due, slotClass, fieldsDue, itemsDue, Reader, readParts}
 use Rattle.tree.specs.Tree.{Tree, absent, chain}
-use Rattle.tree.specs.Walk.{standing, classNumber}
+use Rattle.tree.specs.Rows.{classNumber}
+use Rattle.tree.specs.Walk.{standing}
 use Rattle.tree.specs.declared.grammar.Class.{Class}
 use Rattle.tree.specs.declared.grammar.Items.{Items}
 use Rattle.tree.specs.declared.grammar.Items.the-variants.{NoList, ListOf}

@@ -9,7 +9,7 @@ use denote.Enum.Declared.{tagOf}
 use lib.Dec.{T, eqb}
 use borrow.Author.Tests.{eqb-true}
 use Rattle.text.proofs.Choices.{by-test}
-use Rattle.tree.specs.Walk.{classNumber, classOf}
+use Rattle.tree.specs.Rows.{classNumber, classOf}
 use Rattle.tree.specs.declared.grammar.Class.{Class}
 use Rattle.tree.proofs.grammar.Class.{the-type}
 use Rattle.tree.proofs.Rows.{class-back}

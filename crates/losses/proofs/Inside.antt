@@ -1,5 +1,5 @@
 -- Every record that uses a place stands within the bytes; so the offset and the letters of an answer are small.
---   narrow-lost : loss ≡ lostFrom from bytes → (loss ≡ lostFrom from bytes) × Narrow loss
+--   narrow-lost : loss ≡ lostFrom from bytes → (loss ≡ lostFrom from bytes) × (Narrow loss × (numbersLost loss ≡ numbersLost (lostFrom from bytes)))
 use mathlib.Core.Path.{_≡_, refl, sym, ap, subst, _∙_}
 use mathlib.Core.List.{List, [], _∷_, _++_}
 use mathlib.Core.Bool.{Bool, true, false, cond, not, _&&_, _||_}
@@ -17,7 +17,8 @@ use Rattle.tree.specs.Own.{readOwn}
 use Rattle.tree.specs.Parts.{headAt}
 use Rattle.tree.specs.Reading.{Due, nothing, due, Reading, Reader, partsDue, readParts, read}
 use Rattle.tree.specs.Checking.{readFile, batchChecked}
-use Rattle.tree.specs.Walk.{standing, classNumber}
+use Rattle.tree.specs.Rows.{classNumber}
+use Rattle.tree.specs.Walk.{standing}
 use Rattle.tree.specs.declared.grammar.Class.{Class}
 use Rattle.tree.specs.declared.grammar.Class.the-variants.{Tokens}
 use Rattle.tree.specs.declared.own.Own.{Own}
@@ -36,7 +37,7 @@ use Rattle.events.proofs.Refusals.{read-refusal}
 use Rattle.leaves.proofs.Records.{read-record}
 use Rattle.reading.specs.Places.{Spot, Use, openingBrace, labelColon, valueHead, importPath, pathItem, registerLetter, expressionHead, closingCharacter}
 use Rattle.reading.specs.Places.{hasComment, mark, atClosingCharacter}
-use Rattle.losses.specs.Lost.{firstsIn, leastOf, bitAt, lettersAt, lostFrom, Narrow}
+use Rattle.losses.specs.Lost.{firstsIn, leastOf, bitAt, lettersAt, lostFrom, numbersLost, Narrow}
 use Rattle.losses.specs.Visits.{firstOf, seenIn, ownMarks, headMarks, closingMarks, ownUses, listedBelow, usesAlong, checkedAlong, partTrees, TokenClass}
 use Rattle.losses.specs.declared.firsts.First.{First}
 use Rattle.losses.specs.declared.firsts.First.the-variants.{At, Never}
@@ -247,7 +248,8 @@ lost-on-narrow from bytes Passed (At at) is here =
     rw (is, here) (omega (arith, below, short), letters-some firsts at (spot .0) (spot .1), letters-most firsts at)
 
 -- an answer that is what the definition says is small
-pub narrow-lost : (loss : Loss) (from : ℕ) (bytes : List ℕ) → loss ≡ lostFrom from bytes → (loss ≡ lostFrom from bytes) × Narrow loss
+pub narrow-lost : (loss : Loss) (from : ℕ) (bytes : List ℕ) → loss ≡ lostFrom from bytes
+    → (loss ≡ lostFrom from bytes) × (Narrow loss × (numbersLost loss ≡ numbersLost (lostFrom from bytes)))
 narrow-lost loss from bytes is =
     let narrow : Narrow (lostFrom from bytes) = lost-on-narrow from bytes (batchChecked bytes) (leastOf (firstsIn from (readFile 64 bytes .tree))) refl refl in
-    (is, rw is narrow)
+    (is, (rw is narrow, ap numbersLost is))

@@ -6,7 +6,7 @@ use Prim.Native.Nat.{ℕ}
 use lib.Dec.{eqb}
 use borrow.Author.Tests.{eqb-true}
 use Rattle.text.proofs.Choices.{by-test}
-use Rattle.tree.specs.Walk.{classNumber}
+use Rattle.tree.specs.Rows.{classNumber}
 use Rattle.tree.specs.declared.grammar.Class.{Class}
 use Rattle.reading.specs.Places.{Spot, Use, spotNumber, openingBrace, labelColon, valueHead, importPath, pathItem, registerLetter, expressionHead, mark}
 use Rattle.losses.specs.Lost.{firstWith, firstFrom}

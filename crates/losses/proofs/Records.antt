@@ -14,7 +14,8 @@ use Rattle.tree.specs.Grammar.{Slot, kindOf, rule, fields}
 use Rattle.tree.specs.Own.{mayStand, readOwn}
 use Rattle.tree.specs.Reading.{Due, triviaOf, textOf, fieldsDue, partsDue, Reader, readParts, read}
 use Rattle.tree.specs.Tree.{Tree, Trivium, absent, node, built}
-use Rattle.tree.specs.Walk.{classNumber, classOf, standing}
+use Rattle.tree.specs.Rows.{classNumber, classOf}
+use Rattle.tree.specs.Walk.{standing}
 use Rattle.tree.specs.declared.grammar.Kind.{Kind}
 use Rattle.tree.specs.declared.grammar.Kind.the-variants as variant
 use Rattle.tree.specs.declared.grammar.KindRead.the-variants.{Known}

@@ -12,7 +12,7 @@ use Rattle.tree.specs.Grammar.{kindOf}
 use Rattle.tree.specs.Own.{readOwn}
 use Rattle.tree.specs.Reading.{triviaOf, read}
 use Rattle.tree.specs.Tree.{Tree}
-use Rattle.tree.specs.Walk.{classNumber}
+use Rattle.tree.specs.Rows.{classNumber}
 use Rattle.tree.specs.declared.grammar.Class.{Class}
 use Rattle.tree.specs.declared.grammar.Kind.the-variants as variant
 use Rattle.tree.specs.declared.grammar.KindRead.the-variants.{Known}

@@ -1,8 +1,11 @@
 -- `lost`: the first record at or after an offset that uses one of the eight places, with the letters of the places that it uses.
-use Prim.Native.Nat.{ℕ, _+_, _≤_}
+use Prim.Native.Nat.{ℕ, _+_, _*_, _≤_}
 use mathlib.Core.List.{List, [], _∷_}
 use mathlib.Core.Bool.{Bool, false, cond}
 use lib.Dec.{eqb, ltb}
+use Rattle.answers.specs.Numbers.{numbers}
+use Rattle.answers.specs.declared.Answer.{Answer}
+use Rattle.answers.specs.declared.Answer.the-variants as answer
 use Rattle.answers.specs.declared.Checked.{Checked}
 use Rattle.answers.specs.declared.Checked.the-variants.{Passed, Failed}
 use Rattle.tree.specs.Tree.{Tree}
@@ -84,6 +87,17 @@ lostOn from tree Passed = answerWith (firstsIn from tree) (leastOf (firstsIn fro
 -- the refusal that `check_tree` gives, or the least offset at or after `from` of a record that uses a place, with its letters, or none
 unfoldable pub lostFrom : ℕ → List ℕ → Loss
 lostFrom from bytes = lostOn from (readFile 64 bytes .tree) (batchChecked bytes)
+
+-- ---- its number and value
+
+-- a record that uses a place: 65,536 times its letters plus its offset, which is below 65,536; 0 where there is none
+abbrev pub lossAnswer : Loss → Answer
+lossAnswer (Used at letters) = answer.Accepted (65536 * letters + at)
+lossAnswer Unused = answer.Accepted 0
+lossAnswer (Refused refusal) = answer.Refused refusal
+
+abbrev pub numbersLost : Loss → ℕ × ℕ
+numbersLost loss = numbers (lossAnswer loss)
 
 -- ---- how large an answer is: an offset that two bytes hold, and letters that one byte holds, one of them at least
 

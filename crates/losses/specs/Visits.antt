@@ -13,7 +13,7 @@ use Rattle.tree.specs.Own.{readOwn}
 use Rattle.tree.specs.Parts.{skipped}
 use Rattle.tree.specs.Reading.{Reader, partsDue, readParts, read}
 use Rattle.tree.specs.Tree.{Tree, absent, built}
-use Rattle.tree.specs.Walk.{classNumber}
+use Rattle.tree.specs.Rows.{classNumber}
 use Rattle.tree.specs.declared.grammar.Class.{Class}
 use Rattle.tree.specs.declared.grammar.Kind.the-variants as kind
 use Rattle.tree.specs.declared.own.Own.{Own}

@@ -7,7 +7,7 @@ use lib.Dec.{eqb, ltb}
 use Rattle.answers.specs.declared.Checked.{Checked}
 use Rattle.answers.specs.declared.Checked.the-variants.{Passed, Failed}
 use Rattle.answers.specs.declared.Reason.the-variants.{OptionsLength, OptionsValue}
-use Rattle.answers.specs.Numbers.{number}
+use Rattle.answers.specs.Numbers.{numbersOf}
 use Rattle.options.specs.Types.{optionsOf, Narrow}
 use Rattle.options.specs.declared.FormattingOptions.{FormattingOptions}
 use Rattle.options.specs.declared.OptionsRead.{OptionsRead}
@@ -73,10 +73,21 @@ readOptions stored =
     (Refused (record { reason = OptionsLength; place = 0 }))
     (accepted (valuesChecked stored 0 8) (storedOptions stored))
 
--- the answer's number and place; options that were read have no length or place
+-- ---- in document 01's numbers: (0, 0), or a refusal's number and place
+
+-- of an answer; options that were read have no length or place
 abbrev pub numbersRead : OptionsRead → ℕ × ℕ
 numbersRead (Options options) = (0, 0)
-numbersRead (Refused refusal) = (number (refusal .reason), refusal .place)
+numbersRead (Refused refusal) = numbersOf refusal
+
+-- "A casing, brace or alignment value is above 1 or the indent above 64; place of the first such byte.", of the n fields from field k on
+unfoldable pub valuesNumbers : List ℕ → ℕ → ℕ → ℕ × ℕ
+valuesNumbers stored k zero = (0, 0)
+valuesNumbers stored k (suc n) = cond (tooLarge stored k) (2, placeOf (mapOf stored) k) (valuesNumbers stored (k + 1) n)
+
+-- of stored bytes: 1 at 0, 2 at the byte, or 0
+unfoldable pub optionsNumbers : List ℕ → ℕ × ℕ
+optionsNumbers stored = cond (lengthWrong stored) (1, 0) (valuesNumbers stored 0 8)
 
 -- what holds of options that were read
 abbrev pub NarrowRead : OptionsRead → Type 0

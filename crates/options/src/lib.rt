@@ -4,6 +4,7 @@ ghost use Prim.Native.Nat.{_≤_, _<_, _+_};
 ghost use lib.ListN.{getD};
 ghost use Rattle.options.specs.Types.{casingOf, positionOf, alignmentOf, optionsOf};
 ghost use Rattle.options.specs.Stored.{bit, placeOf, defaults, largest, mapOf, valueOf, tooLarge, valuesChecked, storedOptions, readOptions, NarrowRead};
+ghost use Rattle.options.specs.Stored.{numbersRead, optionsNumbers};
 ghost use Rattle.options.specs.Casings.{casedByte, cased};
 use answers::Checked;
 use answers::Reason;
@@ -286,6 +287,7 @@ fn stored_options(stored: &[u8]) -> FormattingOptions
 pub fn read_options(stored: &[u8]) -> OptionsRead
     ensures { λ r. ⌜ r ≡ readOptions (now (stored .entry)) ⌝ }
     ensures { λ r. ⌜ NarrowRead r ⌝ }
+    ensures { λ r. ⌜ numbersRead r ≡ optionsNumbers (now (stored .entry)) ⌝ }
 {
     let length = stored.len();
     if length == 0 {

@@ -9,7 +9,7 @@ use Rattle.answers.specs.declared.Refusal.{Refusal}
 use Rattle.text.proofs.Choices.{by-test}
 use Rattle.chunks.specs.declared.stored.ChunkType.{ChunkType}
 use Rattle.printing.specs.Events.{Events, nothing, push, space, clear, trim, stop, _▹_}
-use Rattle.printing.specs.Running.{Run, going, ended, run, spaced, cleared, trimmed, noRoom, settled, finished, outcome, placeOf, Shown, Prints}
+use Rattle.printing.specs.Running.{Run, going, ended, run, spaced, cleared, trimmed, noRoom, settled, finished, outcome, placeOf, numbersPrinted, numbersRun, finishNumbers, Shown, Prints}
 use Rattle.printing.specs.declared.Context.{Context}
 use Rattle.printing.specs.declared.CodeFormatter.{CodeFormatter}
 use Rattle.printing.specs.declared.Printed.{Printed}
@@ -135,12 +135,27 @@ module _ {answer : Printed} {room : List ℕ} {events : Events} {before : Run} {
 
 -- ---- what a printer shows
 
+-- a record's end has the numbers of its state
+pub finished-numbers : (state : CodeFormatter) (end : ℕ) → numbersPrinted (finished state end) ≡ finishNumbers state end
+unfolding finishNumbers
+finished-numbers state end = by-test (eqb (state .full) 0) (λ left. rw left refl) (λ full. rw full refl)
+
+-- an answer that says of the run and of the place what is so has its numbers too
+run-numbers : (answer : Printed) (room : List ℕ) {after : Run} (end : ℕ) → outcome answer room ≡ after → placeOf answer end ≡ end
+    → numbersPrinted answer ≡ numbersRun after end
+run-numbers (Done state at) room end is placed = ap (λ (n : ℕ). (0, n)) placed ∙ ap (λ (x : Run). numbersRun x end) is
+run-numbers (Refused why) room end is placed = ap (λ (x : Run). numbersRun x end) is
+
+pub shows : {answer : Printed} {room : List ℕ} {events : Events} {before : Run} {end : ℕ} → outcome answer room ≡ settled (run events before) → placeOf answer end ≡ end
+    → Shown answer room events before end
+shows {answer} {room} {end = end} is placed = record { state = is; next = placed; numbers = run-numbers answer room end is placed }
+
 -- the first events have been run, and the rest is shown
 infixr 50 _then_
 pub _then_ : {answer : Printed} {room : List ℕ} {first next : Events} {before after : Run} {end : ℕ} → Ran first before after → Shown answer room next after end → Shown answer room (first
     ▹ next) before end
 unfolding run
-_then_ {next = next} first shown = record { state = shown .state ∙ ap (λ (x : Run). settled (run next x)) (sym (first .ran)); next = shown .next }
+_then_ {next = next} first shown = shows (shown .state ∙ ap (λ (x : Run). settled (run next x)) (sym (first .ran))) (shown .next)
 
 -- what is shown of events and a place is shown of those that equal them
 pub told : {answer : Printed} {room : List ℕ} {events others : Events} {before : Run} {end place : ℕ} → events ≡ others → end ≡ place
@@ -151,22 +166,22 @@ told named placed shown = rw (← named, ← placed) shown
 pub handed-on : {answer : Printed} {room : List ℕ} {first next : Events} {before : Run} {end place : ℕ} {why : Refusal}
     → Shown answer room first before end → answer ≡ Refused why → Shown answer room (first ▹ next) before place
 unfolding run
-handed-on {answer} {room} {first} {next} {before} {end} {place} {why} shown refused = record {
-  state = ap (λ (a : Printed). outcome a room) refused
-      ∙ sym (sym (run-settled next (run first before))
-      ∙ ap (λ (x : Run). settled (run next x)) (sym (shown .state) ∙ ap (λ (a : Printed). outcome a room) refused)
-      ∙ ap settled (run-ended next room why));
-  next = ap (λ (a : Printed). placeOf a place) refused;
-}
+handed-on {answer} {room} {first} {next} {before} {end} {place} {why} shown refused =
+    shows
+    (ap (λ (a : Printed). outcome a room) refused
+    ∙ sym (sym (run-settled next (run first before))
+    ∙ ap (λ (x : Run). settled (run next x)) (sym (shown .state) ∙ ap (λ (a : Printed). outcome a room) refused)
+    ∙ ap settled (run-ended next room why)))
+    (ap (λ (a : Printed). placeOf a place) refused)
 
 -- a reading found a refusal
 pub stopped-there : {room : List ℕ} {state : CodeFormatter} {why : Refusal} {end : ℕ} → state .full ≡ 0 → Shown (Refused why) room (stop why) (going room state) end
 unfolding run
-stopped-there left = record { state = rw (eq-eqb _ _ left); next = refl }
+stopped-there left = shows (rw (eq-eqb _ _ left)) refl
 
 -- a state that was full before anything was read
 pub full-before : {room : List ℕ} {events : Events} {state : CodeFormatter} {end : ℕ} → (state .full ≡ 0 → ⊥) → Shown (Refused (noRoom state)) room events (going room state) end
-full-before {room} {events} {state} full = record { state = sym (run-full events room state full); next = refl }
+full-before {room} {events} {state} full = shows (sym (run-full events room state full)) refl
 
 -- the answer at a record's end, where all its events have been run
 pub finish : {answer : Printed} {room : List ℕ} {events : Events} {before : Run} {at end : ℕ} {state : CodeFormatter}
@@ -175,10 +190,10 @@ finish {answer} {room} {events} {before} {at} {end} {state} all answered place =
     by-test (eqb (state .full) 0)
     (λ left.
     let same : answer ≡ Done state at = rw left at answered in
-    record { state = rw (same, all .ran, left); next = rw same place })
+    shows (rw (same, all .ran, left)) (rw same place))
     (λ full.
     let same : answer ≡ Refused (noRoom state) = rw full at answered in
-    record { state = rw (same, all .ran, full); next = rw same })
+    shows (rw (same, all .ran, full)) (rw same))
 
 -- ---- what goes on from an answer
 
@@ -188,21 +203,20 @@ pub _thence_ : {answer last : Printed} {room left : List ℕ} {first next : Even
     → Shown answer room first before end → Shown last left next (outcome answer room) behind → Shown last left (first ▹ next) before behind
 unfolding run
 _thence_ {first = first} {next = next} {before = before} one other =
-    record { state = other .state ∙ ap (λ (x : Run). settled (run next x)) (one .state) ∙ run-settled next (run first before); next = other .next }
+    shows (other .state ∙ ap (λ (x : Run). settled (run next x)) (one .state) ∙ run-settled next (run first before)) (other .next)
 
 -- what is shown of events is shown of others that run alike
 pub alike : {answer : Printed} {room : List ℕ} {events others : Events} {before : Run} {end : ℕ} → ((x : Run) → run events x ≡ run others x)
     → Shown answer room events before end → Shown answer room others before end
-alike {before = before} same shown = record { state = shown .state ∙ ap settled (same before); next = shown .next }
+alike {before = before} same shown = shows (shown .state ∙ ap settled (same before)) (shown .next)
 
 -- what was refused stays refused
 pub refused-before : {before : Printed} {room : List ℕ} {events : ℕ → Events} {end : ℕ → ℕ} {why : Refusal} → before ≡ Refused why
     → Prints before room before room events end
 refused-before {room = room} {events} {end} {why} is = record {
-  from = λ at here. record {
-    state = ap (λ (a : Printed). outcome a room) is ∙ sym (ap (λ (a : Printed). settled (run (events at) (outcome a room))) is ∙ ap settled (run-ended (events at) room why));
-    next = ap (λ (a : Printed). placeOf a (end at)) is;
-  };
+  from = λ at here. shows
+      (ap (λ (a : Printed). outcome a room) is ∙ sym (ap (λ (a : Printed). settled (run (events at) (outcome a room))) is ∙ ap settled (run-ended (events at) room why)))
+      (ap (λ (a : Printed). placeOf a (end at)) is);
 }
 
 -- and so does a refusal that is made anew

@@ -5,6 +5,7 @@ use mathlib.Core.List.{List}
 use mathlib.Core.Bool.{Bool, true, false, cond, not, _||_}
 use lib.ListN.{length}
 use lib.Dec.{eqb}
+use Rattle.answers.specs.Numbers.{numbersOf}
 use Rattle.answers.specs.declared.Refusal.{Refusal}
 use Rattle.answers.specs.declared.Reason.the-variants.{WorkRoom}
 use Rattle.text.specs.Lines.{isEmpty, isNewline}
@@ -51,12 +52,18 @@ grown state end newline = record { used = end; solid = cond newline (state .soli
 abbrev pub filled : CodeFormatter → ℕ → CodeFormatter
 filled state needed = record { used = state .used; solid = state .solid; «spc_if_next» = state .«spc_if_next»; full = needed }
 
--- the state behind an appended chunk, exactly a newline or not; a chunk that cannot be stored (which none of a checked tree is) counts as one that fits in no room
+-- What a state remembers that was lent a chunk without a stored form, or that says that more is used than the room has: one more byte than any room counts.
+-- It is no place of document 01. No tree pushes such a chunk (`file-storable`, events) and no walk comes to such a state (`Holds`, Holding), so `chunks` and
+-- `format` never give it: what they refuse with 8 is said by `hold` (Holding), which does not know it. Only a caller who pushes by hand can meet it.
+abbrev pub unstorable : ℕ
+unstorable = 1048577
+
+-- the state behind an appended chunk, exactly a newline or not
 abbrev pub behind : CodeFormatter → Bool → Appended → CodeFormatter
 behind state newline (Used end) = grown state end newline
 behind state newline (NoRoom needed) = filled state needed
-behind state newline NoChunk = filled state 1048577
-behind state newline UsedPastRoom = filled state 1048577
+behind state newline NoChunk = filled state unstorable
+behind state newline UsedPastRoom = filled state unstorable
 
 -- "an empty text is no push and keeps the pending space"; on a full state nothing is pushed
 abbrev pub noPush : CodeFormatter → List ℕ → Bool
@@ -109,6 +116,27 @@ settled (ended room why) = ended room why
 abbrev pub finished : CodeFormatter → ℕ → Printed
 finished state end = cond (eqb (state .full) 0) (Done state end) (Refused (noRoom state))
 
+-- the room and the state that a run leaves; one that has ended leaves no state to go on with
+abbrev pub roomOf : Run → List ℕ
+roomOf (going room state) = room
+roomOf (ended room why) = room
+
+abbrev pub stateOf : Run → CodeFormatter
+stateOf (going room state) = state
+stateOf (ended room why) = atStart
+
+-- in document 01's numbers: 0 with the place behind the record, or a refusal's number and place; of an answer, of a run, and of a record's end
+abbrev pub numbersPrinted : Printed → ℕ × ℕ
+numbersPrinted (Done state at) = (0, at)
+numbersPrinted (Refused why) = numbersOf why
+
+abbrev pub numbersRun : Run → ℕ → ℕ × ℕ
+numbersRun (going room state) end = (0, end)
+numbersRun (ended room why) end = numbersOf why
+
+unfoldable pub finishNumbers : CodeFormatter → ℕ → ℕ × ℕ
+finishNumbers state end = cond (eqb (state .full) 0) (0, end) (8, state .full)
+
 -- what an answer says of the run, and of the place behind the record
 abbrev pub outcome : Printed → List ℕ → Run
 outcome (Done state at) room = going room state
@@ -122,6 +150,7 @@ placeOf (Refused why) end = end
 pub record Shown (answer : Printed) (room : List ℕ) (events : Events) (before : Run) (end : ℕ) : Type 0 where
   pub state : outcome answer room ≡ settled (run events before)
   pub next : placeOf answer end ≡ end
+  pub numbers : numbersPrinted answer ≡ numbersRun (settled (run events before)) end
 
 -- what a printer shows that goes on from an answer: at the place of that answer, whichever it is, it shows the events there, and the place behind them
 pub record Prints (answer : Printed) (left : List ℕ) (before : Printed) (room : List ℕ) (events : ℕ → Events) (end : ℕ → ℕ) : Type 0 where

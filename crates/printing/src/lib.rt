@@ -13,6 +13,10 @@ ghost use Rattle.text.specs.Lines.{isEmpty, isNewline};
 ghost use Rattle.chunks.specs.Appending.{withSpace, withColon};
 ghost use Rattle.printing.specs.Events as Events;
 ghost use Rattle.printing.specs.Running.{atStart, isSpaced, spaced, cleared, trimmed, grown, filled, behind, pushed, pushedRoom, finished, Prints};
+ghost use Rattle.printing.specs.Running.{numbersPrinted, finishNumbers};
+
+// What a state remembers that is given a chunk without a stored form: one more byte than any room counts. No tree has such a chunk.
+const UNSTORABLE: usize = 1048577;
 
 // What stays the same down a subtree.
 pub struct Context {
@@ -119,8 +123,8 @@ impl CodeFormatter {
         match appended {
             Appended::Used(end) => self.grown(end, newline),
             Appended::NoRoom(needed) => self.filled(needed),
-            Appended::NoChunk => self.filled(1048577),
-            Appended::UsedPastRoom => self.filled(1048577),
+            Appended::NoChunk => self.filled(UNSTORABLE),
+            Appended::UsedPastRoom => self.filled(UNSTORABLE),
         }
     }
 
@@ -158,6 +162,7 @@ impl CodeFormatter {
     // The answer at the end of a record: a state that is full is refusal 8.
     pub fn finish(self, end: usize) -> Printed
         ensures { λ r. ⌜ r ≡ finished self end ⌝ }
+        ensures { λ r. ⌜ numbersPrinted r ≡ finishNumbers self end ⌝ }
     {
         if self.full == 0 {
             return Printed::Done(self, end);

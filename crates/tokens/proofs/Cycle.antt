@@ -35,7 +35,7 @@ use Rattle.printing.specs.declared.CodeFormatter.{CodeFormatter}
 use Rattle.printing.specs.declared.Context.{Context}
 use Rattle.printing.specs.declared.Printed.{Printed}
 use Rattle.printing.specs.declared.Printed.the-variants.{Done, Refused}
-use Rattle.printing.proofs.Running.{alike, run-ended, refused-before, done-before, _thence_}
+use Rattle.printing.proofs.Running.{shows, alike, run-ended, refused-before, done-before, _thence_}
 use Rattle.events.specs.Printed.{plain}
 use Rattle.events.specs.Trees.{first, tokens, leaf, oneOf, elseEvents, closingEvents, eventsIn}
 use Rattle.events.specs.Views.{tokenNumber, bitAt}
@@ -74,7 +74,7 @@ stays-refused {answer} {events = events} {end = end} is =
 ended-alike : {answer : Printed} {room left : List ℕ} {events others : Events} {why : Refusal} {end : ℕ} → Shown answer room events (ended left why) end
     → Shown answer room others (ended left why) end
 ended-alike {left = left} {events} {others} {why} shown =
-    record { state = shown .state ∙ ap settled (run-ended events left why ∙ sym (run-ended others left why)); next = shown .next }
+    shows (shown .state ∙ ap settled (run-ended events left why ∙ sym (run-ended others left why))) (shown .next)
 
 -- ---- by the number
 

@@ -4,3 +4,4 @@ pub mod FrontParts
 pub mod PlainTokens
 pub mod Whole
 pub mod OnePass
+pub mod Numbers

@@ -20,14 +20,14 @@ use Rattle.tree.specs.Checking.{readFile, plainTree, lengthChecked, endChecked,
 use Rattle.tree.specs.declared.grammar.Class.the-variants.{Tokens}
 use Rattle.tree.proofs.Readings.{passed-file, length-failed}
 use Rattle.tree.proofs.Plain.{plain-passed}
-use Rattle.printing.specs.Running.{atStart, outcome}
+use Rattle.printing.specs.Running.{atStart, outcome, roomOf}
 use Rattle.printing.specs.declared.Printed.{Printed}
 use Rattle.printing.specs.declared.Printed.the-variants.{Done, Refused}
 use Rattle.printing.proofs.Running.{place-behind}
 use Rattle.printing.proofs.Stops.{going-free}
 use Rattle.events.specs.Trees.{first, fileEnd, tokens}
 use Rattle.events.proofs.Judged.{read-judged}
-use Rattle.tokens.specs.Chunks.{fileEvents, heldWith, chunksAnswer, RoomHolds, roomOf, onePassWith}
+use Rattle.tokens.specs.Chunks.{fileEvents, heldWith, chunksAnswer, RoomHolds, onePassWith}
 use Rattle.tokens.specs.Settling.{Walks, printedAnswer, settles}
 use Rattle.tokens.proofs.Whole.{whole-walked}
 

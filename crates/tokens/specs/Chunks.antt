@@ -4,6 +4,7 @@ use mathlib.Core.Path.{_≡_}
 use mathlib.Core.List.{List, [], reverse}
 use mathlib.Core.Bool.{false}
 use lib.ListN.{length, take}
+use Rattle.answers.specs.Numbers.{numbersOf}
 use Rattle.answers.specs.declared.Answer.{Answer}
 use Rattle.answers.specs.declared.Answer.the-variants as answer
 use Rattle.answers.specs.declared.Checked.{Checked}
@@ -15,7 +16,7 @@ use Rattle.options.specs.declared.OptionsRead.the-variants as options-are
 use Rattle.chunks.specs.Stored.{Chunk, storedList}
 use Rattle.tree.specs.Checking.{readFile, lengthChecked, batchChecked}
 use Rattle.printing.specs.Events.{Events}
-use Rattle.printing.specs.Running.{Run, going, ended, atStart, run, settled}
+use Rattle.printing.specs.Running.{going, atStart, run, settled, roomOf}
 use Rattle.printing.specs.Holding.{Held, held, refused, hold}
 use Rattle.events.specs.Trees.{eventsOf}
 use Rattle.events.specs.Accepted.{Acceptable}
@@ -43,16 +44,17 @@ abbrev pub chunksAnswer : Held → Answer
 chunksAnswer (held chunks pending) = answer.Accepted (length (storedList (reverse chunks)))
 chunksAnswer (refused why) = answer.Refused why
 
+-- its number and value by document 01's table
+unfoldable pub numbersHeld : Held → ℕ × ℕ
+numbersHeld (held chunks pending) = (0, length (storedList (reverse chunks)))
+numbersHeld (refused why) = numbersOf why
+
 -- what is used of the room is the stored form of the chunks, oldest first, a list that the column setter accepts
 abbrev pub RoomHolds : Held → List ℕ → Type 0
 RoomHolds (held chunks pending) room = (take (length (storedList (reverse chunks))) room ≡ storedList (reverse chunks)) × Acceptable (reverse chunks)
 RoomHolds (refused why) room = Unit
 
 -- ---- the whole room: untouched after 1 to 7, else as the run of the events leaves it
-
-abbrev pub roomOf : Run → List ℕ
-roomOf (going room state) = room
-roomOf (ended room why) = room
 
 abbrev pub roomUnless : Checked → List ℕ → List ℕ → List ℕ
 roomUnless Passed walked room = walked

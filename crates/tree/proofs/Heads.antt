@@ -16,7 +16,8 @@ use Rattle.text.proofs.Choices.{by-test}
 use Rattle.tree.specs.Grammar.{Slot}
 use Rattle.tree.specs.Own.{layout, triviumEnd, readOwn, Fits, OwnFits}
 use Rattle.tree.specs.Reading.{Placed, slotClass, triviumBehind, triviumText, triviaFrom, read}
-use Rattle.tree.specs.Walk.{slotCode, rowOf, recordOn, recordRead}
+use Rattle.tree.specs.Rows.{slotCode, rowOf}
+use Rattle.tree.specs.Walk.{recordOn, recordRead}
 use Rattle.tree.specs.Parts.{skippedOn, skipped, itemTo, triviumOn, triviumAt, firstClass, fieldHead, innerOn, innerHead, headOn, headBehind, headAt}
 use Rattle.tree.specs.declared.grammar.Class.{Class}
 use Rattle.tree.specs.declared.grammar.Class.the-variants.{BareExpression, BlockRecord}

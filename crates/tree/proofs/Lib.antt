@@ -19,3 +19,4 @@ pub mod Records
 pub mod Plain
 pub mod Judging
 pub mod Heads
+pub mod Numbers

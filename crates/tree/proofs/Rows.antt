@@ -15,7 +15,7 @@ use Rattle.tree.specs.declared.grammar.Class.the-variants.{AddressingMod
 use Rattle.tree.specs.declared.grammar.Class.the-variants.{BareToken, LocatedToken, BlockRecord, StringRecord, OperandRecord, SuffixRecord}
 use Rattle.tree.specs.declared.grammar.Class.the-variants.{AsRecord, ImportArguments, ImportPath, ExpressionArgument, IdentifierArgument}
 use Rattle.tree.specs.declared.grammar.Class.the-variants.{ImportArgument, Tokens, ExpressionArguments, IdentifierArguments, StringItems}
-use Rattle.tree.specs.Walk.{classNumber, classes, classOf, slotCode, rowOf}
+use Rattle.tree.specs.Rows.{classNumber, classes, classOf, slotCode, rowOf}
 
 -- the class of a class's number is the class
 pub class-back : (class : Class) → classOf (classNumber class) ≡ class

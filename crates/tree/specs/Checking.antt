@@ -9,7 +9,7 @@ use Rattle.answers.specs.declared.Checked.{Checked}
 use Rattle.answers.specs.declared.Checked.the-variants.{Passed, Failed}
 use Rattle.answers.specs.declared.Reason.the-variants.{TreeLength, TreeLayout, NotAscii}
 use Rattle.text.specs.Accepted.{acceptedText, faultAt}
-use Rattle.answers.specs.Numbers.{andThen}
+use Rattle.answers.specs.Numbers.{andThen, numbersChecked, unlessRefused}
 use Rattle.tree.specs.Reading.{Placed, Reading, read}
 use Rattle.tree.specs.declared.grammar.Class.the-variants.{Tokens}
 
@@ -49,3 +49,24 @@ treeChecked limit levels bytes =
 -- the batch limits: 65,535 bytes, depth 64
 abbrev pub batchChecked : List ℕ → Checked
 batchChecked bytes = treeChecked 65535 64 bytes
+
+-- ---- in document 01's numbers: (0, 0), or a refusal's number and place
+
+unfoldable pub lengthNumbers : ℕ → List ℕ → ℕ × ℕ
+lengthNumbers limit bytes = cond (eqb (length bytes) 0) (3, 0) (cond (ltb limit (length bytes)) (3, 0) (0, 0))
+
+-- bytes behind the list
+abbrev pub endNumbers : List ℕ → ℕ → ℕ × ℕ
+endNumbers bytes end = cond (ltb end (length bytes)) (5, end) (0, 0)
+
+unfoldable pub textsNumbers : List Placed → ℕ × ℕ
+textsNumbers [] = (0, 0)
+textsNumbers (text ∷ texts) = cond (acceptedText (text .bytes)) (textsNumbers texts) (7, text .place + faultAt (text .bytes))
+
+-- 3; then 4 or 5, where reading ends without the place behind the file's list; then 5 for what stands there; then 7
+unfoldable pub treeNumbers : ℕ → ℕ → List ℕ → ℕ × ℕ
+treeNumbers limit levels bytes =
+    let file = readFile levels bytes in
+    unlessRefused (lengthNumbers limit bytes)
+    (unlessRefused (numbersChecked (file .checked))
+    (unlessRefused (endNumbers bytes (file .end)) (textsNumbers (file .texts))))

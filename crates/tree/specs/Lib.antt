@@ -5,5 +5,7 @@ pub mod Reading
 pub mod Stored
 pub mod Checking
 pub mod Measures
+pub mod Rows
 pub mod Walk
 pub mod Parts
+pub mod Plans

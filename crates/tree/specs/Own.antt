@@ -6,6 +6,7 @@ use mathlib.Core.List.{List, [], _∷_}
 use mathlib.Core.Bool.{Bool, true, false, cond, not, _&&_, _||_}
 use lib.ListN.{length, getD}
 use lib.Dec.{eqb, ltb, leb}
+use Rattle.answers.specs.Numbers.{numbersOf}
 use Rattle.answers.specs.declared.Refusal.{Refusal}
 use Rattle.answers.specs.declared.Reason.the-variants.{TreeDepth, TreeLayout}
 use Rattle.text.specs.Numbers.{readNumber}
@@ -198,3 +199,24 @@ pub record OwnFits (bytes : List ℕ) (at : ℕ) (own : Own) : Type 0 where
 abbrev pub Fits : List ℕ → ℕ → OwnRead → Type 0
 Fits bytes at (Record own) = OwnFits bytes at own
 Fits bytes at (Refused refusal) = Unit
+
+-- ---- in document 01's numbers: 0 with the place behind the own bytes, or a refusal's number and place
+
+abbrev pub numbersOwn : OwnRead → ℕ × ℕ
+numbersOwn (Record own) = (0, own .end)
+numbersOwn (Refused refusal) = numbersOf refusal
+
+-- whether own bytes were read, and where they end
+abbrev pub wasRead : OwnRead → Bool
+wasRead (Record own) = true
+wasRead (Refused refusal) = false
+
+abbrev pub ownEnd : ℕ → OwnRead → ℕ
+ownEnd at (Record own) = own .end
+ownEnd at (Refused refusal) = at
+
+-- 5 at the tree's length where the record is due there; 4 or 5 at its own place
+unfoldable pub ownNumbers : List ℕ → ℕ → Class → ℕ → ℕ × ℕ
+ownNumbers bytes at class levels =
+    let own = ownAt bytes at class in
+    cond (leb (length bytes) at) (5, length bytes) (cond (eqb levels 0) (4, at) (cond (wasRead own) (0, ownEnd at own) (5, at)))

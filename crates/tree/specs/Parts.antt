@@ -4,6 +4,8 @@ use mathlib.Core.List.{List, [], _∷_}
 use mathlib.Core.Bool.{cond, _||_}
 use lib.ListN.{length, getD}
 use lib.Dec.{eqb, leb}
+use Rattle.answers.specs.Numbers.{numbersOf, numbersChecked, unlessRefused}
+use Rattle.answers.specs.declared.Refusal.{Refusal}
 use Rattle.answers.specs.declared.Checked.{Checked}
 use Rattle.answers.specs.declared.Checked.the-variants.{Passed, Failed}
 use Rattle.tree.specs.Grammar.{Slot, rule, fields}
@@ -33,6 +35,11 @@ skippedOn end (Failed refusal) = NotSkipped refusal
 -- the place behind the record of a class, or the first refusal in it
 unfoldable pub skipped : ℕ → List ℕ → Class → ℕ → Skipped
 skipped levels bytes class at = skippedOn (read levels bytes class at .end) (read levels bytes class at .checked)
+
+-- the refusal that skipping met; a record that was skipped has none, and the place behind it stands for one
+abbrev pub refusedSkip : Skipped → Refusal
+refusedSkip (NotSkipped refusal) = refusal
+refusedSkip (Next place) = layout place
 
 -- ---- a trivia item
 
@@ -90,3 +97,52 @@ headBehind levels bytes class at own =
 -- the head of a token's record: its place, its class and the levels left there, or the refusal that is met before it
 unfoldable pub headAt : ℕ → List ℕ → Class → ℕ → HeadRead
 headAt levels bytes class at = headOn levels bytes class at (readOwn bytes at class levels)
+
+-- the refusal on the way to a head; a head that was found has none, and its place stands for one
+abbrev pub refusedHead : HeadRead → Refusal
+refusedHead (NoHead refusal) = refusal
+refusedHead (Found head) = layout (head .place)
+
+-- ---- in document 01's numbers: 0 with the place that was found, or a refusal's number and place
+
+abbrev pub numbersSkipped : Skipped → ℕ × ℕ
+numbersSkipped (Next place) = (0, place)
+numbersSkipped (NotSkipped refusal) = numbersOf refusal
+
+-- of a record with all its parts
+unfoldable pub readNumbers : ℕ → List ℕ → Class → ℕ → ℕ × ℕ
+readNumbers levels bytes class at = unlessRefused (numbersChecked (read levels bytes class at .checked)) (0, read levels bytes class at .end)
+
+abbrev pub numbersHead : HeadRead → ℕ × ℕ
+numbersHead (Found head) = (0, head .place)
+numbersHead (NoHead refusal) = numbersOf refusal
+
+-- of the head among a record's fields: behind the first of a `Data` (5) and a binary expression (28), else the first
+abbrev pub fieldNumbers : ℕ → List ℕ → ℕ → Own → ℕ × ℕ
+fieldNumbers levels bytes number own =
+    cond (eqb number 5) (readNumbers (levels - 1) bytes ExpressionArguments (own .end))
+    (cond (eqb number 28) (readNumbers (levels - 1) bytes BinaryOp (own .end)) (0, own .end))
+
+-- of one whose own bytes may be refused
+abbrev pub innerNumbers : ℕ → List ℕ → ℕ → OwnRead → ℕ × ℕ
+innerNumbers levels bytes number (Record own) = fieldNumbers levels bytes number own
+innerNumbers levels bytes number (Refused refusal) = numbersOf refusal
+
+-- of the head of a token's record behind its own bytes: that of a block (2, 3), of an expression (9), or a field's
+abbrev pub tokenNumbers : ℕ → List ℕ → ℕ → Own → ℕ × ℕ
+tokenNumbers levels bytes number own =
+    let below = levels - 1 in
+    let inner = own .end in
+    cond (eqb number 2 || eqb number 3) (innerNumbers below bytes (getD bytes inner 0) (readOwn bytes inner BlockRecord below))
+    (cond (eqb number 9) (innerNumbers below bytes (getD bytes inner 0) (readOwn bytes inner BareExpression below)) (fieldNumbers levels bytes number own))
+
+-- 5 at the place where no record can have been read
+unfoldable pub behindNumbers : ℕ → List ℕ → ℕ → Own → ℕ × ℕ
+behindNumbers levels bytes at own = cond (eqb levels 0) (5, at) (cond (leb (length bytes) at) (5, at) (tokenNumbers levels bytes (getD bytes at 0) own))
+
+abbrev pub headNumbersOn : ℕ → List ℕ → ℕ → OwnRead → ℕ × ℕ
+headNumbersOn levels bytes number (Record own) = tokenNumbers levels bytes number own
+headNumbersOn levels bytes number (Refused refusal) = numbersOf refusal
+
+unfoldable pub headNumbers : ℕ → List ℕ → Class → ℕ → ℕ × ℕ
+headNumbers levels bytes class at = headNumbersOn levels bytes (getD bytes at 0) (readOwn bytes at class levels)

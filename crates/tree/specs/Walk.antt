@@ -1,24 +1,20 @@
--- Not part of the promises about a tree: the grammar's rows and sets of maps as numbers, what the reading of a record's own bytes hands on, the plans by
--- which a record's parts are read one behind the other, and what the check's inner functions hand on.
+-- Not part of the promises about a tree: the sets of maps as numbers, what the reading of a record's own bytes hands on, the parts that a plan is one of,
+-- and what the check's inner functions hand on.
 use Prim.Native.Nat.{ℕ, _+_, _*_, _/_, _%_, _^_, _≤_, _<_}
 use mathlib.Core.Path.{_≡_}
 use mathlib.Core.List.{List, [], _∷_, _++_}
 use mathlib.Core.Bool.{Bool, false, cond}
 use lib.ListN.{length, getD, replicate}
 use lib.Dec.{eqb, ltb}
+use Rattle.answers.specs.declared.Refusal.{Refusal}
 use Rattle.answers.specs.declared.Checked.{Checked}
 use Rattle.answers.specs.declared.Checked.the-variants.{Passed, Failed}
 use Rattle.text.specs.Accepted.{acceptedText, faultAt}
-use Rattle.tree.specs.Grammar.{Slot, must, may, kindOf}
+use Rattle.tree.specs.Grammar.{Slot, kindOf}
+use Rattle.tree.specs.Rows.{rowOf}
 use Rattle.tree.specs.Own.{mayStand, fieldsFit, triviaRead, layout, ownOf, triviaOfRecord, mapOfRecord}
 use Rattle.tree.specs.Reading.{Placed, Reading, Reader, Due, nothing, due, fieldsDue}
 use Rattle.tree.specs.declared.grammar.Class.{Class}
-use Rattle.tree.specs.declared.grammar.Class.the-variants.{Word, Char, OpenBrace, CloseBrace, Colon, Unit, Mnemonic, IndexRegister}
-use Rattle.tree.specs.declared.grammar.Class.the-variants.{AddressModifier, VariableType, NumberType, DataSize, BinaryOp, TextEncoding}
-use Rattle.tree.specs.declared.grammar.Class.the-variants.{AddressingMode, StringItem, LocatedExpression, BareExpression, LocatedFactor}
-use Rattle.tree.specs.declared.grammar.Class.the-variants.{BareToken, LocatedToken, BlockRecord, StringRecord, OperandRecord, SuffixRecord}
-use Rattle.tree.specs.declared.grammar.Class.the-variants.{AsRecord, ImportArguments, ImportPath, ExpressionArgument, IdentifierArgument}
-use Rattle.tree.specs.declared.grammar.Class.the-variants.{ImportArgument, Tokens, ExpressionArguments, IdentifierArguments, StringItems}
 use Rattle.tree.specs.declared.grammar.Kind.{Kind}
 use Rattle.tree.specs.declared.grammar.Kind.the-variants.{Leaf}
 use Rattle.tree.specs.declared.grammar.Rule.{Rule}
@@ -37,68 +33,6 @@ use Rattle.tree.specs.declared.check.Part.{Part}
 use Rattle.tree.specs.declared.check.Part.the-variants.{Next, NoPart}
 use Rattle.tree.specs.declared.check.RecordRead.{RecordRead}
 use Rattle.tree.specs.declared.check.RecordRead.the-variants.{Whole, Refused}
-
--- ---- rows: the fields of a kind in one number
-
-abbrev pub classNumber : Class → ℕ
-classNumber Word = 1
-classNumber Char = 2
-classNumber OpenBrace = 3
-classNumber CloseBrace = 4
-classNumber Colon = 5
-classNumber Unit = 6
-classNumber Mnemonic = 7
-classNumber IndexRegister = 8
-classNumber AddressModifier = 9
-classNumber VariableType = 10
-classNumber NumberType = 11
-classNumber DataSize = 12
-classNumber BinaryOp = 13
-classNumber TextEncoding = 14
-classNumber AddressingMode = 15
-classNumber StringItem = 16
-classNumber LocatedExpression = 17
-classNumber BareExpression = 18
-classNumber LocatedFactor = 19
-classNumber BareToken = 20
-classNumber LocatedToken = 21
-classNumber BlockRecord = 22
-classNumber StringRecord = 23
-classNumber OperandRecord = 24
-classNumber SuffixRecord = 25
-classNumber AsRecord = 26
-classNumber ImportArguments = 27
-classNumber ImportPath = 28
-classNumber ExpressionArgument = 29
-classNumber IdentifierArgument = 30
-classNumber ImportArgument = 31
-classNumber Tokens = 32
-classNumber ExpressionArguments = 33
-classNumber IdentifierArguments = 34
-classNumber StringItems = 35
-
--- the classes by their numbers less 1
-abbrev pub classes : List Class
-classes =
-    Word ∷ Char ∷ OpenBrace ∷ CloseBrace ∷ Colon ∷ Unit ∷
-    Mnemonic ∷ IndexRegister ∷ AddressModifier ∷ VariableType ∷ NumberType ∷ DataSize ∷
-    BinaryOp ∷ TextEncoding ∷ AddressingMode ∷ StringItem ∷ LocatedExpression ∷ BareExpression ∷
-    LocatedFactor ∷ BareToken ∷ LocatedToken ∷ BlockRecord ∷ StringRecord ∷ OperandRecord ∷
-    SuffixRecord ∷ AsRecord ∷ ImportArguments ∷ ImportPath ∷ ExpressionArgument ∷ IdentifierArgument ∷
-    ImportArgument ∷ Tokens ∷ ExpressionArguments ∷ IdentifierArguments ∷ StringItems ∷ []
-
--- the class of a number; numbers of no class count as the last
-abbrev pub classOf : ℕ → Class
-classOf number = getD (Word ∷ classes) number StringItems
-
--- seven bits for a field, 64 more where it need not stand
-abbrev pub slotCode : Slot → ℕ
-slotCode (must class) = classNumber class
-slotCode (may class) = 64 + classNumber class
-
-abbrev pub rowOf : List Slot → ℕ
-rowOf [] = 0
-rowOf (slot ∷ slots) = slotCode slot + 128 * rowOf slots
 
 -- ---- sets: the maps of a kind's fields in one number
 
@@ -180,6 +114,11 @@ recordOn bytes fault end texts (Failed refusal) = Refused refusal
 
 unfoldable pub recordRead : List ℕ → ℕ → Reading → RecordRead
 recordRead bytes fault reading = recordOn bytes fault (reading .end) (reading .texts) (reading .checked)
+
+-- the refusal that reading met; a record that was read whole has none, and the place behind it stands for one
+abbrev pub refusedRecord : RecordRead → Refusal
+refusedRecord (Refused refusal) = refusal
+refusedRecord (Whole end fault) = layout end
 
 -- ---- records one behind the other
 

@@ -12,16 +12,19 @@ use answers::Refusal;
 use text::numbers;
 use text::scans;
 ghost use mathlib.Core.Path.{_≡_};
-ghost use mathlib.Core.List.{List, []};
+ghost use mathlib.Core.List.{[]};
 ghost use mathlib.Core.Bool.{true, false};
-ghost use Prim.Native.Nat.{ℕ, _<_, _≤_, _+_, _-_};
+ghost use Prim.Native.Nat.{ℕ, _<_, _≤_, _+_, _-_, _%_};
 ghost use lib.ListN.{length};
 ghost use lib.Seq.{slice};
-ghost use Rattle.tree.specs.Grammar.{Slot};
+ghost use Rattle.answers.specs.Numbers.{numbersChecked};
 ghost use Rattle.tree.specs.Own.{OwnFits, triviaEnd};
-ghost use Rattle.tree.specs.Reading.{Due, slotClass, partsDue, textsOf, triviaTexts, read};
+ghost use Rattle.tree.specs.Reading.{partsDue, textsOf, triviaTexts, read};
 ghost use Rattle.tree.specs.Checking.{readFile, plainTree, lengthChecked, treeChecked, batchChecked};
-ghost use Rattle.tree.specs.Walk.{slotCode, Plans, standing, NextOf, planSize, sizeWith, faultWith, faultFrom, recordRead, walked, walkerOf};
+ghost use Rattle.tree.specs.Checking.{lengthNumbers, treeNumbers};
+ghost use Rattle.tree.specs.Rows.{classOf};
+ghost use Rattle.tree.specs.Walk.{standing, faultWith, faultFrom, recordRead, refusedRecord, walked, walkerOf};
+ghost use Rattle.tree.specs.Plans.{planOf, nextPart};
 ghost use Rattle.tree.specs.declared.own.Span.the-variants.{Behind};
 
 // The parts of a record that are still to be read: the fields of a row whose bits stand, then `count` items of a class.
@@ -45,7 +48,7 @@ pub enum RecordRead {
 
 // The parts of a record of a class, of which its own bytes were read.
 pub fn plan_of(class: Class, own: Own) -> Plan
-    ensures { λ r. ⌜ Plans r (partsDue class own) ⌝ }
+    ensures { λ r. ⌜ r ≡ planOf class own ⌝ }
 {
     let kind = own.kind;
     let rule = grammar::rule_of(class);
@@ -69,15 +72,14 @@ pub fn plan_of(class: Class, own: Own) -> Plan
 }
 
 pub(crate) fn slot_class(slot: u64) -> Class
-    ensures { λ r. ⌜ ((field : Slot) → slot ≡ slotCode field → r ≡ slotClass field) ⌝ }
+    ensures { λ r. ⌜ r ≡ classOf (slot % 64) ⌝ }
 {
     grammar::class_of(slot % 64)
 }
 
 // The next part of a plan.
 pub fn next_part(plan: Plan) -> Part
-    ensures { λ r. ⌜ ((parts : List Due) → Plans plan parts → NextOf r parts) ⌝ }
-    ensures { λ r. ⌜ sizeWith r ≤ planSize plan ⌝ }
+    ensures { λ r. ⌜ r ≡ nextPart plan ⌝ }
 {
     let item = plan.item;
     let mut row = plan.row;
@@ -229,6 +231,19 @@ pub(crate) fn read_record(
     read_parts(tree, class, own, levels, seen)
 }
 
+// The refusal that reading a record met; a record that was read whole has none, and the place behind it stands for one.
+pub(crate) fn refused_record(read: RecordRead) -> Refusal
+    ensures { λ r. ⌜ r ≡ refusedRecord read ⌝ }
+{
+    match read {
+        RecordRead::Refused(refusal) => refusal,
+        RecordRead::Whole(end, _) => Refusal {
+            reason: Reason::TreeLayout,
+            place: end,
+        },
+    }
+}
+
 // Whether no byte behind the count of the file's list is above 127. One look at all of them takes less than one at each text.
 pub fn is_plain(tree: &[u8]) -> bool
     ensures { λ r. ⌜ r ≡ plainTree (now (tree .entry)) ⌝ }
@@ -267,6 +282,7 @@ fn failed(reason: Reason, place: usize) -> Checked
 // Whether a tree has bytes, and at most `limit` of them: refusal 3.
 pub fn check_length(tree: &[u8], limit: usize) -> Checked
     ensures { λ r. ⌜ r ≡ lengthChecked limit (now (tree .entry)) ⌝ }
+    ensures { λ r. ⌜ numbersChecked r ≡ lengthNumbers limit (now (tree .entry)) ⌝ }
 {
     let end = tree.len();
     if end == 0 {
@@ -281,30 +297,30 @@ pub fn check_length(tree: &[u8], limit: usize) -> Checked
 // Whether bytes are a stored tree of at most `limit` bytes and `levels` levels: refusals 3, 4, 5 and 7.
 pub fn check_within(tree: &[u8], limit: usize, levels: usize) -> Checked
     ensures { λ r. ⌜ r ≡ treeChecked limit levels (now (tree .entry)) ⌝ }
+    ensures { λ r. ⌜ numbersChecked r ≡ treeNumbers limit levels (now (tree .entry)) ⌝ }
 {
     let end = tree.len();
     let sized = check_length(tree, limit);
-    if let Checked::Failed(_) = sized {
+    let Checked::Passed = sized else {
         return sized;
-    }
+    };
     let read = read_file(tree, levels);
-    match read {
-        RecordRead::Refused(refusal) => Checked::Failed(refusal),
-        RecordRead::Whole(behind, fault) => {
-            if behind < end {
-                return failed(Reason::TreeLayout, behind);
-            }
-            if fault < end {
-                return failed(Reason::NotAscii, fault);
-            }
-            Checked::Passed
-        }
+    let RecordRead::Whole(behind, fault) = read else {
+        return Checked::Failed(refused_record(read));
+    };
+    if behind < end {
+        return failed(Reason::TreeLayout, behind);
     }
+    if fault < end {
+        return failed(Reason::NotAscii, fault);
+    }
+    Checked::Passed
 }
 
 // Whether bytes are a stored tree.
 pub fn check_tree(tree: &[u8]) -> Checked
     ensures { λ r. ⌜ r ≡ batchChecked (now (tree .entry)) ⌝ }
+    ensures { λ r. ⌜ numbersChecked r ≡ treeNumbers 65535 64 (now (tree .entry)) ⌝ }
 {
     check_within(tree, 65535, 64)
 }

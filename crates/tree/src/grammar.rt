@@ -2,7 +2,8 @@
 ghost use mathlib.Core.Path.{_≡_};
 ghost use Prim.Native.Nat.{_<_};
 ghost use Rattle.tree.specs.Grammar;
-ghost use Rattle.tree.specs.Walk.{classNumber, classOf, rowOf, SetOf};
+ghost use Rattle.tree.specs.Rows.{classNumber, classOf, rowOf};
+ghost use Rattle.tree.specs.Walk.{SetOf};
 
 // The kinds of records, in the order of their numbers 0 to 42.
 pub enum Kind {

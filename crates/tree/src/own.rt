@@ -17,6 +17,7 @@ ghost use lib.Dec.{eqb, leb};
 ghost use lib.ListN.{length};
 ghost use Rattle.tree.specs.Grammar.{fields};
 ghost use Rattle.tree.specs.Own.{sizedEnd, triviumEnd, triviaEnd, fieldsFit, textFits, elseFits, triviaFits, mapFits, mayStand, triviaRead, textEnd, layout, ownOf, restOf, ownAt, readOwn, Fits, refusalOf};
+ghost use Rattle.tree.specs.Own.{numbersOwn, ownNumbers};
 ghost use Rattle.tree.specs.Walk.{restOn, judgedOn, firstBytes, foundOn, bareLeaf};
 
 // A record's own bytes, by their places: `trivia` is the place of its first trivia item, of which there are `trivia_count`; its text is
@@ -420,6 +421,7 @@ fn own_at(tree: &[u8], at: usize, class: Class) -> OwnFound
 pub fn read_own(tree: &[u8], at: usize, class: Class, levels: usize) -> OwnRead
     ensures { λ r. ⌜ r ≡ readOwn (now (tree .entry)) at class levels ⌝ }
     ensures { λ r. ⌜ Fits (now (tree .entry)) at r ⌝ }
+    ensures { λ r. ⌜ numbersOwn r ≡ ownNumbers (now (tree .entry)) at class levels ⌝ }
 {
     if tree.len() <= at {
         return layout(tree.len());

@@ -16,6 +16,7 @@ ghost use Prim.Native.Nat.{_<_};
 ghost use Rattle.tree.specs.Grammar.{rule, fields};
 ghost use Rattle.tree.specs.Own.{layout};
 ghost use Rattle.tree.specs.Parts.{skipped, triviumAt, firstClass, secondField, fieldHead, innerHead, headBehind, headAt};
+ghost use Rattle.tree.specs.Parts.{refusedSkip, refusedHead, numbersSkipped, readNumbers, numbersHead, behindNumbers, headNumbers};
 ghost use Rattle.tree.specs.declared.parts.HeadRead.the-variants as HeadRead;
 
 // The place behind a record.
@@ -51,11 +52,25 @@ pub enum HeadRead {
 // The place behind the record of a class, or the first refusal in it.
 pub fn skip(tree: &[u8], at: usize, class: Class, levels: usize) -> Skipped
     ensures { λ r. ⌜ r ≡ skipped levels (now (tree .entry)) class at ⌝ }
+    ensures { λ r. ⌜ numbersSkipped r ≡ readNumbers levels (now (tree .entry)) class at ⌝ }
 {
     let read = check::read_record(tree, at, class, levels, 0);
-    match read {
-        RecordRead::Whole(end, _) => Skipped::Next(end),
-        RecordRead::Refused(refusal) => Skipped::NotSkipped(refusal),
+    let RecordRead::Whole(end, _) = read else {
+        return Skipped::NotSkipped(check::refused_record(read));
+    };
+    Skipped::Next(end)
+}
+
+// The refusal that skipping met; a record that was skipped has none, and the place behind it stands for one.
+pub fn refused_skip(found: Skipped) -> Refusal
+    ensures { λ r. ⌜ r ≡ refusedSkip found ⌝ }
+{
+    match found {
+        Skipped::NotSkipped(refusal) => refusal,
+        Skipped::Next(place) => Refusal {
+            reason: Reason::TreeLayout,
+            place: place,
+        },
     }
 }
 
@@ -99,14 +114,14 @@ fn first_class(class: Class, kind: Kind) -> Class
 fn second_field(skipped: Skipped, class: Class, levels: usize) -> HeadRead
     ensures { λ r. ⌜ r ≡ secondField levels class skipped ⌝ }
 {
-    match skipped {
-        Skipped::Next(place) => HeadRead::Found(Head {
-            place: place,
-            class: class,
-            levels: levels,
-        }),
-        Skipped::NotSkipped(refusal) => HeadRead::NoHead(refusal),
-    }
+    let Skipped::Next(place) = skipped else {
+        return HeadRead::NoHead(refused_skip(skipped));
+    };
+    HeadRead::Found(Head {
+        place: place,
+        class: class,
+        levels: levels,
+    })
 }
 
 // The head of a record among its own fields: the second for a `Data` and a binary expression, the first otherwise.
@@ -155,6 +170,7 @@ fn no_head(at: usize) -> HeadRead
 // The head of a token's record whose own bytes were read.
 pub fn head_behind(tree: &[u8], at: usize, class: Class, levels: usize, own: Own) -> HeadRead
     ensures { λ r. ⌜ r ≡ headBehind levels (now (tree .entry)) class at own ⌝ }
+    ensures { λ r. ⌜ numbersHead r ≡ behindNumbers levels (now (tree .entry)) at own ⌝ }
 {
     if levels == 0 {
         return no_head(at);
@@ -175,10 +191,24 @@ pub fn head_behind(tree: &[u8], at: usize, class: Class, levels: usize, own: Own
 // The head of a token's record.
 pub fn head_place(tree: &[u8], at: usize, class: Class, levels: usize) -> HeadRead
     ensures { λ r. ⌜ r ≡ headAt levels (now (tree .entry)) class at ⌝ }
+    ensures { λ r. ⌜ numbersHead r ≡ headNumbers levels (now (tree .entry)) class at ⌝ }
 {
     let read = own::read_own(tree, at, class, levels);
     let OwnRead::Record(own) = read else {
         return HeadRead::NoHead(own::refusal_of(read));
     };
     head_behind(tree, at, class, levels, own)
+}
+
+// The refusal on the way to a head; a head that was found has none, and its place stands for one.
+pub fn refused_head(found: HeadRead) -> Refusal
+    ensures { λ r. ⌜ r ≡ refusedHead found ⌝ }
+{
+    match found {
+        HeadRead::NoHead(refusal) => refusal,
+        HeadRead::Found(head) => Refusal {
+            reason: Reason::TreeLayout,
+            place: head.place,
+        },
+    }
 }

@@ -20,7 +20,7 @@ same-length c = search needs
 returns : tie.Need-returns
 returns c =
     let said = c .before .before .before .chunks .ensures in
-    (c .packed .ensures ∙ ap packedOf (said .0), (chunks-answer _ _ _ _ _ refl (said .1 .0), said .1))
+    (c .packed .ensures ∙ ap packedOf (said .0), (chunks-answer _ _ _ _ _ refl (said .1 .0), (said .1 .0, said .1 .1 .0)))
 
 pub felgutrosa-chunks-spec : {M : Type 1} → statement M
 felgutrosa-chunks-spec = tie.close (tie.spec chunks-requires packed-requires same-length returns)

@@ -12,7 +12,7 @@ format-requires c κs = search needs
 packed-requires : tie.Need-packed-requires
 packed-requires c κs =
     let said = c .before .before .before .before .format .ensures in
-    format-answer _ _ _ _ _ (said .0) (said .1 .1 .1)
+    format-answer _ _ _ _ _ (said .0) (said .1 .1 .1 .0)
 
 same-length : tie.Need-same-length
 same-length c = search needs
@@ -23,7 +23,7 @@ same-length-2 c = search needs
 returns : tie.Need-returns
 returns c =
     let said = c .before .before .before .before .before .format .ensures in
-    (c .packed .ensures ∙ ap packedOf (said .0), (format-answer _ _ _ _ _ refl (said .1 .1 .1), said .1))
+    (c .packed .ensures ∙ ap packedOf (said .0), (format-answer _ _ _ _ _ refl (said .1 .1 .1 .0), (said .1 .0, (said .1 .1 .0, said .1 .1 .1 .0))))
 
 pub felgutrosa-format-spec : {M : Type 1} → statement M
 felgutrosa-format-spec = tie.close (tie.spec format-requires packed-requires same-length same-length-2 returns)

@@ -12,7 +12,7 @@ join-chunks-requires c κs = search needs
 packed-requires : tie.Need-packed-requires
 packed-requires c κs =
     let said = c .before .before .join-chunks .ensures in
-    join-answer _ _ _ _ (said .0) (said .1 .1)
+    join-answer _ _ _ _ (said .0) (said .1 .1 .0)
 
 same-length : tie.Need-same-length
 same-length c = search needs
@@ -20,7 +20,7 @@ same-length c = search needs
 returns : tie.Need-returns
 returns c =
     let said = c .before .before .before .join-chunks .ensures in
-    (c .packed .ensures ∙ ap packedOf (said .0), (join-answer _ _ _ _ refl (said .1 .1), said .1))
+    (c .packed .ensures ∙ ap packedOf (said .0), (join-answer _ _ _ _ refl (said .1 .1 .0), (said .1 .0, said .1 .1 .0)))
 
 pub felgutrosa-join-chunks-spec : {M : Type 1} → statement M
 felgutrosa-join-chunks-spec = tie.close (tie.spec join-chunks-requires packed-requires same-length returns)

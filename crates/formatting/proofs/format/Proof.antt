@@ -1,5 +1,6 @@
 -- The inner call, and then the work room is cleared.
 use mathlib.Core.Path.{ap, _∙_}
+use Rattle.answers.proofs.Numbers.{numbers-in}
 use Rattle.text.specs.Stores.{zeros}
 use borrow.Author.Needs.{needs}
 use Rattle.formatting.proofs.format.Statement.{statement}
@@ -22,7 +23,7 @@ returns c =
     let cleared = c .before .before in
     let called = cleared .before .before .before .before .before .before in
     let said = called .format-in .ensures in
-    (said .0, (said .1 .0, (cleared .clear .ensures ∙ ap zeros (called .format-in .kept .1 .1 .0), said .1 .1)))
+    (said .0, (said .1 .0, (cleared .clear .ensures ∙ ap zeros (called .format-in .kept .1 .1 .0), (said .1 .1, numbers-in _ _ (said .0)))))
 
 pub format-spec : {M : Type 1} → statement M
 format-spec =

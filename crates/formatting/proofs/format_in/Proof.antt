@@ -54,7 +54,7 @@ returns-2 c =
     let said = joined .join-chunks .ensures in
     let lesson =
     joined-lesson _ _ _ _ (walked .chunks-in-one-pass .ensures .0) (is .walked .given .1) (walked .chunks-in-one-pass .ensures .1 .0)
-    (said .0) (said .1 .0) (said .1 .1) in
+    (said .0) (said .1 .0) (said .1 .1 .0) in
     (lesson .answered, (lesson .buffer, lesson .lesson))
 
 pub format-in-spec : {M : Type 1} → statement M

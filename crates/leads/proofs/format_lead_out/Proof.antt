@@ -20,7 +20,7 @@ finish-requires : tie.Need-finish-requires
 finish-requires c κs = search needs
 
 returns-2 : tie.Need-returns-2
-returns-2 c = done-before (c .before .before .before .before .last .given .1) (full-refused _ (c .finish .ensures) (c .before .if1 .taken))
+returns-2 c = done-before (c .before .before .before .before .last .given .1) (full-refused _ (c .finish .ensures .0) (c .before .if1 .taken))
 
 read-own-requires : tie.Need-read-own-requires
 read-own-requires c κs = search needs
@@ -63,8 +63,8 @@ returns-4 c =
     let start = read .before .before .before .before .before .before .before .before in
     done-before (read .before .before .before .before .last .given .1)
     (closing-shown _ _ _ (start .args .context) (start .args .drops) (beforeOf (start .args .stood)) _ _ _ _ _
-    (read .read-own .ensures .0) (found .found .given .1) (own-items _ _ _ (read .read-own .ensures .1) (found .found .given .1))
-    (listed .list-trivia .ensures) (broken .break-before .ensures) (c .finish2 .ensures))
+    (read .read-own .ensures .0) (found .found .given .1) (own-items _ _ _ (read .read-own .ensures .1 .0) (found .found .given .1))
+    (listed .list-trivia .ensures) (broken .break-before .ensures) (c .finish2 .ensures .0))
 
 pub format-lead-out-spec : {M : Type 1} → statement M
 format-lead-out-spec =

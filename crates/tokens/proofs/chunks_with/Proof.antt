@@ -14,7 +14,7 @@ enum-known-checked c = search needs
 returns : tie.Need-returns
 returns c =
     let told = c .before in
-    let whole = whole-failed _ _ _ _ (sym (told .before .before .check-tree .ensures) ∙ told .checked .given .1) in
+    let whole = whole-failed _ _ _ _ (sym (told .before .before .check-tree .ensures .0) ∙ told .checked .given .1) in
     (whole .answered, (whole .holds, whole .whole))
 
 enum-told : tie.Need-enum-told
@@ -35,7 +35,7 @@ returns-2 c =
     let told = walked .before .before in
     let checked = told .before .before in
     let start = checked .before .before .before in
-    let whole = whole-walked _ _ _ (start .pre) (sym (checked .check-tree .ensures) ∙ told .enum-told .given .1) (walked .walk-file .ensures) in
+    let whole = whole-walked _ _ _ (start .pre) (sym (checked .check-tree .ensures .0) ∙ told .enum-told .given .1) (walked .walk-file .ensures) in
     (c .printed-answer .ensures ∙ whole .answered, (whole .holds, whole .whole))
 
 pub chunks-with-spec : {M : Type 1} → statement M

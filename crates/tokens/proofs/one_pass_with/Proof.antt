@@ -14,7 +14,7 @@ enum-known-sized c = search needs
 returns : tie.Need-returns
 returns c =
     let told = c .before in
-    let pass = pass-unsized _ _ _ _ (sym (told .before .before .check-length .ensures) ∙ told .sized .given .1) in
+    let pass = pass-unsized _ _ _ _ (sym (told .before .before .check-length .ensures .0) ∙ told .sized .given .1) in
     (pass .answered, (pass .holds, pass .whole))
 
 enum-told : tie.Need-enum-told
@@ -41,7 +41,7 @@ returns-2 c =
     let sized = told .before .before in
     let start = sized .before .before .before in
     let pass =
-    pass-settled _ _ _ (start .pre) (sym (sized .check-length .ensures) ∙ told .enum-told .given .1) (walked .walk-file .ensures)
+    pass-settled _ _ _ (start .pre) (sym (sized .check-length .ensures .0) ∙ told .enum-told .given .1) (walked .walk-file .ensures)
     (sym (settled .settles .ensures) ∙ c .if1 .taken) in
     (answered .printed-answer .ensures ∙ pass .answered, (pass .holds, pass .whole))
 
@@ -64,8 +64,8 @@ returns-3 c =
     let sized = told .before .before in
     let start = sized .before .before .before in
     let pass =
-    pass-failed _ _ _ (start .pre) (sym (sized .check-length .ensures) ∙ told .enum-told .given .1) (walked .walk-file .ensures)
-    _ (sym (checked .check-tree .ensures) ∙ is .checked .given .1) in
+    pass-failed _ _ _ (start .pre) (sym (sized .check-length .ensures .0) ∙ told .enum-told .given .1) (walked .walk-file .ensures)
+    _ (sym (checked .check-tree .ensures .0) ∙ is .checked .given .1) in
     (pass .answered, (pass .holds, pass .whole))
 
 enum-told-2 : tie.Need-enum-told-2
@@ -83,8 +83,8 @@ returns-4 c =
     let sized = told .before .before in
     let start = sized .before .before .before in
     let pass =
-    pass-passed _ _ _ (start .pre) (sym (sized .check-length .ensures) ∙ told .enum-told .given .1) (walked .walk-file .ensures)
-    (sym (checked .check-tree .ensures) ∙ c .enum-told2 .given .1) in
+    pass-passed _ _ _ (start .pre) (sym (sized .check-length .ensures .0) ∙ told .enum-told .given .1) (walked .walk-file .ensures)
+    (sym (checked .check-tree .ensures .0) ∙ c .enum-told2 .given .1) in
     (answered .printed-answer .ensures ∙ pass .answered, (pass .holds, pass .whole))
 
 pub one-pass-with-spec : {M : Type 1} → statement M

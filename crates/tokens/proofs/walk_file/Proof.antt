@@ -1,6 +1,7 @@
 -- The printer of the file's list showed its events from the state at the start.
 use mathlib.Core.Path.{refl}
 use native.Mathlib.Omega.{arith}
+use Rattle.printing.proofs.Running.{shows}
 use borrow.Author.Needs.{needs}
 use Rattle.tokens.proofs.walk_file.Statement.{statement}
 use Rattle.tokens.proofs.walk_file.Tie as tie
@@ -20,7 +21,7 @@ returns : tie.Need-returns
 returns c =
     let walked = c .before .before in
     let shown = walked .format-tokens .ensures .from 0 refl in
-    record { state = rw (walked .before .before .new .ensures) at (shown .state); next = shown .next }
+    shows (rw (walked .before .before .new .ensures) at (shown .state)) (shown .next)
 
 pub walk-file-spec : {M : Type 1} → statement M
 walk-file-spec =

@@ -3,10 +3,12 @@ use Prim.Native.Nat.{ℕ, _-_}
 use mathlib.Core.List.{List}
 use mathlib.Core.Path.{sym, _∙_}
 use native.Mathlib.Omega.{arith}
+use Rattle.answers.proofs.Numbers.{judged-numbers}
 use borrow.Author.Needs.{needs}
 use Rattle.chunks.specs.Reading.{ChunkFits}
 use Rattle.chunks.specs.declared.stored.StoredChunk.{StoredChunk}
 use Rattle.chunks.proofs.Judging.{Going, going-first, going-on, too-long, bad-chunk, bad-byte, all-good}
+use Rattle.chunks.proofs.Numbers.{list-numbers}
 use Rattle.chunks.proofs.list.check_chunks.Statement.{statement}
 use Rattle.chunks.proofs.list.check_chunks.Tie as tie
 
@@ -28,7 +30,7 @@ fit : (c : tie.After-known-told Inv-loop μ-loop) → ChunkFits (list c) (c .bef
 fit c = rw (c .before .found .given .1) at (c .before .before .before .chunk-at .ensures .1)
 
 returns : tie.Need-returns Inv-loop μ-loop
-returns c = sym (too-long _ (c .if1 .taken))
+returns c = judged-numbers (list-numbers _) (sym (too-long _ (c .if1 .taken)))
 
 is-accepted-requires : tie.Need-is-accepted-requires Inv-loop μ-loop
 is-accepted-requires c κs = search needs
@@ -37,7 +39,7 @@ check-layout-requires : tie.Need-check-layout-requires Inv-loop μ-loop
 check-layout-requires c κs = (c .before .before .if1 .left, sym (c .before .is-accepted .ensures) ∙ c .if2 .taken)
 
 returns-2 : tie.Need-returns-2 Inv-loop μ-loop
-returns-2 c = c .check-layout .ensures
+returns-2 c = judged-numbers (list-numbers _) (c .check-layout .ensures)
 
 loop-holds : tie.Need-loop-holds Inv-loop μ-loop
 loop-holds c = going-first (c .before .before .before .before .args .list .now)
@@ -56,8 +58,8 @@ returns-3 c =
     let looked = c .before .before in
     let turn = looked .before .before .loop in
     let none = sym (looked .chunk-at .ensures .0) ∙ c .enum-told .given .1 in
-    sym (bad-chunk (looked .before .before .before .before .before .before .before .args .list .now) (turn .at) (turn .fault)
-    (looked .before .before .before .before .before .if1 .left) (turn .inv) (looked .before .loop-test .taken) none)
+    judged-numbers (list-numbers _) (sym (bad-chunk (looked .before .before .before .before .before .before .before .args .list .now) (turn .at) (turn .fault)
+    (looked .before .before .before .before .before .if1 .left) (turn .inv) (looked .before .loop-test .taken) none))
 
 fault-in-requires : tie.Need-fault-in-requires Inv-loop μ-loop
 fault-in-requires c κs = omega (arith, fit c)
@@ -76,15 +78,15 @@ returns-4 : tie.Need-returns-4 Inv-loop μ-loop
 returns-4 c =
     let at-loop = c .before .before in
     let turn = at-loop .loop in
-    sym (bad-byte (at-loop .before .before .before .before .before .args .list .now) (turn .at) (turn .fault)
-    (at-loop .before .before .before .if1 .left) (turn .inv) (c .before .loop-test .left) (c .if3 .taken))
+    judged-numbers (list-numbers _) (sym (bad-byte (at-loop .before .before .before .before .before .args .list .now) (turn .at) (turn .fault)
+    (at-loop .before .before .before .if1 .left) (turn .inv) (c .before .loop-test .left) (c .if3 .taken)))
 
 returns-5 : tie.Need-returns-5 Inv-loop μ-loop
 returns-5 c =
     let at-loop = c .before .before in
     let turn = at-loop .loop in
-    sym (all-good (at-loop .before .before .before .before .before .args .list .now) (turn .at) (turn .fault)
-    (at-loop .before .before .before .if1 .left) (turn .inv) (c .before .loop-test .left) (c .if3 .left))
+    judged-numbers (list-numbers _) (sym (all-good (at-loop .before .before .before .before .before .args .list .now) (turn .at) (turn .fault)
+    (at-loop .before .before .before .if1 .left) (turn .inv) (c .before .loop-test .left) (c .if3 .left)))
 
 pub check-chunks-spec : {M : Type 1} → statement M
 check-chunks-spec =

@@ -323,13 +323,13 @@ format-argument-returns-2 t c =
     let of = at-item-class .before .before .before .before .before .before .args .of in
     let done = at-item-class .before .before .last .given .1 in
     rw done
-    (rw (← (at-item-class .item-class .ensures)) (shown-closed (at-open .«open» .ensures) (listPlace of) (at-enum-told .enum-told2 .given .1) (c .closed .ensures)))
+    (rw (← (at-item-class .item-class .ensures)) (shown-closed (at-open .«open» .ensures .0) (listPlace of) (at-enum-told .enum-told2 .given .1) (c .closed .ensures .0)))
 
 format-argument-sub-inner : (t : ℕ) → format-argument-lts.Need-sub-inner (format-argument-claims t) (format-argument-at t) format-argument.Post
 format-argument-sub-inner t c =
     let at-opened = c .before in
     let at-open = at-opened .before .before .before .before in
-    opened-levels (at-open .«open» .ensures) (at-opened .opened .given .1)
+    opened-levels (at-open .«open» .ensures .0) (at-opened .opened .given .1)
 
 format-argument-stands-requires : (t : ℕ) → format-argument-lts.Need-stands-requires (format-argument-claims t) (format-argument-at t) format-argument.Post
 format-argument-stands-requires t c κs = search needs
@@ -338,7 +338,7 @@ format-argument-format-value-requires : (t : ℕ) → format-argument-lts.Need-f
 format-argument-format-value-requires t c κs =
     let at-opened = c .before .before .before .before in
     let at-open = at-opened .before .before .before .before in
-    let levels-left = opened-levels (at-open .«open» .ensures) (at-opened .opened .given .1) in
+    let levels-left = opened-levels (at-open .«open» .ensures .0) (at-opened .opened .given .1) in
     let measured = at-open .before .before .before .before .before .before .before .before .pre .0 in
     (omega (arith, levels-left, measured), tt)
 
@@ -362,7 +362,7 @@ format-argument-returns-3 t c =
     let at-open = at-opened .before .before .before .before in
     let at-item-class = at-open .before .before in
     let of = at-item-class .before .before .before .before .before .before .args .of in
-    let opens = rw (at-item-class .item-class .ensures) at (at-open .«open» .ensures) in
+    let opens = rw (at-item-class .item-class .ensures) at (at-open .«open» .ensures .0) in
     let is = at-opened .opened .given .1 in
     let done = at-item-class .before .before .last .given .1 in
     rw done
@@ -413,7 +413,7 @@ format-arguments-returns-2 t c =
     let of = at-list-class .before .before .before .before .before .before .args .of in
     let done = at-list-class .before .before .last .given .1 in
     rw done
-    (rw (← (at-list-class .list-class .ensures)) (shown-closed (at-open .«open» .ensures) (listPlace of) (at-enum-told .enum-told2 .given .1) (c .closed .ensures)))
+    (rw (← (at-list-class .list-class .ensures)) (shown-closed (at-open .«open» .ensures .0) (listPlace of) (at-enum-told .enum-told2 .given .1) (c .closed .ensures .0)))
 
 format-arguments-enum-told-3 : (t : ℕ) → format-arguments-lts.Need-enum-told-3 (format-arguments-claims t) (format-arguments-at t) format-arguments.Post
 format-arguments-enum-told-3 t c = search needs
@@ -422,7 +422,7 @@ format-arguments-sub-format-import-all : (t : ℕ) → format-arguments-lts.Need
 format-arguments-sub-format-import-all t c =
     let at-opened = c .before .before .before .before in
     let at-open = at-opened .before .before .before .before in
-    opened-levels (at-open .«open» .ensures) (at-opened .opened .given .1)
+    opened-levels (at-open .«open» .ensures .0) (at-opened .opened .given .1)
 
 format-arguments-format-import-all-requires : (t : ℕ)
     → format-arguments-lts.Need-format-import-all-requires (format-arguments-claims t) (format-arguments-at t) format-arguments.Post
@@ -432,14 +432,14 @@ format-arguments-sub-format-each-argument : (t : ℕ) → format-arguments-lts.N
 format-arguments-sub-format-each-argument t c =
     let at-opened = c .before .before .before in
     let at-open = at-opened .before .before .before .before in
-    opened-levels (at-open .«open» .ensures) (at-opened .opened .given .1)
+    opened-levels (at-open .«open» .ensures .0) (at-opened .opened .given .1)
 
 format-arguments-format-each-argument-requires : (t : ℕ)
     → format-arguments-lts.Need-format-each-argument-requires (format-arguments-claims t) (format-arguments-at t) format-arguments.Post
 format-arguments-format-each-argument-requires t c κs =
     let at-opened = c .before .before .before in
     let at-open = at-opened .before .before .before .before in
-    let levels-left = opened-levels (at-open .«open» .ensures) (at-opened .opened .given .1) in
+    let levels-left = opened-levels (at-open .«open» .ensures .0) (at-opened .opened .given .1) in
     let measured = at-open .before .before .before .before .before .before .before .before .pre .0 in
     (omega (arith, levels-left, measured), tt)
 
@@ -455,7 +455,7 @@ format-arguments-returns-3 t c =
     let at-open = at-opened .before .before .before .before in
     let at-list-class = at-open .before .before in
     let of = at-list-class .before .before .before .before .before .before .args .of in
-    let opens = rw (at-list-class .list-class .ensures) at (at-open .«open» .ensures) in
+    let opens = rw (at-list-class .list-class .ensures) at (at-open .«open» .ensures .0) in
     let is = at-opened .opened .given .1 in
     let done = at-list-class .before .before .last .given .1 in
     rw done
@@ -473,7 +473,7 @@ format-arguments-returns-4 t c =
     let at-open = at-opened .before .before .before .before in
     let at-list-class = at-open .before .before in
     let of = at-list-class .before .before .before .before .before .before .args .of in
-    let opens = rw (at-list-class .list-class .ensures) at (at-open .«open» .ensures) in
+    let opens = rw (at-list-class .list-class .ensures) at (at-open .«open» .ensures .0) in
     let is = at-opened .opened .given .1 in
     let done = at-list-class .before .before .last .given .1 in
     rw done
@@ -782,7 +782,7 @@ format-expression-returns-2 t c =
     let at-expression-class = at-open .before .before in
     let done = at-expression-class .before .before .last .given .1 in
     rw done
-    (rw (← (at-expression-class .expression-class .ensures)) (shown-closed (at-open .«open» .ensures) (leaf plain) (at-enum-told .enum-told2 .given .1) (c .closed .ensures)))
+    (rw (← (at-expression-class .expression-class .ensures)) (shown-closed (at-open .«open» .ensures .0) (leaf plain) (at-enum-told .enum-told2 .given .1) (c .closed .ensures .0)))
 
 format-expression-enum-told-3 : (t : ℕ) → format-expression-lts.Need-enum-told-3 (format-expression-claims t) (format-expression-at t) format-expression.Post
 format-expression-enum-told-3 t c = search needs
@@ -792,14 +792,14 @@ format-expression-sub-format-binary-expression : (t : ℕ)
 format-expression-sub-format-binary-expression t c =
     let at-opened = c .before .before .before .before in
     let at-open = at-opened .before .before .before .before in
-    opened-levels (at-open .«open» .ensures) (at-opened .opened .given .1)
+    opened-levels (at-open .«open» .ensures .0) (at-opened .opened .given .1)
 
 format-expression-format-binary-expression-requires : (t : ℕ)
     → format-expression-lts.Need-format-binary-expression-requires (format-expression-claims t) (format-expression-at t) format-expression.Post
 format-expression-format-binary-expression-requires t c κs =
     let at-opened = c .before .before .before .before in
     let at-open = at-opened .before .before .before .before in
-    let levels-left = opened-levels (at-open .«open» .ensures) (at-opened .opened .given .1) in
+    let levels-left = opened-levels (at-open .«open» .ensures .0) (at-opened .opened .given .1) in
     let measured = at-open .before .before .before .before .before .before .before .before .pre .0 in
     (omega (arith, levels-left, measured), tt)
 
@@ -807,13 +807,13 @@ format-expression-sub-format-factor : (t : ℕ) → format-expression-lts.Need-s
 format-expression-sub-format-factor t c =
     let at-opened = c .before .before .before in
     let at-open = at-opened .before .before .before .before in
-    opened-levels (at-open .«open» .ensures) (at-opened .opened .given .1)
+    opened-levels (at-open .«open» .ensures .0) (at-opened .opened .given .1)
 
 format-expression-format-factor-requires : (t : ℕ) → format-expression-lts.Need-format-factor-requires (format-expression-claims t) (format-expression-at t) format-expression.Post
 format-expression-format-factor-requires t c κs =
     let at-opened = c .before .before .before .before in
     let at-open = at-opened .before .before .before .before in
-    let levels-left = opened-levels (at-open .«open» .ensures) (at-opened .opened .given .1) in
+    let levels-left = opened-levels (at-open .«open» .ensures .0) (at-opened .opened .given .1) in
     let measured = at-open .before .before .before .before .before .before .before .before .pre .0 in
     (omega (arith, levels-left, measured), tt)
 
@@ -828,7 +828,7 @@ format-expression-returns-3 t c =
     let at-opened = at-enum-told2 .before .before .before in
     let at-open = at-opened .before .before .before .before in
     let at-expression-class = at-open .before .before in
-    let opens = rw (at-expression-class .expression-class .ensures) at (at-open .«open» .ensures) in
+    let opens = rw (at-expression-class .expression-class .ensures) at (at-open .«open» .ensures .0) in
     let is = at-opened .opened .given .1 in
     let done = at-expression-class .before .before .last .given .1 in
     rw done
@@ -847,7 +847,7 @@ format-expression-returns-4 t c =
     let at-open = at-opened .before .before .before .before in
     let at-expression-class = at-open .before .before in
     let located = at-expression-class .before .before .before .before .before .before .args .located in
-    let opens = rw (at-expression-class .expression-class .ensures) at (at-open .«open» .ensures) in
+    let opens = rw (at-expression-class .expression-class .ensures) at (at-open .«open» .ensures .0) in
     let is = at-opened .opened .given .1 in
     let done = at-expression-class .before .before .last .given .1 in
     rw done
@@ -891,14 +891,14 @@ format-expression-factor-returns-2 t c =
     let at-open = at-enum-told .before .before .before .before in
     let done = at-open .before .before .before .last .given .1 in
     rw done
-    (shown-closed (at-open .«open» .ensures) (leaf plain) (at-enum-told .enum-told2 .given .1) (c .closed .ensures))
+    (shown-closed (at-open .«open» .ensures .0) (leaf plain) (at-enum-told .enum-told2 .given .1) (c .closed .ensures .0))
 
 format-expression-factor-sub-inner : (t : ℕ)
     → format-expression-factor-lts.Need-sub-inner (format-expression-factor-claims t) (format-expression-factor-at t) format-expression-factor.Post
 format-expression-factor-sub-inner t c =
     let at-opened = c .before in
     let at-open = at-opened .before .before .before .before in
-    opened-levels (at-open .«open» .ensures) (at-opened .opened .given .1)
+    opened-levels (at-open .«open» .ensures .0) (at-opened .opened .given .1)
 
 format-expression-factor-enum-told-3 : (t : ℕ)
     → format-expression-factor-lts.Need-enum-told-3 (format-expression-factor-claims t) (format-expression-factor-at t) format-expression-factor.Post
@@ -909,7 +909,7 @@ format-expression-factor-format-parens-requires : (t : ℕ)
 format-expression-factor-format-parens-requires t c κs =
     let at-opened = c .before .before .before .before in
     let at-open = at-opened .before .before .before .before in
-    let levels-left = opened-levels (at-open .«open» .ensures) (at-opened .opened .given .1) in
+    let levels-left = opened-levels (at-open .«open» .ensures .0) (at-opened .opened .given .1) in
     let measured = at-open .before .before .before .before .before .before .before .pre .0 in
     (omega (arith, levels-left, measured), tt)
 
@@ -922,7 +922,7 @@ format-expression-factor-format-call-requires : (t : ℕ)
 format-expression-factor-format-call-requires t c κs =
     let at-opened = c .before .before .before .before in
     let at-open = at-opened .before .before .before .before in
-    let levels-left = opened-levels (at-open .«open» .ensures) (at-opened .opened .given .1) in
+    let levels-left = opened-levels (at-open .«open» .ensures .0) (at-opened .opened .given .1) in
     let measured = at-open .before .before .before .before .before .before .before .pre .0 in
     (omega (arith, levels-left, measured), tt)
 
@@ -966,7 +966,7 @@ format-expression-factor-returns-3 t c =
     let at-enum-told2 = at-format-parens .before .before in
     let at-opened = at-enum-told2 .before .before .before in
     let at-open = at-opened .before .before .before .before in
-    let opens = at-open .«open» .ensures in
+    let opens = at-open .«open» .ensures .0 in
     let is = at-opened .opened .given .1 in
     let done = at-open .before .before .before .last .given .1 in
     rw done
@@ -985,7 +985,7 @@ format-expression-factor-returns-4 t c =
     let at-enum-told3 = at-format-call .before .before in
     let at-opened = at-enum-told3 .before .before .before in
     let at-open = at-opened .before .before .before .before in
-    let opens = at-open .«open» .ensures in
+    let opens = at-open .«open» .ensures .0 in
     let is = at-opened .opened .given .1 in
     let done = at-open .before .before .before .last .given .1 in
     rw done
@@ -1004,7 +1004,7 @@ format-expression-factor-returns-5 t c =
     let at-enum-told4 = at-format-identifier-value .before .before .before in
     let at-opened = at-enum-told4 .before .before .before in
     let at-open = at-opened .before .before .before .before in
-    let opens = at-open .«open» .ensures in
+    let opens = at-open .«open» .ensures .0 in
     let is = at-opened .opened .given .1 in
     let done = at-open .before .before .before .last .given .1 in
     rw done
@@ -1023,7 +1023,7 @@ format-expression-factor-returns-6 t c =
     let at-enum-told5 = at-format-number .before .before in
     let at-opened = at-enum-told5 .before .before .before in
     let at-open = at-opened .before .before .before .before in
-    let opens = at-open .«open» .ensures in
+    let opens = at-open .«open» .ensures .0 in
     let is = at-opened .opened .given .1 in
     let done = at-open .before .before .before .last .given .1 in
     rw done
@@ -1042,7 +1042,7 @@ format-expression-factor-returns-7 t c =
     let at-enum-told6 = at-format-string .before .before in
     let at-opened = at-enum-told6 .before .before .before in
     let at-open = at-opened .before .before .before .before in
-    let opens = at-open .«open» .ensures in
+    let opens = at-open .«open» .ensures .0 in
     let is = at-opened .opened .given .1 in
     let done = at-open .before .before .before .last .given .1 in
     rw done
@@ -1061,7 +1061,7 @@ format-expression-factor-returns-8 t c =
     let at-match3 = at-format-leaf .before .before in
     let at-opened = at-match3 .before .before in
     let at-open = at-opened .before .before .before .before in
-    let opens = at-open .«open» .ensures in
+    let opens = at-open .«open» .ensures .0 in
     let is = at-opened .opened .given .1 in
     let done = at-open .before .before .before .last .given .1 in
     rw done

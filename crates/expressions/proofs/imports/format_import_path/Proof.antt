@@ -34,13 +34,13 @@ returns : tie.Need-returns
 returns c =
     let at-enum-told = c .before in
     let at-open = at-enum-told .before .before .before .before in
-    shown-closed (at-open .«open» .ensures) (leaf plain) (at-enum-told .enum-told .given .1) (c .closed .ensures)
+    shown-closed (at-open .«open» .ensures .0) (leaf plain) (at-enum-told .enum-told .given .1) (c .closed .ensures .0)
 
 sub-inner : tie.Need-sub-inner
 sub-inner c =
     let at-opened = c .before in
     let at-open = at-opened .before .before .before .before in
-    opened-levels (at-open .«open» .ensures) (at-opened .opened .given .1)
+    opened-levels (at-open .«open» .ensures .0) (at-opened .opened .given .1)
 
 stands-requires : tie.Need-stands-requires
 stands-requires c κs = search needs
@@ -66,7 +66,7 @@ returns-2 c =
     let at-stands = at-format-leaf .before .before in
     let at-opened = at-stands .before .before .before in
     let at-open = at-opened .before .before .before .before in
-    let opens = at-open .«open» .ensures in
+    let opens = at-open .«open» .ensures .0 in
     let is = at-opened .opened .given .1 in
     opened-kind opens is (leaf plain) variant.SpecificImportArg (opened-one opens is 41 variant.SpecificImportArg refl refl refl refl) refl (record {
       from = λ at here.

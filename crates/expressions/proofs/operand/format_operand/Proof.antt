@@ -32,7 +32,7 @@ returns : tie.Need-returns
 returns c =
     let at-enum-told = c .before in
     let at-open = at-enum-told .before .before .before .before in
-    shown-closed (at-open .«open» .ensures) (leaf plain) (at-enum-told .enum-told .given .1) (c .closed .ensures)
+    shown-closed (at-open .«open» .ensures .0) (leaf plain) (at-enum-told .enum-told .given .1) (c .closed .ensures .0)
 
 stands-requires : tie.Need-stands-requires
 stands-requires c κs = search needs
@@ -47,7 +47,7 @@ sub-format-front : tie.Need-sub-format-front
 sub-format-front c =
     let at-opened = c .before .before .before .before .before .before in
     let at-open = at-opened .before .before .before .before in
-    opened-levels (at-open .«open» .ensures) (at-opened .opened .given .1)
+    opened-levels (at-open .«open» .ensures .0) (at-opened .opened .given .1)
 
 format-front-requires : tie.Need-format-front-requires
 format-front-requires c κs = search needs
@@ -56,7 +56,7 @@ sub-format-tail : tie.Need-sub-format-tail
 sub-format-tail c =
     let at-opened = c .before .before .before .before .before .before .before .before .before .before in
     let at-open = at-opened .before .before .before .before in
-    opened-levels (at-open .«open» .ensures) (at-opened .opened .given .1)
+    opened-levels (at-open .«open» .ensures .0) (at-opened .opened .given .1)
 
 format-tail-requires : tie.Need-format-tail-requires
 format-tail-requires c κs = search needs
@@ -74,7 +74,7 @@ returns-2 c =
     let at-stands = at-stands2 .before in
     let at-opened = at-stands .before .before .before in
     let at-open = at-opened .before .before .before .before in
-    let opens = at-open .«open» .ensures in
+    let opens = at-open .«open» .ensures .0 in
     let is = at-opened .opened .given .1 in
     opened-kind opens is (leaf plain) variant.Operand (opened-one opens is 37 variant.Operand refl refl refl refl) refl (record {
       from = λ at here.

@@ -57,7 +57,7 @@ returns-3 c =
     (c .before .enum-told3 .given .1) (c .refusal-of .ensures) (ran-printer closing is) (room-left closing is))
 
 mode-of-requires : tie.Need-mode-of-requires
-mode-of-requires c κs = own-text _ _ _ (c .before .before .before .before .read-own .ensures .1) (c .before .before .found .given .1)
+mode-of-requires c κs = own-text _ _ _ (c .before .before .before .before .read-own .ensures .1 .0) (c .before .before .found .given .1)
 
 format-end-requires : tie.Need-format-end-requires
 format-end-requires c κs = search needs

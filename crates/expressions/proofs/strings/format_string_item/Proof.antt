@@ -30,7 +30,7 @@ returns : tie.Need-returns
 returns c =
     let at-enum-told = c .before in
     let at-open = at-enum-told .before .before .before .before in
-    shown-closed (at-open .«open» .ensures) (leaf plain) (at-enum-told .enum-told .given .1) (c .closed .ensures)
+    shown-closed (at-open .«open» .ensures .0) (leaf plain) (at-enum-told .enum-told .given .1) (c .closed .ensures .0)
 
 enum-told-2 : tie.Need-enum-told-2
 enum-told-2 c = search needs
@@ -45,21 +45,21 @@ sub-push : tie.Need-sub-push
 sub-push c =
     let at-opened = c .before .before .before .before .before .before .before .before .before in
     let at-open = at-opened .before .before .before .before in
-    let inside = opened-fits (at-open .«open» .ensures) (at-opened .opened .given .1) in
+    let inside = opened-fits (at-open .«open» .ensures .0) (at-opened .opened .given .1) in
     omega (arith, inside .0, inside .1)
 
 part-push-start : tie.Need-part-push-start
 part-push-start c =
     let at-opened = c .before .before .before .before .before .before .before .before .before in
     let at-open = at-opened .before .before .before .before in
-    let inside = opened-fits (at-open .«open» .ensures) (at-opened .opened .given .1) in
+    let inside = opened-fits (at-open .«open» .ensures .0) (at-opened .opened .given .1) in
     omega (arith, inside .0, inside .1)
 
 part-push-end : tie.Need-part-push-end
 part-push-end c =
     let at-opened = c .before .before .before .before .before .before .before .before .before in
     let at-open = at-opened .before .before .before .before in
-    let inside = opened-fits (at-open .«open» .ensures) (at-opened .opened .given .1) in
+    let inside = opened-fits (at-open .«open» .ensures .0) (at-opened .opened .given .1) in
     omega (arith, inside .0, inside .1)
 
 push-requires-2 : tie.Need-push-requires-2
@@ -78,21 +78,21 @@ sub-push-2 : tie.Need-sub-push-2
 sub-push-2 c =
     let at-opened = c .before .before .before in
     let at-open = at-opened .before .before .before .before in
-    let inside = opened-fits (at-open .«open» .ensures) (at-opened .opened .given .1) in
+    let inside = opened-fits (at-open .«open» .ensures .0) (at-opened .opened .given .1) in
     omega (arith, inside .0, inside .1)
 
 part-push-start-2 : tie.Need-part-push-start-2
 part-push-start-2 c =
     let at-opened = c .before .before .before in
     let at-open = at-opened .before .before .before .before in
-    let inside = opened-fits (at-open .«open» .ensures) (at-opened .opened .given .1) in
+    let inside = opened-fits (at-open .«open» .ensures .0) (at-opened .opened .given .1) in
     omega (arith, inside .0, inside .1)
 
 part-push-end-2 : tie.Need-part-push-end-2
 part-push-end-2 c =
     let at-opened = c .before .before .before in
     let at-open = at-opened .before .before .before .before in
-    let inside = opened-fits (at-open .«open» .ensures) (at-opened .opened .given .1) in
+    let inside = opened-fits (at-open .«open» .ensures .0) (at-opened .opened .given .1) in
     omega (arith, inside .0, inside .1)
 
 push-requires-4 : tie.Need-push-requires-4
@@ -118,12 +118,12 @@ returns-2 c =
     let at-enum-told2 = at-push .before .before .before in
     let at-opened = at-enum-told2 .before .before .before in
     let at-open = at-opened .before .before .before .before in
-    let opens = at-open .«open» .ensures in
+    let opens = at-open .«open» .ensures .0 in
     let is = at-opened .opened .given .1 in
     opened-as opens is (leaf plain) _ _ (path-read _ _ _ (at-enum-told2 .enum-told2 .given .1))
     (ran-push (at-push .push .ensures)
     then ran-push (rw part-slice at (at-push2 .push2 .ensures))
-    then finish (ran-push (at-push3 .push3 .ensures)) (c .finish .ensures) refl)
+    then finish (ran-push (at-push3 .push3 .ensures)) (c .finish .ensures .0) refl)
 
 same-length-3 : tie.Need-same-length-3
 same-length-3 c = search needs
@@ -135,10 +135,10 @@ returns-3 c =
     let at-match2 = at-push4 .before .before .before in
     let at-opened = at-match2 .before .before in
     let at-open = at-opened .before .before .before .before in
-    let opens = at-open .«open» .ensures in
+    let opens = at-open .«open» .ensures .0 in
     let is = at-opened .opened .given .1 in
     opened-as opens is (leaf plain) _ _ (text-read _ _ _ (text-item opens is (at-match2 .match2 .keys2)))
-    (finish (ran-push (rw part-slice at (at-push4 .push4 .ensures))) (c .finish2 .ensures) refl)
+    (finish (ran-push (rw part-slice at (at-push4 .push4 .ensures))) (c .finish2 .ensures .0) refl)
 
 pub format-string-item-spec : {M : Type 1} → statement M
 format-string-item-spec =

@@ -27,13 +27,13 @@ returns : tie.Need-returns
 returns c =
     let at-enum-told = c .before in
     let at-open = at-enum-told .before .before .before .before in
-    shown-closed (at-open .«open» .ensures) inString (at-enum-told .enum-told .given .1) (c .closed .ensures)
+    shown-closed (at-open .«open» .ensures .0) inString (at-enum-told .enum-told .given .1) (c .closed .ensures .0)
 
 sub-format-each-item : tie.Need-sub-format-each-item
 sub-format-each-item c =
     let at-opened = c .before .before in
     let at-open = at-opened .before .before .before .before in
-    opened-levels (at-open .«open» .ensures) (at-opened .opened .given .1)
+    opened-levels (at-open .«open» .ensures .0) (at-opened .opened .given .1)
 
 format-each-item-requires : tie.Need-format-each-item-requires
 format-each-item-requires c κs = search needs
@@ -46,7 +46,7 @@ returns-2 c =
     let at-format-each-item = c .before .before in
     let at-opened = at-format-each-item .before .before .before in
     let at-open = at-opened .before .before .before .before in
-    let opens = at-open .«open» .ensures in
+    let opens = at-open .«open» .ensures .0 in
     let is = at-opened .opened .given .1 in
     opened-list opens is inString StringItem (opened-items opens is) refl (at-format-each-item .format-each-item .ensures)
 

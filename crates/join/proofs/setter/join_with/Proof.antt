@@ -19,7 +19,7 @@ enum-known-checked c = search needs
 
 returns : tie.Need-returns
 returns c =
-    let failed = sym (c .before .before .before .check-chunks .ensures) ∙ c .before .checked .given .1 in
+    let failed = sym (c .before .before .before .check-chunks .ensures .0) ∙ c .before .checked .given .1 in
     rw failed (refl, (refl, tt))
 
 enum-told : tie.Need-enum-told
@@ -27,14 +27,14 @@ enum-told c = search needs
 
 measure-lines-requires : tie.Need-measure-lines-requires
 measure-lines-requires c κs =
-    let passed = sym (c .before .before .check-chunks .ensures) ∙ c .enum-told .given .1 in
+    let passed = sym (c .before .before .check-chunks .ensures .0) ∙ c .enum-told .given .1 in
     (c .before .before .before .before .before .pre, passed-end _ passed, passed-short _ passed)
 
 returns-2 : tie.Need-returns-2
 returns-2 c =
     let start = c .before .before .before .before .before .before .before in
     let list = start .args .chunks .now in
-    let passed = sym (c .before .before .before .before .check-chunks .ensures) ∙ c .before .before .enum-told .given .1 in
+    let passed = sym (c .before .before .before .before .check-chunks .ensures .0) ∙ c .before .before .enum-told .given .1 in
     let byte = c .before .before .before .before .before .before .shared-slice-known .given in
     let faithful = text-faithful (start .args .margins) list (start .pre .label) (start .pre .code) (λ i. omega (arith, byte i)) passed in
     let long = text-long (textOf (start .args .margins) (chunksOf list)) (start .args .text .now) _ (c .before .measure-lines .ensures .0) (c .if1 .taken) in
@@ -48,7 +48,7 @@ slice-aggregate-write-lines c = simp length-take (omega arith)
 
 write-lines-requires : tie.Need-write-lines-requires
 write-lines-requires c κs =
-    let passed = sym (c .before .before .before .before .before .check-chunks .ensures) ∙ c .before .before .before .enum-told .given .1 in
+    let passed = sym (c .before .before .before .before .before .check-chunks .ensures .0) ∙ c .before .before .before .enum-told .given .1 in
     let measured = c .before .before .measure-lines .ensures in
     let size = length-take-le _ _ (c .before .if1 .left) in
     ((c .before .before .before .before .before .before .before .before .pre, passed-end _ passed, passed-short _ passed), (size ∙ measured .0, omega (arith, size, measured .1)))
@@ -60,7 +60,7 @@ returns-3 : tie.Need-returns-3
 returns-3 c =
     let start = c .before .before .before .before .before .before .before .before .before .before .before in
     let list = start .args .chunks .now in
-    let passed = sym (c .before .before .before .before .before .before .before .before .check-chunks .ensures) ∙ c .before .before .before .before .before .before .enum-told .given .1 in
+    let passed = sym (c .before .before .before .before .before .before .before .before .check-chunks .ensures .0) ∙ c .before .before .before .before .before .before .enum-told .given .1 in
     let byte = c .before .before .before .before .before .before .before .before .before .before .shared-slice-known .given in
     let faithful = text-faithful (start .args .margins) list (start .pre .label) (start .pre .code) (λ i. omega (arith, byte i)) passed in
     let fitting = c .before .before .before .before in

@@ -36,7 +36,7 @@ unfolding eventsIn
 returns-3 c =
     let absent = c .before .if1 .left in
     let is = c .before .before .before .last .given .1 in
-    let none = finish ran-nothing (c .finish .ensures) refl in
+    let none = finish ran-nothing (c .finish .ensures .0) refl in
     (done-before is (rw absent none), λ leaves. done-before is (rw absent none))
 
 pub format-optional-leaf-spec : {M : Type 1} → statement M

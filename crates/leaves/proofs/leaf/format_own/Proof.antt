@@ -21,7 +21,7 @@ returns : tie.Need-returns
 returns c =
     let pushed = c .before .before .before in
     let shown = pushed .before .before .before .before in
-    record { ran = shown .shown-trivia .ensures } then finish (record { ran = pushed .push-text .ensures }) (c .finish .ensures) refl
+    record { ran = shown .shown-trivia .ensures } then finish (record { ran = pushed .push-text .ensures }) (c .finish .ensures .0) refl
 
 pub format-own-spec : {M : Type 1} → statement M
 format-own-spec =

@@ -8,7 +8,7 @@ finish-requires : tie.Need-finish-requires
 finish-requires c κs = search needs
 
 returns : tie.Need-returns
-returns c = own-and-leaf _ _ _ _ _ _ _ (full-refused _ (c .finish .ensures) (c .before .if1 .taken))
+returns c = own-and-leaf _ _ _ _ _ _ _ (full-refused _ (c .finish .ensures .0) (c .before .if1 .taken))
 
 read-own-requires : tie.Need-read-own-requires
 read-own-requires c κs = search needs
@@ -29,7 +29,7 @@ returns-2 c =
     (refusal-shown _ _ _ _ _ _ _ (read .read-own .ensures .0) _ _ (c .refusal-of .ensures) (c .before .enum-told .given .1) (read .before .if1 .left))
 
 format-own-requires : tie.Need-format-own-requires
-format-own-requires c κs = own-text _ _ _ (c .before .before .before .before .read-own .ensures .1) (c .before .before .found .given .1)
+format-own-requires c κs = own-text _ _ _ (c .before .before .before .before .read-own .ensures .1 .0) (c .before .before .found .given .1)
 
 same-length : tie.Need-same-length
 same-length c = search needs
@@ -38,7 +38,7 @@ returns-3 : tie.Need-returns-3
 returns-3 c =
     let found = c .before .before .before .before .before in
     let read = found .before .before .read-own .ensures in
-    own-and-leaf _ _ _ _ _ _ _ (own-shown _ _ _ _ _ _ _ (read .0) _ (read .1) (found .found .given .1) (c .before .before .format-own .ensures))
+    own-and-leaf _ _ _ _ _ _ _ (own-shown _ _ _ _ _ _ _ (read .0) _ (read .1 .0) (found .found .given .1) (c .before .before .format-own .ensures))
 
 pub leaf-at-spec : {M : Type 1} → statement M
 leaf-at-spec =

@@ -1,4 +1,6 @@
 -- The two cases of the definition.
+use mathlib.Core.Path.{refl}
+use Rattle.leaves.specs.Records.{closedNumbers}
 use borrow.Author.Needs.{needs}
 use Rattle.leaves.proofs.record.closed.Statement.{statement}
 use Rattle.leaves.proofs.record.closed.Tie as tie
@@ -13,10 +15,12 @@ finish-requires : tie.Need-finish-requires
 finish-requires c κs = search needs
 
 returns : tie.Need-returns
-returns c = search needs
+unfolding closedNumbers
+returns c = let is = c .before .opened .given .1 in rw is (refl, refl)
 
 returns-2 : tie.Need-returns-2
-returns-2 c = rw (c .before .before .opened2 .given .1) (c .finish .ensures)
+unfolding closedNumbers
+returns-2 c = rw (c .before .before .opened2 .given .1) (c .finish .ensures .0, c .finish .ensures .1)
 
 pub closed-spec : {M : Type 1} → statement M
 closed-spec =

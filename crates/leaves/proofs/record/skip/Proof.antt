@@ -18,13 +18,13 @@ finish-requires : tie.Need-finish-requires
 finish-requires c κs = search needs
 
 returns-2 : tie.Need-returns-2
-returns-2 c = skip-absent (c .before .before .before .last .given .1) (not-true _ (c .before .if1 .taken)) (c .finish .ensures)
+returns-2 c = skip-absent (c .before .before .before .last .given .1) (not-true _ (c .before .if1 .taken)) (c .finish .ensures .0)
 
 finish-requires-2 : tie.Need-finish-requires-2
 finish-requires-2 c κs = search needs
 
 returns-3 : tie.Need-returns-3
-returns-3 c = skip-full (c .before .before .before .before .before .last .given .1) (c .finish2 .ensures) (c .before .if2 .taken)
+returns-3 c = skip-full (c .before .before .before .before .before .last .given .1) (c .finish2 .ensures .0) (c .before .if2 .taken)
 
 skip-requires : tie.Need-skip-requires
 skip-requires c κs = search needs
@@ -43,7 +43,7 @@ returns-4 c =
     let tried = c .before .before .before in
     let full = tried .before in
     let stood = full .before .before in
-    skip-stopped (stood .before .before .last .given .1) (not-false _ (stood .if1 .left)) (tried .skip .ensures)
+    skip-stopped (stood .before .before .last .given .1) (not-false _ (stood .if1 .left)) (tried .skip .ensures .0)
     (c .refused-skip .ensures) (c .before .enum-told2 .given .1) (full .if2 .left)
 
 finish-requires-3 : tie.Need-finish-requires-3
@@ -54,7 +54,7 @@ returns-5 c =
     let found = c .before .before in
     let tried = found .before .before in
     let stood = tried .before .before .before in
-    skip-behind (stood .before .before .last .given .1) (not-false _ (stood .if1 .left)) (tried .skip .ensures) (found .found .given .1) (c .finish3 .ensures)
+    skip-behind (stood .before .before .last .given .1) (not-false _ (stood .if1 .left)) (tried .skip .ensures .0) (found .found .given .1) (c .finish3 .ensures .0)
 
 pub skip-spec : {M : Type 1} → statement M
 skip-spec =

@@ -3,7 +3,7 @@ use native.Mathlib.Omega.{arith}
 use borrow.Author.Needs.{needs}
 use Rattle.tree.specs.Reading.{read}
 use Rattle.tree.specs.Walk.{planSize}
-use Rattle.tree.proofs.Planning.{rest-less}
+use Rattle.tree.proofs.Planning.{next-of, rest-less, plan-due}
 use Rattle.tree.proofs.Records.{level-left}
 use Rattle.losses.proofs.Searching.{PartsLeft, parts-start, search-done, search-on, search-refused, record-searched}
 use Prim.Native.Nat.{ℕ, _<_, _-_}
@@ -279,7 +279,7 @@ search-returns-2 t c =
     let own = below .before .before .before in
     record-searched _ _ _ _ (own .before .before .before .before .args .listed) (own .before .before .read-own .ensures .0) _ (own .read .given .1)
     (below .before .byte-at .ensures) (below .listed-below .ensures) (begun .before .record-uses .ensures)
-    (search-done _ _ _ _ _ _ _ _ _ (turn .before .loop .inv) _ (turn .next-part .ensures .0) (c .enum-told2 .given .1) _ (begun .plan-of .ensures))
+    (search-done _ _ _ _ _ _ _ _ _ (turn .before .loop .inv) _ (next-of _ (turn .next-part .ensures)) (c .enum-told2 .given .1) _ (plan-due _ _ (begun .plan-of .ensures)))
 
 search-sub-search : (t : ℕ) → search-lts.Need-sub-search (
   read-own-reads.Asked,
@@ -339,7 +339,7 @@ search-loop-less : (t : ℕ) → search-lts.Need-loop-less (
 ) (search-at t) search′.Post search-Inv-loop search-μ-loop
 search-loop-less t c =
     let turn = c .before .before .before .before .before in
-    rest-less (turn .before .loop .plan) _ _ _ (c .before .before .before .part .given .1) (turn .next-part .ensures .1)
+    rest-less (turn .before .loop .plan) _ _ _ (c .before .before .before .part .given .1) (turn .next-part .ensures)
 
 search-loop-again : (t : ℕ) → search-lts.Need-loop-again (
   read-own-reads.Asked,
@@ -359,7 +359,7 @@ search-loop-again : (t : ℕ) → search-lts.Need-loop-again (
 ) (search-at t) search′.Post search-Inv-loop search-μ-loop
 search-loop-again t c =
     let turn = c .before .before .before .before .before in
-    search-on _ _ _ _ _ _ _ _ _ (turn .before .loop .inv) _ (turn .next-part .ensures .0) _ _ (c .before .before .before .part .given .1) _ (c .before .search .ensures)
+    search-on _ _ _ _ _ _ _ _ _ (turn .before .loop .inv) _ (next-of _ (turn .next-part .ensures)) _ _ (c .before .before .before .part .given .1) _ (c .before .search .ensures)
 
 pub +search-spec : {M : Type 1} → statement M
 +search-spec = close μ-search λ t. search-lts.spec (

@@ -40,14 +40,14 @@ letters-at-requires : tie.Need-letters-at-requires
 letters-at-requires c κs = search needs
 
 returns : tie.Need-returns
-returns c = narrow-lost _ _ _ (lost-refused _ _ (c .before .before .before .check-tree .ensures) (c .before .checked .given .1))
+returns c = narrow-lost _ _ _ (lost-refused _ _ (c .before .before .before .check-tree .ensures .0) (c .before .checked .given .1))
 
 returns-2 : tie.Need-returns-2
 returns-2 c =
     let searched = c .before .before .before .before in
     let passed = searched .before .before in
     narrow-lost _ _ _
-    (lost-none _ _ (passed .before .before .check-tree .ensures) (passed .enum-told .given .1) (searched .before .no-firsts .ensures) (searched .search .ensures)
+    (lost-none _ _ (passed .before .before .check-tree .ensures .0) (passed .enum-told .given .1) (searched .before .no-firsts .ensures) (searched .search .ensures)
     (c .before .before .least .ensures) (c .enum-told2 .given .1))
 
 returns-3 : tie.Need-returns-3
@@ -56,7 +56,7 @@ returns-3 c =
     let searched = least .before .before in
     let passed = searched .before .before in
     narrow-lost _ _ _
-    (lost-used _ _ (passed .before .before .check-tree .ensures) (passed .enum-told .given .1) (searched .before .no-firsts .ensures) (searched .search .ensures)
+    (lost-used _ _ (passed .before .before .check-tree .ensures .0) (passed .enum-told .given .1) (searched .before .no-firsts .ensures) (searched .search .ensures)
     (least .least .ensures) (c .before .before .least2 .given .1) (c .letters-at .ensures))
 
 pub lost-spec : {M : Type 1} → statement M

@@ -20,12 +20,12 @@ enum-told c = search needs
 returns-2 : tie.Need-returns-2
 returns-2 c =
     let skipped = c .before .before .before in
-    rw (not-false (skipped .before .before .before .args .stands) (skipped .before .if1 .left), sym (skipped .skip .ensures) ∙ c .before .skipped .given .1) refl
+    rw (not-false (skipped .before .before .before .args .stands) (skipped .before .if1 .left), sym (skipped .skip .ensures .0) ∙ c .before .skipped .given .1) refl
 
 returns-3 : tie.Need-returns-3
 returns-3 c =
     let skipped = c .before .before in
-    rw (not-false (skipped .before .before .before .args .stands) (skipped .before .if1 .left), sym (skipped .skip .ensures) ∙ c .enum-told .given .1) refl
+    rw (not-false (skipped .before .before .before .args .stands) (skipped .before .if1 .left), sym (skipped .skip .ensures .0) ∙ c .enum-told .given .1) refl
 
 pub behind-spec : {M : Type 1} → statement M
 behind-spec =

@@ -25,7 +25,7 @@ enum-told c = search needs
 
 returns-2 : tie.Need-returns-2
 returns-2 c =
-    (λ none. refl, λ passed token. head-missed _ _ _ _ (c .before .before .head-place .ensures) (c .enum-told .given .1) passed token)
+    (λ none. refl, λ passed token. head-missed _ _ _ _ (c .before .before .head-place .ensures .0) (c .enum-told .given .1) passed token)
 
 read-own-requires : tie.Need-read-own-requires
 read-own-requires c κs = search needs
@@ -40,7 +40,7 @@ returns-3 : tie.Need-returns-3
 returns-3 c =
     let place = c .before .before .before .before in (
       λ none. refl,
-      λ passed token. head-unread _ _ _ _ (place .before .before .head-place .ensures) _ (place .place .given .1) (c .before .before .read-own .ensures .0)
+      λ passed token. head-unread _ _ _ _ (place .before .before .head-place .ensures .0) _ (place .place .given .1) (c .before .before .read-own .ensures .0)
           (c .enum-told2 .given .1) passed token,
     )
 
@@ -52,7 +52,7 @@ returns-4 c =
     let place = c .before .before .before .before .before .before in
     let own = c .before .before .before .before .read-own .ensures in (
       λ none. absurd (place .before .before .before .if1 .left none),
-      head-taken _ _ _ _ (place .before .before .head-place .ensures) _ (place .place .given .1) (own .0) _ (own .1) (c .before .before .read .given .1) (c .own-use .ensures),
+      head-taken _ _ _ _ (place .before .before .head-place .ensures .0) _ (place .place .given .1) (own .0) _ (own .1 .0) (c .before .before .read .given .1) (c .own-use .ensures),
     )
 
 pub head-use-spec : {M : Type 1} → statement M

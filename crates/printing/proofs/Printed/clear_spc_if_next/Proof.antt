@@ -21,7 +21,7 @@ finish-requires : tie.Need-finish-requires
 finish-requires c κs = search needs
 
 returns-2 : tie.Need-returns-2
-returns-2 c = λ room. done-before (c .before .before .before .self .given .1) (finish (ran-clear (c .before .clear-spc-if-next .ensures)) (c .finish .ensures) refl)
+returns-2 c = λ room. done-before (c .before .before .before .self .given .1) (finish (ran-clear (c .before .clear-spc-if-next .ensures)) (c .finish .ensures .0) refl)
 
 pub clear-spc-if-next-spec : {M : Type 1} → statement M
 clear-spc-if-next-spec =

@@ -26,7 +26,7 @@ same-length c = search needs
 returns-2 : tie.Need-returns-2
 returns-2 c =
     let pushed = c .before .before .before in
-    done-before (pushed .before .before .before .self .given .1) (finish (ran-push (pushed .push .ensures)) (c .finish .ensures) refl)
+    done-before (pushed .before .before .before .self .given .1) (finish (ran-push (pushed .push .ensures)) (c .finish .ensures .0) refl)
 
 pub push-spec : {M : Type 1} → statement M
 push-spec =

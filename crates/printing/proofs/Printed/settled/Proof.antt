@@ -18,7 +18,7 @@ finish-requires : tie.Need-finish-requires
 finish-requires c κs = search needs
 
 returns-2 : tie.Need-returns-2
-returns-2 c = λ room. done-before (c .before .before .self .given .1) (finish ran-nothing (c .finish .ensures) refl)
+returns-2 c = λ room. done-before (c .before .before .self .given .1) (finish ran-nothing (c .finish .ensures .0) refl)
 
 pub settled-spec : {M : Type 1} → statement M
 settled-spec = tie.close (tie.spec enum-known-self enum-told returns finish-requires returns-2)

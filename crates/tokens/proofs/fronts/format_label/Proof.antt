@@ -25,13 +25,13 @@ returns : tie.Need-returns
 returns c =
     let at-closed = c .before in
     let at-open = at-closed .before .before .before .before in
-    shown-closed (at-open .«open» .ensures) labelled (at-closed .enum-told .given .1) (c .closed .ensures)
+    shown-closed (at-open .«open» .ensures .0) labelled (at-closed .enum-told .given .1) (c .closed .ensures .0)
 
 push-label-requires : tie.Need-push-label-requires
 push-label-requires c κs =
     let at-opened = c .before .before in
     let at-open = at-opened .before .before .before .before in
-    opened-fits (at-open .«open» .ensures) (at-opened .opened .given .1)
+    opened-fits (at-open .«open» .ensures .0) (at-opened .opened .given .1)
 
 same-length-2 : tie.Need-same-length-2
 same-length-2 c = search needs
@@ -41,7 +41,7 @@ returns-2 c =
     let at-label = c .before .before in
     let at-opened = at-label .before .before .before in
     let at-open = at-opened .before .before .before .before in
-    id-opened (at-open .«open» .ensures) (at-opened .opened .given .1) (at-label .push-label .ensures _)
+    id-opened (at-open .«open» .ensures .0) (at-opened .opened .given .1) (at-label .push-label .ensures _)
 
 pub format-label-spec : {M : Type 1} → statement M
 format-label-spec =

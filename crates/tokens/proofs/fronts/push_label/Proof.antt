@@ -28,7 +28,7 @@ same-length c = search needs
 returns : tie.Need-returns
 returns c levels at is =
     let at-push = c .before .before .before in
-    let pushed = finish (ran-push (rw part-slice at (at-push .push-type .ensures))) (c .finish .ensures) refl in
+    let pushed = finish (ran-push (rw part-slice at (at-push .push-type .ensures))) (c .finish .ensures .0) refl in
     done-before refl (id-shown _ levels _ _ at is pushed)
 
 pub push-label-spec : {M : Type 1} → statement M

@@ -40,7 +40,7 @@ returns c at is =
     let at-behind = c .before .before in
     let at-finish = at-behind .before in
     let pushed = rw part-slice at (at-finish .before .before .before .before .push-mnemonic .ensures) in
-    let named = text-shown _ _ mnemonic-leaf at _ mnemonic _ _ is (finish (record { ran = pushed }) (at-finish .finish .ensures) refl) in
+    let named = text-shown _ _ mnemonic-leaf at _ mnemonic _ _ is (finish (record { ran = pushed }) (at-finish .finish .ensures .0) refl) in
     done-before refl (named thence at-behind .format-behind-mnemonic .ensures .from _ (named .next))
 
 pub format-listed-instruction-spec : {M : Type 1} → statement M

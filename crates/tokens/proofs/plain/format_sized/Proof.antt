@@ -35,7 +35,7 @@ returns c at is =
     let at-behind = c .before .before in
     let at-finish = at-behind .before in
     let pushed = rw part-slice at (at-finish .before .before .before .before .push-data-size .ensures) in
-    let size = text-shown _ _ data-size-leaf at _ dataSize _ _ is (finish (record { ran = pushed }) (at-finish .finish .ensures) refl) in
+    let size = text-shown _ _ data-size-leaf at _ dataSize _ _ is (finish (record { ran = pushed }) (at-finish .finish .ensures .0) refl) in
     done-before refl (size thence at-behind .format-behind-size .ensures .from _ (size .next))
 
 pub format-sized-spec : {M : Type 1} → statement M

@@ -260,13 +260,13 @@ format-block-returns : (t : ℕ) → format-block-lts.Need-returns (format-block
 format-block-returns t c =
     let at-enum-told = c .before in
     let at-open = at-enum-told .before .before .before .before in
-    shown-closed (at-open .«open» .ensures) (leaf plain) (at-enum-told .enum-told .given .1) (c .closed .ensures)
+    shown-closed (at-open .«open» .ensures .0) (leaf plain) (at-enum-told .enum-told .given .1) (c .closed .ensures .0)
 
 format-block-sub-open-block : (t : ℕ) → format-block-lts.Need-sub-open-block (format-block-claims t) (format-block-at t) format-block.Post
 format-block-sub-open-block t c =
     let at-opened = c .before .before in
     let at-open = at-opened .before .before .before .before in
-    opened-levels (at-open .«open» .ensures) (at-opened .opened .given .1)
+    opened-levels (at-open .«open» .ensures .0) (at-opened .opened .given .1)
 
 format-block-open-block-requires : (t : ℕ) → format-block-lts.Need-open-block-requires (format-block-claims t) (format-block-at t) format-block.Post
 format-block-open-block-requires t c κs = search needs
@@ -275,7 +275,7 @@ format-block-deeper-requires : (t : ℕ) → format-block-lts.Need-deeper-requir
 format-block-deeper-requires t c κs =
     let at-opened = c .before .before .before .before .before .before in
     let at-open = at-opened .before .before .before .before in
-    let levels-left = opened-levels (at-open .«open» .ensures) (at-opened .opened .given .1) in
+    let levels-left = opened-levels (at-open .«open» .ensures .0) (at-opened .opened .given .1) in
     let narrow = at-open .before .before .before .before .pre .1 in
     (narrow .0, omega (arith, levels-left, narrow .1))
 
@@ -283,13 +283,13 @@ format-block-sub-format-tokens : (t : ℕ) → format-block-lts.Need-sub-format-
 format-block-sub-format-tokens t c =
     let at-opened = c .before .before .before .before .before .before .before in
     let at-open = at-opened .before .before .before .before in
-    opened-levels (at-open .«open» .ensures) (at-opened .opened .given .1)
+    opened-levels (at-open .«open» .ensures .0) (at-opened .opened .given .1)
 
 format-block-format-tokens-requires : (t : ℕ) → format-block-lts.Need-format-tokens-requires (format-block-claims t) (format-block-at t) format-block.Post
 format-block-format-tokens-requires t c κs =
     let at-opened = c .before .before .before .before .before .before .before in
     let at-open = at-opened .before .before .before .before in
-    let levels-left = opened-levels (at-open .«open» .ensures) (at-opened .opened .given .1) in
+    let levels-left = opened-levels (at-open .«open» .ensures .0) (at-opened .opened .given .1) in
     let measured = at-open .before .before .before .before .pre .0 in
     let narrow = at-open .before .before .before .before .pre .1 in
     (omega (arith, levels-left, measured), (rw (c .deeper .ensures) (narrow .0, omega (arith, levels-left, narrow .0, narrow .1))))
@@ -308,7 +308,7 @@ format-block-sub-format-leaf t c =
     let at-inner = c .before .before .before .before .before .before .before .before .before in
     let at-opened = at-inner .before .before .before .before .before .before .before .before in
     let at-open = at-opened .before .before .before .before in
-    opened-levels (at-open .«open» .ensures) (at-opened .opened .given .1)
+    opened-levels (at-open .«open» .ensures .0) (at-opened .opened .given .1)
 
 format-block-format-leaf-requires : (t : ℕ) → format-block-lts.Need-format-leaf-requires (format-block-claims t) (format-block-at t) format-block.Post
 format-block-format-leaf-requires t c κs = search needs
@@ -334,7 +334,7 @@ format-block-returns-2 t c =
     let at-open-block = at-deeper .before .before .before .before in
     let at-opened = at-open-block .before .before .before in
     let at-open = at-opened .before .before .before .before in
-    let opens = at-open .«open» .ensures in
+    let opens = at-open .«open» .ensures .0 in
     let is = at-opened .opened .given .1 in
     let listed = rw (at-deeper .deeper .ensures) at (at-format-tokens .format-tokens .ensures) in
     opened-kind opens is (leaf plain) variant.Block (opened-one opens is 27 variant.Block refl refl refl refl) refl
@@ -687,14 +687,14 @@ format-listed-token-sub-below : (t : ℕ) → format-listed-token-lts.Need-sub-b
 format-listed-token-sub-below t c =
     let at-ready = c .before .before in
     let at-lead = at-ready .before .before .before .before in
-    opened-levels (listed-opens (at-lead .format-lead-in .ensures) (at-ready .lead2 .given .1) _ refl) refl
+    opened-levels (listed-opens (at-lead .format-lead-in .ensures .0) (at-ready .lead2 .given .1) _ refl) refl
 
 format-listed-token-format-listed-instruction-requires : (t : ℕ)
     → format-listed-token-lts.Need-format-listed-instruction-requires (format-listed-token-claims t) (format-listed-token-at t) format-listed-token.Post
 format-listed-token-format-listed-instruction-requires t c κs =
     let at-ready = c .before .before .before .before .before in
     let at-lead = at-ready .before .before .before .before in
-    head-text (at-lead .format-lead-in .ensures) (at-ready .lead2 .given .1) _ refl
+    head-text (at-lead .format-lead-in .ensures .0) (at-ready .lead2 .given .1) _ refl
 
 format-listed-token-same-length : (t : ℕ) → format-listed-token-lts.Need-same-length (format-listed-token-claims t) (format-listed-token-at t) format-listed-token.Post
 format-listed-token-same-length t c = search needs
@@ -709,13 +709,13 @@ format-listed-token-returns-2 t c =
     let at-last = at-lead .before .before .before in
     let number = sym (at-byte .byte-at .ensures) ∙ at-if1 .if1 .taken in
     done-before (at-last .last .given .1)
-    (listed-instruction (at-lead .format-lead-in .ensures) (at-ready .lead2 .given .1) _ refl number (at-printed .format-listed-instruction .ensures))
+    (listed-instruction (at-lead .format-lead-in .ensures .0) (at-ready .lead2 .given .1) _ refl number (at-printed .format-listed-instruction .ensures))
 
 format-listed-token-format-sized-requires : (t : ℕ) → format-listed-token-lts.Need-format-sized-requires (format-listed-token-claims t) (format-listed-token-at t) format-listed-token.Post
 format-listed-token-format-sized-requires t c κs =
     let at-ready = c .before .before .before .before .before .before in
     let at-lead = at-ready .before .before .before .before in
-    head-text (at-lead .format-lead-in .ensures) (at-ready .lead2 .given .1) _ refl
+    head-text (at-lead .format-lead-in .ensures .0) (at-ready .lead2 .given .1) _ refl
 
 format-listed-token-same-length-2 : (t : ℕ) → format-listed-token-lts.Need-same-length-2 (format-listed-token-claims t) (format-listed-token-at t) format-listed-token.Post
 format-listed-token-same-length-2 t c = search needs
@@ -730,14 +730,14 @@ format-listed-token-returns-3 t c =
     let at-last = at-lead .before .before .before in
     let number = sym (at-byte .byte-at .ensures) ∙ at-if2 .if2 .taken in
     done-before (at-last .last .given .1)
-    (listed-data (at-lead .format-lead-in .ensures) (at-ready .lead2 .given .1) _ refl number (at-printed .format-sized .ensures))
+    (listed-data (at-lead .format-lead-in .ensures .0) (at-ready .lead2 .given .1) _ refl number (at-printed .format-sized .ensures))
 
 format-listed-token-format-listed-label-requires : (t : ℕ)
     → format-listed-token-lts.Need-format-listed-label-requires (format-listed-token-claims t) (format-listed-token-at t) format-listed-token.Post
 format-listed-token-format-listed-label-requires t c κs =
     let at-ready = c .before .before .before .before .before .before .before in
     let at-lead = at-ready .before .before .before .before in
-    head-text (at-lead .format-lead-in .ensures) (at-ready .lead2 .given .1) _ refl
+    head-text (at-lead .format-lead-in .ensures .0) (at-ready .lead2 .given .1) _ refl
 
 format-listed-token-stands-requires : (t : ℕ) → format-listed-token-lts.Need-stands-requires (format-listed-token-claims t) (format-listed-token-at t) format-listed-token.Post
 format-listed-token-stands-requires t c κs = search needs
@@ -757,7 +757,7 @@ format-listed-token-returns-4 t c =
     let number = sym (at-byte .byte-at .ensures) ∙ at-if3 .if3 .taken in
     let none = sym (at-stands .stands .ensures) ∙ not-true _ (c .if4 .taken) in
     done-before (at-last .last .given .1)
-    (listed-label (at-lead .format-lead-in .ensures) (at-ready .lead2 .given .1) _ refl number (λ place read. label-alone _ _ _ _ (at-front .format-listed-label .ensures place read) none))
+    (listed-label (at-lead .format-lead-in .ensures .0) (at-ready .lead2 .given .1) _ refl number (λ place read. label-alone _ _ _ _ (at-front .format-listed-label .ensures place read) none))
 
 format-listed-token-format-block-requires : (t : ℕ) → format-listed-token-lts.Need-format-block-requires (format-listed-token-claims t) (format-listed-token-at t) format-listed-token.Post
 format-listed-token-format-block-requires t c κs =
@@ -766,7 +766,7 @@ format-listed-token-format-block-requires t c κs =
     let at-lead = at-ready .before .before .before .before in
     let at-last = at-lead .before .before .before in
     let start = at-last .before .before .before .before in
-    let opens = listed-opens (at-lead .format-lead-in .ensures) (at-ready .lead2 .given .1) _ refl in
+    let opens = listed-opens (at-lead .format-lead-in .ensures .0) (at-ready .lead2 .given .1) _ refl in
     let levels-left = opened-levels opens refl in
     let measured = start .pre .0 in
     let narrow = start .pre .1 in
@@ -789,7 +789,7 @@ format-listed-token-returns-5 t c =
     let number = sym (at-byte .byte-at .ensures) ∙ at-if3 .if3 .taken in
     let one = sym (at-stands .stands .ensures) ∙ not-false _ (at-if4 .if4 .left) in
     done-before (at-last .last .given .1)
-    (listed-label (at-lead .format-lead-in .ensures) (at-ready .lead2 .given .1) _ refl number (λ place read.
+    (listed-label (at-lead .format-lead-in .ensures .0) (at-ready .lead2 .given .1) _ refl number (λ place read.
     label-block _ _ _ _ (at-front .format-listed-label .ensures place read) one (at-block .format-block .ensures)))
 
 format-listed-token-format-inner-requires : (t : ℕ) → format-listed-token-lts.Need-format-inner-requires (format-listed-token-claims t) (format-listed-token-at t) format-listed-token.Post
@@ -799,7 +799,7 @@ format-listed-token-format-inner-requires t c κs =
     let at-lead = at-ready .before .before .before .before in
     let at-last = at-lead .before .before .before in
     let start = at-last .before .before .before .before in
-    let opens = listed-opens (at-lead .format-lead-in .ensures) (at-ready .lead2 .given .1) _ refl in
+    let opens = listed-opens (at-lead .format-lead-in .ensures .0) (at-ready .lead2 .given .1) _ refl in
     let levels-left = opened-levels opens refl in
     let token = token-opened false _ opens refl refl in
     let measured = start .pre .0 in
@@ -814,7 +814,7 @@ format-listed-token-returns-6 t c =
     let at-over = c .before in
     let at-lead = at-over .before .before .before .before in
     let at-last = at-lead .before .before .before in
-    done-before (at-last .last .given .1) (listed-over (at-lead .format-lead-in .ensures) (at-over .lead .given .1) .from _ refl)
+    done-before (at-last .last .given .1) (listed-over (at-lead .format-lead-in .ensures .0) (at-over .lead .given .1) .from _ refl)
 
 format-listed-token-same-length-6 : (t : ℕ) → format-listed-token-lts.Need-same-length-6 (format-listed-token-claims t) (format-listed-token-at t) format-listed-token.Post
 format-listed-token-same-length-6 t c = search needs
@@ -826,7 +826,7 @@ format-listed-token-returns-7 t c =
     let at-ready = at-byte .before .before in
     let at-lead = at-ready .before .before .before .before in
     let at-last = at-lead .before .before .before in
-    let leads = at-lead .format-lead-in .ensures in
+    let leads = at-lead .format-lead-in .ensures .0 in
     let is = at-ready .lead2 .given .1 in
     let opens = listed-opens leads is _ refl in
     let token = token-opened false _ opens refl refl in
@@ -870,7 +870,7 @@ format-token-returns-2 t c =
     let at-token-class = at-open .before .before in
     let at-last = at-token-class .before .before in
     rw (← (at-token-class .token-class .ensures)) (done-before (at-last .last .given .1)
-    (shown-closed (at-open .«open» .ensures) (leaf plain) (at-enum-told2 .enum-told2 .given .1) (c .closed .ensures) .from _ refl))
+    (shown-closed (at-open .«open» .ensures .0) (leaf plain) (at-enum-told2 .enum-told2 .given .1) (c .closed .ensures .0) .from _ refl))
 
 format-token-byte-at-requires : (t : ℕ) → format-token-lts.Need-byte-at-requires (format-token-claims t) (format-token-at t) format-token.Post
 format-token-byte-at-requires t c κs = search needs
@@ -879,7 +879,7 @@ format-token-sub-format-inner : (t : ℕ) → format-token-lts.Need-sub-format-i
 format-token-sub-format-inner t c =
     let at-opened = c .before .before .before in
     let at-open = at-opened .before .before .before .before in
-    opened-levels (at-open .«open» .ensures) (at-opened .opened .given .1)
+    opened-levels (at-open .«open» .ensures .0) (at-opened .opened .given .1)
 
 format-token-format-inner-requires : (t : ℕ) → format-token-lts.Need-format-inner-requires (format-token-claims t) (format-token-at t) format-token.Post
 format-token-format-inner-requires t c κs =
@@ -890,7 +890,7 @@ format-token-format-inner-requires t c κs =
     let at-last = at-token-class .before .before in
     let start = at-last .before .before .before .before in
     let located = start .args .located in
-    let opens = rw (at-token-class .token-class .ensures) at (at-open .«open» .ensures) in
+    let opens = rw (at-token-class .token-class .ensures) at (at-open .«open» .ensures .0) in
     let is = at-opened .opened .given .1 in
     let levels-left = opened-levels opens is in
     let token = token-opened located _ opens is refl in
@@ -911,7 +911,7 @@ format-token-returns-3 t c =
     let at-last = at-token-class .before .before in
     let start = at-last .before .before .before .before in
     let located = start .args .located in
-    let opens = rw (at-token-class .token-class .ensures) at (at-open .«open» .ensures) in
+    let opens = rw (at-token-class .token-class .ensures) at (at-open .«open» .ensures .0) in
     let is = at-opened .opened .given .1 in
     let token = token-opened located _ opens is refl in
     let inner = rw (at-byte .byte-at .ensures) at (at-format-inner .format-inner .ensures) in
@@ -939,13 +939,13 @@ format-tokens-returns : (t : ℕ) → format-tokens-lts.Need-returns (format-tok
 format-tokens-returns t c =
     let at-enum-told = c .before in
     let at-open = at-enum-told .before .before .before .before in
-    record { from = λ at here. shown-closed (at-open .«open» .ensures) _ (at-enum-told .enum-told .given .1) (c .closed .ensures) .from at here }
+    record { from = λ at here. shown-closed (at-open .«open» .ensures .0) _ (at-enum-told .enum-told .given .1) (c .closed .ensures .0) .from at here }
 
 format-tokens-format-each-token-requires : (t : ℕ) → format-tokens-lts.Need-format-each-token-requires (format-tokens-claims t) (format-tokens-at t) format-tokens.Post
 format-tokens-format-each-token-requires t c κs =
     let at-opened = c .before .before in
     let at-open = at-opened .before .before .before .before in
-    let levels-left = opened-levels (at-open .«open» .ensures) (at-opened .opened .given .1) in
+    let levels-left = opened-levels (at-open .«open» .ensures .0) (at-opened .opened .given .1) in
     let start = at-open .before .before .before .before in
     let measured = start .pre .0 in
     (omega (arith, levels-left, measured), (start .pre .1, levels-left))
@@ -959,7 +959,7 @@ format-tokens-returns-2 t c =
     let at-opened = at-format-each-token .before .before .before in
     let at-open = at-opened .before .before .before .before in
     let block = at-open .before .before .before .before .args .block in
-    tokens-shown block (at-open .«open» .ensures) (at-opened .opened .given .1) (at-format-each-token .format-each-token .ensures)
+    tokens-shown block (at-open .«open» .ensures .0) (at-opened .opened .given .1) (at-format-each-token .format-each-token .ensures)
 
 pub +format-block+format-branches+format-each-token+format-inner+format-listed-token+format-token+format-tokens-spec : {M : Type 1} → statement M
 +format-block+format-branches+format-each-token+format-inner+format-listed-token+format-token+format-tokens-spec =

@@ -7,7 +7,7 @@ use Rattle.tree.specs.Own.{refusalOf}
 use Rattle.tree.specs.Reading.{read}
 use Rattle.tree.specs.Walk.{planSize, walkerOf}
 use Rattle.tree.specs.declared.check.RecordRead.the-variants.{Refused}
-use Rattle.tree.proofs.Planning.{rest-less}
+use Rattle.tree.proofs.Planning.{next-of, rest-less, plan-due}
 use Rattle.tree.proofs.Records.{PartsLeft, parts-start, read-refused, read-walked, level-left, walk-none, walk-done, walk-refused, walk-on}
 use Prim.Native.Nat.{ℕ, _<_, _-_}
 use borrow.Fn.Kinds.{In}
@@ -149,7 +149,7 @@ read-parts-returns : (t : ℕ) → read-parts-lts.Need-returns (
 ) (read-parts-at t) read-parts.Post read-parts-Inv-loop read-parts-μ-loop
 read-parts-returns t c =
     let turn = c .before .before in
-    walk-done _ _ _ _ _ _ _ (turn .before .loop .inv) _ (turn .next-part .ensures .0) (c .enum-told .given .1) _ (turn .before .before .plan-of .ensures)
+    walk-done _ _ _ _ _ _ _ (turn .before .loop .inv) _ (next-of _ (turn .next-part .ensures)) (c .enum-told .given .1) _ (plan-due _ _ (turn .before .before .plan-of .ensures))
 
 read-parts-sub-read-own : (t : ℕ) → read-parts-lts.Need-sub-read-own (
   plan-of-reads.Asked,
@@ -263,8 +263,8 @@ read-parts-returns-2 t c =
     let next = read .before .before in
     let turn = next .before .before in
     ap (λ (why : Refusal). Refused why) (c .refusal-of .ensures ∙ ap refusalOf told)
-    ∙ walk-refused _ _ _ _ _ _ _ (turn .before .loop .inv) _ (turn .next-part .ensures .0) _ _ (next .part .given .1) _ _
-    (read-refused _ _ _ _ _ (read .read-own .ensures .0) _ _ told) refl _ (turn .before .before .plan-of .ensures)
+    ∙ walk-refused _ _ _ _ _ _ _ (turn .before .loop .inv) _ (next-of _ (turn .next-part .ensures)) _ _ (next .part .given .1) _ _
+    (read-refused _ _ _ _ _ (read .read-own .ensures .0) _ _ told) refl _ (plan-due _ _ (turn .before .before .plan-of .ensures))
 
 read-parts-own-fault-requires : (t : ℕ) → read-parts-lts.Need-own-fault-requires (
   plan-of-reads.Asked,
@@ -282,7 +282,7 @@ read-parts-own-fault-requires : (t : ℕ) → read-parts-lts.Need-own-fault-requ
   read-parts-below t,
   read-parts.Post,
 ) (read-parts-at t) read-parts.Post read-parts-Inv-loop read-parts-μ-loop
-read-parts-own-fault-requires t c κs = (_, rw (c .before .read .given .1) at (c .before .before .before .read-own .ensures .1))
+read-parts-own-fault-requires t c κs = (_, rw (c .before .read .given .1) at (c .before .before .before .read-own .ensures .1 .0))
 
 read-parts-has-parts-requires : (t : ℕ) → read-parts-lts.Need-has-parts-requires (
   plan-of-reads.Asked,
@@ -320,7 +320,7 @@ read-parts-loop-less : (t : ℕ) → read-parts-lts.Need-loop-less (
 ) (read-parts-at t) read-parts.Post read-parts-Inv-loop read-parts-μ-loop
 read-parts-loop-less t c =
     let turn = c .before .before .before .before .before .before .before .before .before .before in
-    rest-less (turn .before .loop .plan) _ _ _ (c .before .before .before .before .before .before .before .before .part .given .1) (turn .next-part .ensures .1)
+    rest-less (turn .before .loop .plan) _ _ _ (c .before .before .before .before .before .before .before .before .part .given .1) (turn .next-part .ensures)
 
 read-parts-loop-again : (t : ℕ) → read-parts-lts.Need-loop-again (
   plan-of-reads.Asked,
@@ -344,7 +344,7 @@ read-parts-loop-again t c =
     let turn = next .before .before in
     let leaf = walk-none _ _ _ _ _ (c .before .has-parts .ensures) (c .if1 .taken)
     ∙ sym (read-walked _ _ _ _ _ (own .before .before .read-own .ensures .0) _ _ _ (own .read .given .1) (c .before .before .own-fault .ensures)) in
-    walk-on _ _ _ _ _ _ _ (turn .before .loop .inv) _ (turn .next-part .ensures .0) _ _ (next .part .given .1) _ _ _ leaf refl
+    walk-on _ _ _ _ _ _ _ (turn .before .loop .inv) _ (next-of _ (turn .next-part .ensures)) _ _ (next .part .given .1) _ _ _ leaf refl
 
 read-parts-sub-read-parts : (t : ℕ) → read-parts-lts.Need-sub-read-parts (
   plan-of-reads.Asked,
@@ -443,8 +443,8 @@ read-parts-returns-3 t c =
     let turn = next .before .before in
     let same = c .before .before .read-parts .ensures
     ∙ sym (read-walked _ _ _ _ _ (own .before .before .read-own .ensures .0) _ _ _ (own .read .given .1) (c .before .before .before .before .before .own-fault .ensures)) in
-    walk-refused _ _ _ _ _ _ _ (turn .before .loop .inv) _ (turn .next-part .ensures .0) _ _ (next .part .given .1) _ _ same
-    (c .enum-told3 .given .1) _ (turn .before .before .plan-of .ensures)
+    walk-refused _ _ _ _ _ _ _ (turn .before .loop .inv) _ (next-of _ (turn .next-part .ensures)) _ _ (next .part .given .1) _ _ same
+    (c .enum-told3 .given .1) _ (plan-due _ _ (turn .before .before .plan-of .ensures))
 
 read-parts-loop-less-2 : (t : ℕ) → read-parts-lts.Need-loop-less-2 (
   plan-of-reads.Asked,
@@ -464,7 +464,7 @@ read-parts-loop-less-2 : (t : ℕ) → read-parts-lts.Need-loop-less-2 (
 ) (read-parts-at t) read-parts.Post read-parts-Inv-loop read-parts-μ-loop
 read-parts-loop-less-2 t c =
     let turn = c .before .before .before .before .before .before .before .before .before .before .before .before .before .before in
-    rest-less (turn .before .loop .plan) _ _ _ (c .before .before .before .before .before .before .before .before .before .before .before .before .part .given .1) (turn .next-part .ensures .1)
+    rest-less (turn .before .loop .plan) _ _ _ (c .before .before .before .before .before .before .before .before .before .before .before .before .part .given .1) (turn .next-part .ensures)
 
 read-parts-loop-again-2 : (t : ℕ) → read-parts-lts.Need-loop-again-2 (
   plan-of-reads.Asked,
@@ -488,7 +488,7 @@ read-parts-loop-again-2 t c =
     let turn = next .before .before in
     let same = c .before .before .before .read-parts .ensures
     ∙ sym (read-walked _ _ _ _ _ (own .before .before .read-own .ensures .0) _ _ _ (own .read .given .1) (c .before .before .before .before .before .before .own-fault .ensures)) in
-    walk-on _ _ _ _ _ _ _ (turn .before .loop .inv) _ (turn .next-part .ensures .0) _ _ (next .part .given .1) _ _ _ same (c .before .whole .given .1)
+    walk-on _ _ _ _ _ _ _ (turn .before .loop .inv) _ (next-of _ (turn .next-part .ensures)) _ _ (next .part .given .1) _ _ _ same (c .before .whole .given .1)
 
 pub +read-parts-spec : {M : Type 1} → statement M
 +read-parts-spec = close μ-read-parts λ t. read-parts-lts.spec (

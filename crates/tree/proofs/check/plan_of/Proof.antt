@@ -1,10 +1,6 @@
 -- The row is that of the kind's fields, and the items are those of the class's rule.
-use mathlib.Core.Path.{sym, ap, _∙_}
+use mathlib.Core.Path.{refl}
 use borrow.Author.Needs.{needs}
-use Rattle.tree.specs.Grammar.{fields}
-use Rattle.tree.specs.Walk.{rowOf}
-use Rattle.tree.specs.declared.grammar.Rule.{Rule}
-use Rattle.tree.proofs.Planning.{plan-list, plan-fields}
 use Rattle.tree.proofs.check.plan_of.Statement.{statement}
 use Rattle.tree.proofs.check.plan_of.Tie as tie
 
@@ -23,20 +19,12 @@ enum-told c = search needs
 returns : tie.Need-returns
 returns c =
     let calls = c .before .before .before .before in
-    let own = calls .before .before .args .own in
-    let same = calls .before .rule-of .ensures in
-    plan-list _ own _ _
-    (calls .row-of .ensures ∙ ap (λ (rule : Rule). rowOf (fields (own .kind) (rule .value))) same)
-    (sym (ap (λ (rule : Rule). rule .items) same) ∙ c .before .before .items .given .1)
+    rw (calls .row-of .ensures, ← (calls .before .rule-of .ensures), c .before .before .items .given .1) refl
 
 returns-2 : tie.Need-returns-2
 returns-2 c =
     let calls = c .before .before .before in
-    let own = calls .before .before .args .own in
-    let same = calls .before .rule-of .ensures in
-    plan-fields _ own _ _
-    (calls .row-of .ensures ∙ ap (λ (rule : Rule). rowOf (fields (own .kind) (rule .value))) same)
-    (sym (ap (λ (rule : Rule). rule .items) same) ∙ c .before .enum-told .given .1)
+    rw (calls .row-of .ensures, ← (calls .before .rule-of .ensures), c .before .enum-told .given .1) refl
 
 pub plan-of-spec : {M : Type 1} → statement M
 plan-of-spec =

@@ -26,7 +26,7 @@ returns c =
     ap (λ (why : Refusal). Refused why) (c .refusal-of .ensures ∙ ap refusalOf told) ∙ read-refused _ _ _ _ _ (c .before .before .before .read-own .ensures .0) _ _ told
 
 own-fault-requires : tie.Need-own-fault-requires
-own-fault-requires c κs = (_, rw (c .before .read .given .1) at (c .before .before .before .read-own .ensures .1))
+own-fault-requires c κs = (_, rw (c .before .read .given .1) at (c .before .before .before .read-own .ensures .1 .0))
 
 has-parts-requires : tie.Need-has-parts-requires
 has-parts-requires c κs = search needs

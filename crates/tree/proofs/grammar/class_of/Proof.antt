@@ -2,7 +2,7 @@
 use mathlib.Core.Path.{sym}
 use mathlib.Core.List.{_∷_}
 use lib.ListN.{List·getD-eq-default}
-use Rattle.tree.specs.Walk.{classes}
+use Rattle.tree.specs.Rows.{classes}
 use Rattle.tree.specs.declared.grammar.Class.the-variants.{Word, StringItems}
 use Rattle.tree.proofs.Tables.{none-below}
 use borrow.Author.Needs.{needs}

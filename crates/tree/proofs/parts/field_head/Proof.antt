@@ -20,7 +20,7 @@ second-field-requires c κs = search needs
 
 returns : tie.Need-returns
 unfolding fieldHead
-returns c = simp (eq-eqb _ _ (c .before .before .if1 .taken)) (c .second-field .ensures ∙ ap (secondField _ _) (c .before .skip .ensures))
+returns c = simp (eq-eqb _ _ (c .before .before .if1 .taken)) (c .second-field .ensures ∙ ap (secondField _ _) (c .before .skip .ensures .0))
 
 sub-skip-2 : tie.Need-sub-skip-2
 sub-skip-2 c = search needs
@@ -36,7 +36,7 @@ second-field-requires-2 c κs = search needs
 
 returns-2 : tie.Need-returns-2
 unfolding fieldHead
-returns-2 c = simp (ne-eqb _ _ (c .before .before .before .if1 .left), eq-eqb _ _ (c .before .before .if2 .taken)) (c .second-field2 .ensures ∙ ap (secondField _ _) (c .before .skip2 .ensures))
+returns-2 c = simp (ne-eqb _ _ (c .before .before .before .if1 .left), eq-eqb _ _ (c .before .before .if2 .taken)) (c .second-field2 .ensures ∙ ap (secondField _ _) (c .before .skip2 .ensures .0))
 
 first-class-requires : tie.Need-first-class-requires
 first-class-requires c κs = search needs

@@ -3,6 +3,7 @@ use mathlib.Core.Logic.{⊎-elim}
 use mathlib.Core.Path.{_∙_}
 use borrow.Author.Tests.{eq-eqb, ne-eqb}
 use Rattle.tree.proofs.Heads.{head-low, head-past, head-block, head-expression, head-field}
+use Rattle.tree.proofs.Numbers.{behind-known}
 use borrow.Author.Needs.{needs}
 use Rattle.tree.proofs.parts.head_behind.Statement.{statement}
 use Rattle.tree.proofs.parts.head_behind.Tie as tie
@@ -11,13 +12,13 @@ no-head-requires : tie.Need-no-head-requires
 no-head-requires c κs = search needs
 
 returns : tie.Need-returns
-returns c = c .no-head .ensures ∙ head-low _ _ _ _ _ (c .before .if1 .taken)
+returns c = behind-known _ _ _ _ _ (c .no-head .ensures ∙ head-low _ _ _ _ _ (c .before .if1 .taken))
 
 no-head-requires-2 : tie.Need-no-head-requires-2
 no-head-requires-2 c κs = search needs
 
 returns-2 : tie.Need-returns-2
-returns-2 c = c .no-head2 .ensures ∙ head-past _ _ _ _ _ (c .before .before .if1 .left) (c .before .if2 .taken)
+returns-2 c = behind-known _ _ _ _ _ (c .no-head2 .ensures ∙ head-past _ _ _ _ _ (c .before .before .if1 .left) (c .before .if2 .taken))
 
 shared-slice-read-wide : tie.Need-shared-slice-read-wide
 shared-slice-read-wide c = search needs
@@ -35,9 +36,10 @@ returns-3 : tie.Need-returns-3
 returns-3 c =
     let number = c .before .before in
     let looked = number .before .before in
-    head-block _ _ _ _ _ (looked .before .if1 .left) (looked .if2 .left) _ (number .wide .ensures .0) _
+    behind-known _ _ _ _ _
+    (head-block _ _ _ _ _ (looked .before .if1 .left) (looked .if2 .left) _ (number .wide .ensures .0) _
     (⊎-elim (λ way. simp (eq-eqb _ _ (way .taken))) (λ way. simp (ne-eqb _ _ (way .0 .left), way .1 .taken)) (c .before .if3 .came))
-    (c .inner-head .ensures)
+    (c .inner-head .ensures))
 
 sub-inner-head-2 : tie.Need-sub-inner-head-2
 sub-inner-head-2 c = search needs
@@ -49,10 +51,11 @@ returns-4 : tie.Need-returns-4
 returns-4 c =
     let number = c .before .before .before .before in
     let looked = number .before .before in
-    head-expression _ _ _ _ _ (looked .before .if1 .left) (looked .if2 .left) _ (number .wide .ensures .0) _
+    behind-known _ _ _ _ _
+    (head-expression _ _ _ _ _ (looked .before .if1 .left) (looked .if2 .left) _ (number .wide .ensures .0) _
     (simp (ne-eqb _ _ (c .before .before .before .if3 .left), c .before .before .if4 .left))
     (c .before .if5 .taken)
-    (c .inner-head2 .ensures)
+    (c .inner-head2 .ensures))
 
 field-head-requires : tie.Need-field-head-requires
 field-head-requires c κs = search needs
@@ -61,10 +64,11 @@ returns-5 : tie.Need-returns-5
 returns-5 c =
     let number = c .before .before .before .before in
     let looked = number .before .before in
-    head-field _ _ _ _ _ (looked .before .if1 .left) (looked .if2 .left) _ (number .wide .ensures .0) _
+    behind-known _ _ _ _ _
+    (head-field _ _ _ _ _ (looked .before .if1 .left) (looked .if2 .left) _ (number .wide .ensures .0) _
     (simp (ne-eqb _ _ (c .before .before .before .if3 .left), c .before .before .if4 .left))
     (c .before .if5 .left)
-    (c .field-head .ensures)
+    (c .field-head .ensures))
 
 pub head-behind-spec : {M : Type 1} → statement M
 head-behind-spec =

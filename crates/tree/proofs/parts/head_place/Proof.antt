@@ -4,6 +4,7 @@ use Rattle.answers.specs.declared.Refusal.{Refusal}
 use Rattle.tree.specs.Own.{refusalOf}
 use Rattle.tree.specs.declared.parts.HeadRead.the-variants.{NoHead}
 use Rattle.tree.proofs.Heads.{head-refused, head-behind-read}
+use Rattle.tree.proofs.Numbers.{head-known}
 use borrow.Author.Needs.{needs}
 use Rattle.tree.proofs.parts.head_place.Statement.{statement}
 use Rattle.tree.proofs.parts.head_place.Tie as tie
@@ -23,8 +24,9 @@ refusal-of-requires c κs = search needs
 returns : tie.Need-returns
 returns c =
     let told = c .before .enum-told .given .1 in
-    ap (λ (why : Refusal). NoHead why) (c .refusal-of .ensures ∙ ap refusalOf told)
-    ∙ head-refused _ _ _ _ _ (c .before .before .before .read-own .ensures .0) _ told
+    head-known _ _ _ _
+    (ap (λ (why : Refusal). NoHead why) (c .refusal-of .ensures ∙ ap refusalOf told)
+    ∙ head-refused _ _ _ _ _ (c .before .before .before .read-own .ensures .0) _ told)
 
 head-behind-requires : tie.Need-head-behind-requires
 head-behind-requires c κs = search needs
@@ -32,7 +34,7 @@ head-behind-requires c κs = search needs
 returns-2 : tie.Need-returns-2
 returns-2 c =
     let found = c .before .before in
-    c .head-behind .ensures ∙ head-behind-read _ _ _ _ _ (found .before .before .read-own .ensures .0) _ (found .read .given .1)
+    head-known _ _ _ _ (c .head-behind .ensures .0 ∙ head-behind-read _ _ _ _ _ (found .before .before .read-own .ensures .0) _ (found .read .given .1))
 
 pub head-place-spec : {M : Type 1} → statement M
 head-place-spec =

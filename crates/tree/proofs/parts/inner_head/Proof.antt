@@ -29,7 +29,7 @@ returns c =
     ∙ inner-refused _ _ _ _ _ (c .before .before .before .read-own .ensures .0) _ told
 
 shared-slice-read-wide : tie.Need-shared-slice-read-wide
-shared-slice-read-wide c = omega (arith, own-inside _ _ _ _ (c .before .before .before .before .read-own .ensures .1) (c .before .before .read .given .1))
+shared-slice-read-wide c = omega (arith, own-inside _ _ _ _ (c .before .before .before .before .read-own .ensures .1 .0) (c .before .before .read .given .1))
 
 wide-requires : tie.Need-wide-requires
 wide-requires c κs = search needs

@@ -1,8 +1,7 @@
 -- The two cases of the definition.
-use mathlib.Core.Path.{refl}
 use borrow.Author.Needs.{needs}
-use Rattle.leaves.proofs.record.refused_skip.Statement.{statement}
-use Rattle.leaves.proofs.record.refused_skip.Tie as tie
+use Rattle.tree.proofs.parts.refused_head.Statement.{statement}
+use Rattle.tree.proofs.parts.refused_head.Tie as tie
 
 enum-known-found : tie.Need-enum-known-found
 enum-known-found c = search needs
@@ -16,5 +15,5 @@ returns c = search needs
 returns-2 : tie.Need-returns-2
 returns-2 c = rw (c .before .found2 .given .1)
 
-pub refused-skip-spec : {M : Type 1} → statement M
-refused-skip-spec = tie.close (tie.spec enum-known-found enum-known-found-2 returns returns-2)
+pub refused-head-spec : {M : Type 1} → statement M
+refused-head-spec = tie.close (tie.spec enum-known-found enum-known-found-2 returns returns-2)
