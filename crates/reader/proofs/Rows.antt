@@ -5,12 +5,18 @@ use Prim.Native.Nat.{ℕ, zero, suc, _-_, _≤_, _<_}
 use native.Mathlib.Omega.{arith}
 use native.Mathlib.Numerals.{sub-one}
 use Rattle.tree.specs.Own.{readOwn}
-use Rattle.tree.specs.Parts.{skipped}
+use mathlib.Core.Bool.{cond}
+use lib.Dec.{ltb}
+use Rattle.answers.specs.Numbers.{unlessRefused}
+use Rattle.answers.proofs.Numbers.{refused-number}
+use Rattle.tree.specs.Parts.{skipped, numbersSkipped, readNumbers}
+use Rattle.tree.proofs.Numbers.{skip-numbers}
 use Rattle.tree.specs.declared.grammar.Class.the-variants.{BareToken, Tokens}
 use Rattle.tree.specs.declared.own.OwnRead.{OwnRead}
+use Rattle.tree.specs.declared.own.OwnRead.the-variants.{Record, Refused}
 use Rattle.tree.specs.declared.parts.Skipped.{Skipped}
-use Rattle.tree.specs.declared.parts.Skipped.the-variants.{Next}
-use Rattle.reader.specs.Tokens.{thenAt, behindRow, behindOn, tokensBehind}
+use Rattle.tree.specs.declared.parts.Skipped.the-variants.{Next, NotSkipped}
+use Rattle.reader.specs.Tokens.{thenAt, behindRow, behindOn, tokensBehind, rowNumbers, listNumbers, tokensNumbers}
 
 -- no token is left
 pub row-none : (bytes : List ℕ) (at left : ℕ) → left ≤ 0 → behindRow bytes at left ≡ Next at
@@ -31,3 +37,30 @@ pub list-read : (bytes : List ℕ) (count : ℕ) {list : OwnRead} → list ≡ r
     → behindOn bytes count read ≡ tokensBehind bytes count
 unfolding tokensBehind
 list-read bytes count e read told = ap (behindOn bytes count) (sym told ∙ e)
+
+-- ---- the numbers of document 01
+
+then-numbers : (found : Skipped) (next : ℕ → Skipped)
+    → numbersSkipped (thenAt found next) ≡ unlessRefused (numbersSkipped found) (numbersSkipped (next (numbersSkipped found .1)))
+then-numbers (Next place) next = refl
+then-numbers (NotSkipped refusal) next = rw (refused-number (refusal .reason)) refl
+
+row-numbers : (bytes : List ℕ) (at count : ℕ) → numbersSkipped (behindRow bytes at count) ≡ rowNumbers bytes at count
+unfolding behindRow rowNumbers
+row-numbers bytes at zero = refl
+row-numbers bytes at (suc count) =
+    then-numbers (skipped 63 bytes BareToken at) (λ place. behindRow bytes place count)
+    ∙ rw (skip-numbers 63 bytes BareToken at, row-numbers bytes (readNumbers 63 bytes BareToken at .1) count) refl
+
+on-numbers : (bytes : List ℕ) (count : ℕ) (list : OwnRead) → numbersSkipped (behindOn bytes count list) ≡ listNumbers bytes count list
+on-numbers bytes count (Record list) = row-numbers bytes (list .end) (cond (ltb (list .count) count) (list .count) count)
+on-numbers bytes count (Refused refusal) = refl
+
+tokens-numbers : (bytes : List ℕ) (count : ℕ) → numbersSkipped (tokensBehind bytes count) ≡ tokensNumbers bytes count
+unfolding tokensBehind tokensNumbers
+tokens-numbers bytes count = on-numbers bytes count (readOwn bytes 0 Tokens 64)
+
+-- an answer that is known, with its numbers
+pub tokens-known : {found : Skipped} (bytes : List ℕ) (count : ℕ) → found ≡ tokensBehind bytes count
+    → (found ≡ tokensBehind bytes count) × (numbersSkipped found ≡ tokensNumbers bytes count)
+tokens-known bytes count is = (is, ap numbersSkipped is ∙ tokens-numbers bytes count)

@@ -8,9 +8,9 @@ use tree::parts::Skipped;
 ghost use mathlib.Core.Path.{_≡_};
 ghost use mathlib.Core.Bool.{cond};
 ghost use lib.Dec.{ltb};
-ghost use Rattle.tree.specs.Own.{readOwn};
-ghost use Rattle.tree.specs.Parts.{skipped};
-ghost use Rattle.reader.specs.Tokens.{behindRow, tokensBehind};
+ghost use Rattle.tree.specs.Own.{readOwn, numbersOwn, ownNumbers};
+ghost use Rattle.tree.specs.Parts.{skipped, numbersSkipped, readNumbers};
+ghost use Rattle.reader.specs.Tokens.{behindRow, tokensBehind, tokensNumbers};
 
 pub struct Reader<'a> {
     pub tree: &'a [u8],
@@ -36,21 +36,24 @@ pub fn moved<'a>(reader: Reader<'a>, at: usize) -> Reader<'a>
 
 // The own bytes of the record of a class at the reader, where so many levels are left.
 pub fn own_bytes<'a>(reader: Reader<'a>, class: Class, levels: usize) -> OwnRead
-    ensures { λ r. ⌜ r ≡ readOwn (now (reader .entry .tree)) (reader .entry .at) class levels ⌝ }
+    ensures { λ r. ⌜ (r ≡ readOwn (now (reader .entry .tree)) (reader .entry .at) class levels)
+        × (numbersOwn r ≡ ownNumbers (now (reader .entry .tree)) (reader .entry .at) class levels) ⌝ }
 {
     own::read_own(reader.tree, reader.at, class, levels)
 }
 
 // The place behind the record of a class at the reader, or the first refusal in it.
 pub fn behind<'a>(reader: Reader<'a>, class: Class, levels: usize) -> Skipped
-    ensures { λ r. ⌜ r ≡ skipped levels (now (reader .entry .tree)) class (reader .entry .at) ⌝ }
+    ensures { λ r. ⌜ (r ≡ skipped levels (now (reader .entry .tree)) class (reader .entry .at))
+        × (numbersSkipped r ≡ readNumbers levels (now (reader .entry .tree)) class (reader .entry .at)) ⌝ }
 {
     parts::skip(reader.tree, reader.at, class, levels)
 }
 
 // The own bytes of a file's list of tokens, which is the whole tree: how many tokens there are, and where the first begins.
 pub fn list_head(tree: &[u8]) -> OwnRead
-    ensures { λ r. ⌜ r ≡ readOwn (now (tree .entry)) 0 Class.Tokens 64 ⌝ }
+    ensures { λ r. ⌜ (r ≡ readOwn (now (tree .entry)) 0 Class.Tokens 64)
+        × (numbersOwn r ≡ ownNumbers (now (tree .entry)) 0 Class.Tokens 64) ⌝ }
 {
     own_bytes(new(tree), Class::Tokens, 64)
 }
@@ -92,10 +95,11 @@ fn lesser(number: usize, other: usize) -> usize
 // The place behind so many tokens of a file's list, behind all where it has fewer, or the refusal that is met before it.
 pub fn behind_tokens(tree: &[u8], count: usize) -> Skipped
     ensures { λ r. ⌜ r ≡ tokensBehind (now (tree .entry)) count ⌝ }
+    ensures { λ r. ⌜ numbersSkipped r ≡ tokensNumbers (now (tree .entry)) count ⌝ }
 {
     let read = list_head(tree);
-    match read {
-        OwnRead::Record(list) => behind_row(tree, list.end, lesser(count, list.count)),
-        OwnRead::Refused(refusal) => Skipped::NotSkipped(refusal),
-    }
+    let OwnRead::Record(list) = read else {
+        return Skipped::NotSkipped(own::refusal_of(read));
+    };
+    behind_row(tree, list.end, lesser(count, list.count))
 }

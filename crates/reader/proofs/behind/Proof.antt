@@ -1,7 +1,7 @@
 -- The struct is taken apart, and the record is skipped at its slice and its place: a walk of its MIR, by hand. All that is known of `skip` is that it meets its contract.
 -- The struct is Copy: what it owns is had twice, one copy is kept whole for the exit, and of the other what the slice owns goes to the
 -- callee, beside the lifetime's token, which comes back. The class and the numbers own only facts, which are made anew where they are asked.
-use mathlib.Core.Path.{_≡_, refl}
+use mathlib.Core.Path.{_≡_, refl, ap, _∙_}
 use Prim.Native.Nat.{ℕ, _<_, _^_}
 use mathlib.Core.List.{[], _∷_}
 use lib.Dec.{T as Holds}
@@ -43,7 +43,8 @@ use denote.Triple.Table.{entered, cited}
 use denote.Triple.Walked.{says, Stays, stay-none, walkOf, goes-none, Walks, ends-at, walked, walk-meets}
 use denote.Exit.{yes}
 use denote.Triple.Clauses.{ensured, lasts}
-use Rattle.tree.specs.Parts.{skipped}
+use Rattle.tree.specs.Parts.{skipped, numbersSkipped, readNumbers}
+use Rattle.tree.proofs.Numbers.{skip-numbers}
 use Rattle.tree.specs.declared.grammar.Class.{Class}
 use Rattle.tree.specs.declared.parts.Skipped.{Skipped}
 use Rattle.tree.proofs.grammar.Class as G
@@ -137,11 +138,19 @@ module _ {M : Type 1} (𝓤 : URA M) (H : Heap 𝓤) (A : Atoms 𝓤) (W : Given
       owned ! usize (Is usize) (uint-makes 𝓤 H A W w64) (d .at) _ (refl, fits) $ fjoin ! $ move ! (1 ∷ 0 ∷ []) $ fjoin ! $
       move ! (2 ∷ 0 ∷ []) $ use2 W (raw (Work 𝓤 H A mem run .pre to)) asked $ frame ! $ done !)
 
-  -- of the callee's `ensured`, the clause alone: it has no `&mut`, so what is said of last values is dropped
+  -- what the callee ensures besides
+  abbrev more : Skipped → SProp 𝓤
+  more r = fact 𝓤 (numbersSkipped r ≡ readNumbers n (now (d .tree)) k (d .at))
+
+  -- of the callee's `ensured`, the first clause alone: it has no `&mut`, so what is said of last values is dropped
   said : (r : Skipped)
       → ent 𝓤 (ensured 𝓤 H A work.ended (work.clauses 𝓤 H A mem run) (κ, tt) (d .tree, (d .at, (k, (n, tt)))) tt r) (fact 𝓤 (r ≡ found))
   said r =
-      exE 𝓤 _ (λ ws. snd∗ 𝓤 (sem 𝓤 H A (lasts work.ended (κ, tt) (d .tree, (d .at, (k, (n, tt)))) ws)) (fact 𝓤 (r ≡ found)))
+      exE 𝓤 _
+      (λ ws.
+      via 𝓤 (sep 𝓤 (fact 𝓤 (r ≡ found)) (more r))
+      (snd∗ 𝓤 (sem 𝓤 H A (lasts work.ended (κ, tt) (d .tree, (d .at, (k, (n, tt)))) ws)) (sep 𝓤 (fact 𝓤 (r ≡ found)) (more r)))
+      (fst∗ 𝓤 (fact 𝓤 (r ≡ found)) (more r)))
 
   exits : (r : Skipped) (u : Val) → r ≡ found
       → ent 𝓤 (⋆ 𝓤 H A (‵ (S.the-row .own r (u ∷ [])) ∷ (‵ (flft κ q) ⊛ ‵ ftrue) ∷ ‵ Own ∷ [])) (Post u)
@@ -149,7 +158,7 @@ module _ {M : Type 1} (𝓤 : URA M) (H : Heap 𝓤) (A : Atoms 𝓤) (W : Given
       qed W (‵ (S.the-row .own r (u ∷ [])) ∷ (‵ (flft κ q) ⊛ ‵ ftrue) ∷ ‵ Own ∷ []) ∵
       suffices ! _
       (ends-at 𝓤 H A behind.ended stayed (behind.clauses 𝓤 H A mem run) W (((κ, tt), (q, tt), tt, (d, (k, (n, tt))), at), tt) u r
-      (tt, (tt, (tt, tt))) (tt, (tt, (tt, tt)))) $ says ! e $
+      (tt, (tt, (tt, tt))) (tt, (tt, (tt, tt)))) $ says ! (e, ap numbersSkipped e ∙ skip-numbers n (now (d .tree)) k (d .at)) $
       move ! (1 ∷ []) $ frame ! $ nothing ! $ owned ! usize (Is usize) (uint-makes 𝓤 H A W w64) n _ (refl, ok) $ fjoin ! $
       owned ! G.the-row (Is G.the-row) (EL.makes G.the-type G′.the-plain 𝓤 H A) k _ is-class $ fjoin ! $
       move ! (2 ∷ 0 ∷ []) $ fjoin ! $ frame ! $ done !

@@ -41,7 +41,7 @@ use denote.Triple.Table.{entered, cited}
 use denote.Triple.Walked.{says, Stays, stay-none, stay-none-slice, walkOf, goes-none, goes-none-slice, Walks, ends-at, walked, walk-meets}
 use denote.Exit.{yes}
 use denote.Triple.Clauses.{ensured, lasts}
-use Rattle.tree.specs.Parts.{skipped}
+use Rattle.tree.specs.Parts.{skipped, numbersSkipped, readNumbers}
 use Rattle.tree.specs.declared.grammar.Class.the-variants.{BareToken}
 use Rattle.tree.specs.declared.parts.Skipped.{Skipped}
 use Rattle.tree.proofs.grammar.Class as G
@@ -162,13 +162,18 @@ module _ {M : Type 1} (𝓤 : URA M) (H : Heap 𝓤) (A : Atoms 𝓤) (W : Given
       owned ! G.the-row (Is G.the-row) (EL.makes G.the-type G′.the-plain 𝓤 H A) BareToken _ is-class $ fjoin ! $
       move ! (1 ∷ 0 ∷ []) $ fjoin ! $ move ! (1 ∷ 0 ∷ []) $ join ! $ frame ! $ done !
 
+  -- what `behind` says of its answer
+  abbrev Said : Reader → Skipped → Type 0
+  Said r t =
+      (t ≡ skipped 63 (now (r .tree)) BareToken (r .at)) × (numbersSkipped t ≡ readNumbers 63 (now (r .tree)) BareToken (r .at))
+
   behind-said : (r : Reader) (t : Skipped)
       → ent 𝓤 (ensured 𝓤 H A behind.ended (behind.clauses 𝓤 H A mem run) (κ, tt) (r, (BareToken, (63, tt))) tt t)
-      (fact 𝓤 (t ≡ skipped 63 (now (r .tree)) BareToken (r .at)))
+      (fact 𝓤 (Said r t))
   behind-said r t =
       exE 𝓤 _
       (λ ws.
-      snd∗ 𝓤 (sem 𝓤 H A (lasts behind.ended (κ, tt) (r, (BareToken, (63, tt))) ws)) (fact 𝓤 (t ≡ skipped 63 (now (r .tree)) BareToken (r .at))))
+      snd∗ 𝓤 (sem 𝓤 H A (lasts behind.ended (κ, tt) (r, (BareToken, (63, tt))) ws)) (fact 𝓤 (Said r t)))
 
   exits : (t : Skipped) (u : Val) → t ≡ found
       → ent 𝓤 (⋆ 𝓤 H A (‵ (S.the-row .own t (u ∷ [])) ∷ (‵ (flft κ q) ⊛ ‵ ftrue) ∷ ‵ Own ∷ [])) (Post u)
@@ -222,8 +227,8 @@ module _ {M : Type 1} (𝓤 : URA M) (H : Heap 𝓤) (A : Atoms 𝓤) (W : Given
         (later (some (λ (t : Skipped). ((‵ (flft κ q) ⊛ ‵ ftrue) ⊛ ‵ (S.the-row .own t (u″ ∷ [])))
         ⊛ raw (ensured 𝓤 H A behind.ended (behind.clauses 𝓤 H A mem run) (κ, tt) (r′, (BareToken, (63, tt))) tt t)))) (id⊢ 𝓤 _) $
         await ! tt $ pick ! (λ t.
-        split ! $ move ! (1 ∷ []) $ use1 W (raw (fact 𝓤 (t ≡ skipped 63 (now (r′ .tree)) BareToken (r′ .at)))) (behind-said r′ t) $
-        heard ! (t ≡ skipped 63 (now (r′ .tree)) BareToken (r′ .at)) (λ e″. split ! $ move ! (1 ∷ []) $
+        split ! $ move ! (1 ∷ []) $ use1 W (raw (fact 𝓤 (Said r′ t))) (behind-said r′ t) $
+        heard ! (Said r′ t) (λ e″. split ! $ move ! (1 ∷ []) $
         -- [the result; the token; what s owns; _5; …; _4; …; _3; …; _2; …; _1; …; room for _0; …]
         peeks ! S.the-row (Is S.the-row) (shows 𝓤 H A S.the-row) t (u″ ∷ []) (λ is″.
         land ! (from ! (stop !)) (init ! 13 refl (EL.lawful S.the-type S′.the-laws 𝓤 H A W tt .typed t _ is″ .0)) $
@@ -231,7 +236,7 @@ module _ {M : Type 1} (𝓤 : URA M) (H : Heap 𝓤) (A : Atoms 𝓤) (W : Given
         move ! (13 ∷ 14 ∷ []) $ free1 ! $ move ! (11 ∷ 12 ∷ []) $ free1 ! $ move ! (9 ∷ 10 ∷ []) $ free1 ! $
         move ! (7 ∷ 8 ∷ []) $ free1 ! $ move ! (5 ∷ 6 ∷ []) $ free1 ! $ move ! (3 ∷ 4 ∷ []) $ free1 ! $ free0 ! $
         by ! (exits t u″
-        (e″ ∙ (ap (λ (x : RefT (List ℕ)). skipped 63 (now x) BareToken (r′ .at)) (e′ .0 ∙ e .0)
+        (e″ .0 ∙ (ap (λ (x : RefT (List ℕ)). skipped 63 (now x) BareToken (r′ .at)) (e′ .0 ∙ e .0)
         ∙ ap (skipped 63 (now s) BareToken) (e′ .1))))))))))))))))))))))
 
 module _ {M : Type 1} (𝓤 : URA M) (H : Heap 𝓤) (A : Atoms 𝓤) (W : Given 𝓤 H A) (mem : Memory → SProp 𝓤) (run : Routine → Fun 𝓤) where

@@ -41,7 +41,8 @@ use denote.Triple.Table.{entered, cited}
 use denote.Triple.Walked.{says, Stays, stay-none-slice, walkOf, goes-none-slice, Walks, ends-at, walked, walk-meets}
 use denote.Exit.{yes}
 use denote.Triple.Clauses.{ensured, lasts}
-use Rattle.tree.specs.Own.{readOwn}
+use Rattle.tree.specs.Own.{readOwn, numbersOwn, ownNumbers}
+use Rattle.tree.proofs.Numbers.{own-numbers}
 use Rattle.tree.specs.declared.grammar.Class.the-variants.{Tokens}
 use Rattle.tree.specs.declared.own.OwnRead.{OwnRead}
 use Rattle.tree.proofs.grammar.Class as G
@@ -134,13 +135,17 @@ module _ {M : Type 1} (𝓤 : URA M) (H : Heap 𝓤) (A : Atoms 𝓤) (W : Given
       owned ! G.the-row (Is G.the-row) (EL.makes G.the-type G′.the-plain 𝓤 H A) Tokens _ is-class $ fjoin ! $
       move ! (1 ∷ 0 ∷ []) $ fjoin ! $ move ! (1 ∷ 0 ∷ []) $ join ! $ frame ! $ done !
 
+  -- what `own_bytes` says of its answer
+  abbrev Said : Reader → OwnRead → Type 0
+  Said r t = (t ≡ readOwn (now (r .tree)) (r .at) Tokens 64) × (numbersOwn t ≡ ownNumbers (now (r .tree)) (r .at) Tokens 64)
+
   own-said : (r : Reader) (t : OwnRead)
       → ent 𝓤 (ensured 𝓤 H A own-bytes.ended (own-bytes.clauses 𝓤 H A mem run) (κ, tt) (r, (Tokens, (64, tt))) tt t)
-      (fact 𝓤 (t ≡ readOwn (now (r .tree)) (r .at) Tokens 64))
+      (fact 𝓤 (Said r t))
   own-said r t =
       exE 𝓤 _
       (λ ws.
-      snd∗ 𝓤 (sem 𝓤 H A (lasts own-bytes.ended (κ, tt) (r, (Tokens, (64, tt))) ws)) (fact 𝓤 (t ≡ readOwn (now (r .tree)) (r .at) Tokens 64)))
+      snd∗ 𝓤 (sem 𝓤 H A (lasts own-bytes.ended (κ, tt) (r, (Tokens, (64, tt))) ws)) (fact 𝓤 (Said r t)))
 
   exits : (t : OwnRead) (u : Val) → t ≡ found
       → ent 𝓤 (⋆ 𝓤 H A (‵ (S.the-row .own t (u ∷ [])) ∷ (‵ (flft κ q) ⊛ ‵ ftrue) ∷ ‵ Own ∷ [])) (Post u)
@@ -148,7 +153,7 @@ module _ {M : Type 1} (𝓤 : URA M) (H : Heap 𝓤) (A : Atoms 𝓤) (W : Given
       qed W (‵ (S.the-row .own t (u ∷ [])) ∷ (‵ (flft κ q) ⊛ ‵ ftrue) ∷ ‵ Own ∷ []) ∵
       suffices ! _
       (ends-at 𝓤 H A list-head.ended stayed (list-head.clauses 𝓤 H A mem run) W (((κ, tt), (q, tt), tt, (s, tt), (v ∷ [], tt)), tt) u t
-      (tt, tt) (tt, tt)) $ says ! e $
+      (tt, tt) (tt, tt)) $ says ! (e, ap numbersOwn e ∙ own-numbers (now s) 0 Tokens 64) $
       move ! (1 ∷ []) $ frame ! $ nothing ! $ move ! (2 ∷ 0 ∷ []) $ fjoin ! $ frame ! $ done !
 
   module _ (C : Calls 𝓤 H) (Λ : Loops 𝓤 H) (fm : FmC 𝓤 H (W .laws) C) (known-new : Triple 𝓤 (C #new) (New 𝓤 H A mem run))
@@ -179,15 +184,15 @@ module _ {M : Type 1} (𝓤 : URA M) (H : Heap 𝓤) (A : Atoms 𝓤) (W : Given
         (later (some (λ (t : OwnRead). ((‵ (flft κ q) ⊛ ‵ ftrue) ⊛ ‵ (S.the-row .own t (u′ ∷ [])))
         ⊛ raw (ensured 𝓤 H A own-bytes.ended (own-bytes.clauses 𝓤 H A mem run) (κ, tt) (r, (Tokens, (64, tt))) tt t)))) (id⊢ 𝓤 _) $
         await ! tt $ pick ! (λ t.
-        split ! $ move ! (1 ∷ []) $ use1 W (raw (fact 𝓤 (t ≡ readOwn (now (r .tree)) (r .at) Tokens 64))) (own-said r t) $
-        heard ! (t ≡ readOwn (now (r .tree)) (r .at) Tokens 64) (λ e′. split ! $ move ! (1 ∷ []) $
+        split ! $ move ! (1 ∷ []) $ use1 W (raw (fact 𝓤 (Said r t))) (own-said r t) $
+        heard ! (Said r t) (λ e′. split ! $ move ! (1 ∷ []) $
         -- [the result; the token; what s owns; _3; …; _2; …; _1; …; room for _0; …]
         peeks ! S.the-row (Is S.the-row) (shows 𝓤 H A S.the-row) t (u′ ∷ []) (λ is′.
         land ! (from ! (stop !)) (init ! 9 refl (EL.lawful S.the-type S′.the-laws 𝓤 H A W tt .typed t _ is′ .0)) $
         returns ! (look ! 9 refl) $ forget ! 3 refl $ forget ! 5 refl $ forget ! 7 refl $ forget ! 9 refl $
         move ! (9 ∷ 10 ∷ []) $ free1 ! $ move ! (7 ∷ 8 ∷ []) $ free1 ! $ move ! (5 ∷ 6 ∷ []) $ free1 ! $ move ! (3 ∷ 4 ∷ []) $ free1 ! $ free0 ! $
         by ! (exits t u′
-        (e′ ∙ (ap (λ (x : RefT (List ℕ)). readOwn (now x) (r .at) Tokens 64) (e .0)
+        (e′ .0 ∙ (ap (λ (x : RefT (List ℕ)). readOwn (now x) (r .at) Tokens 64) (e .0)
         ∙ ap (λ (place : ℕ). readOwn (now s) place Tokens 64) (e .1))))))))))))))))
 
 module _ {M : Type 1} (𝓤 : URA M) (H : Heap 𝓤) (A : Atoms 𝓤) (W : Given 𝓤 H A) (mem : Memory → SProp 𝓤) (run : Routine → Fun 𝓤) where
