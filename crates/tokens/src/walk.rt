@@ -213,37 +213,27 @@ fn format_listed_token(
         return last;
     };
     let lead = leads::format_lead_in(tree, room, context, levels, drops, before, last);
-    match lead {
-        Lead::Over(answer) => answer,
-        Lead::Ready(own, head, state) => {
-            let number = leads::byte_at(tree, at);
-            let below = levels - 1;
-            let bits = own.map / 2;
-            if number == 13 {
-                return plain::format_listed_instruction(
-                    tree,
-                    room,
-                    context,
-                    below,
-                    bits,
-                    head,
-                    state,
-                );
-            }
-            if number == 5 {
-                return plain::format_sized(tree, room, context, below, own.end, head, state);
-            }
-            if number == 14 {
-                let front = fronts::format_listed_label(tree, room, context, below, head, state);
-                if !record::stands(bits, 2) {
-                    return front;
-                }
-                return format_block(tree, room, context, below, true, front);
-            }
-            let start = Printed::Done(state, own.end);
-            format_inner(tree, room, context, below, number, bits, start)
-        }
+    let Lead::Ready(own, head, state) = lead else {
+        return leads::over(lead);
+    };
+    let number = leads::byte_at(tree, at);
+    let below = levels - 1;
+    let bits = own.map / 2;
+    if number == 13 {
+        return plain::format_listed_instruction(tree, room, context, below, bits, head, state);
     }
+    if number == 5 {
+        return plain::format_sized(tree, room, context, below, own.end, head, state);
+    }
+    if number == 14 {
+        let front = fronts::format_listed_label(tree, room, context, below, head, state);
+        if !record::stands(bits, 2) {
+            return front;
+        }
+        return format_block(tree, room, context, below, true, front);
+    }
+    let start = Printed::Done(state, own.end);
+    format_inner(tree, room, context, below, number, bits, start)
 }
 
 // A token whose own bytes were read: what it prints before the block or the token inside it, and that.

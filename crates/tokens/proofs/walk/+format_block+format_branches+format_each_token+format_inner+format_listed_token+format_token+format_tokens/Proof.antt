@@ -1,6 +1,6 @@
 -- Every printer goes on from the last answer, so what one shows is what its calls show one behind the other; each call is of fewer levels, or of the same levels
 -- from a printer of fields to one of records, or from a list to its items.
-use mathlib.Core.Path.{_≡_, refl, sym, _∙_}
+use mathlib.Core.Path.{_≡_, refl, sym, ap, _∙_}
 use mathlib.Core.Logic.{⊎-elim}
 use mathlib.Core.List.{List}
 use mathlib.Core.Bool.{false, _&&_}
@@ -55,6 +55,8 @@ use Rattle.tokens.proofs.walk.+format_block+format_branches+format_each
 use Rattle.leads.proofs.byte_at.Reads as byte-at-reads
 use Rattle.leads.proofs.format_lead_in.Reads as format-lead-in-reads
 use Rattle.leads.proofs.format_lead_out.Reads as format-lead-out-reads
+use Rattle.leads.proofs.over.Reads as over-reads
+use Rattle.leads.specs.Leads.{overBy}
 use Rattle.leaves.proofs.leaf.format_leaf.Reads as format-leaf-reads
 use Rattle.leaves.proofs.record.closed.Reads as closed-reads
 use Rattle.leaves.proofs.record.open.Reads as open-reads
@@ -199,6 +201,8 @@ abbrev format-listed-token-claims : ℕ → format-listed-token-lts.Claims
 format-listed-token-claims t = (
   format-lead-in-reads.Asked,
   format-lead-in-reads.Learnt,
+  over-reads.Asked,
+  over-reads.Learnt,
   byte-at-reads.Asked,
   byte-at-reads.Learnt,
   format-listed-instruction-reads.Asked,
@@ -677,8 +681,23 @@ format-listed-token-format-lead-in-requires t c κs = search needs
 format-listed-token-enum-known-lead : (t : ℕ) → format-listed-token-lts.Need-enum-known-lead (format-listed-token-claims t) (format-listed-token-at t) format-listed-token.Post
 format-listed-token-enum-known-lead t c = search needs
 
-format-listed-token-enum-known-lead-2 : (t : ℕ) → format-listed-token-lts.Need-enum-known-lead-2 (format-listed-token-claims t) (format-listed-token-at t) format-listed-token.Post
-format-listed-token-enum-known-lead-2 t c = search needs
+format-listed-token-enum-told-2 : (t : ℕ) → format-listed-token-lts.Need-enum-told-2 (format-listed-token-claims t) (format-listed-token-at t) format-listed-token.Post
+format-listed-token-enum-told-2 t c = search needs
+
+format-listed-token-over-requires : (t : ℕ) → format-listed-token-lts.Need-over-requires (format-listed-token-claims t) (format-listed-token-at t) format-listed-token.Post
+format-listed-token-over-requires t c κs = search needs
+
+format-listed-token-same-length : (t : ℕ) → format-listed-token-lts.Need-same-length (format-listed-token-claims t) (format-listed-token-at t) format-listed-token.Post
+format-listed-token-same-length t c = search needs
+
+format-listed-token-returns-2 : (t : ℕ) → format-listed-token-lts.Need-returns-2 (format-listed-token-claims t) (format-listed-token-at t) format-listed-token.Post
+format-listed-token-returns-2 t c =
+    let at-told = c .before in
+    let at-lead = at-told .before .before .before .before in
+    let at-last = at-lead .before .before .before in
+    let told = at-told .enum-told2 .given .1 in
+    rw (c .over .ensures .0 ∙ ap overBy told)
+    (done-before (at-last .last .given .1) (listed-over (at-lead .format-lead-in .ensures .0) told .from _ refl))
 
 format-listed-token-byte-at-requires : (t : ℕ) → format-listed-token-lts.Need-byte-at-requires (format-listed-token-claims t) (format-listed-token-at t) format-listed-token.Post
 format-listed-token-byte-at-requires t c κs = search needs
@@ -687,20 +706,20 @@ format-listed-token-sub-below : (t : ℕ) → format-listed-token-lts.Need-sub-b
 format-listed-token-sub-below t c =
     let at-ready = c .before .before in
     let at-lead = at-ready .before .before .before .before in
-    opened-levels (listed-opens (at-lead .format-lead-in .ensures .0) (at-ready .lead2 .given .1) _ refl) refl
+    opened-levels (listed-opens (at-lead .format-lead-in .ensures .0) (at-ready .lead .given .1) _ refl) refl
 
 format-listed-token-format-listed-instruction-requires : (t : ℕ)
     → format-listed-token-lts.Need-format-listed-instruction-requires (format-listed-token-claims t) (format-listed-token-at t) format-listed-token.Post
 format-listed-token-format-listed-instruction-requires t c κs =
     let at-ready = c .before .before .before .before .before in
     let at-lead = at-ready .before .before .before .before in
-    head-text (at-lead .format-lead-in .ensures .0) (at-ready .lead2 .given .1) _ refl
+    head-text (at-lead .format-lead-in .ensures .0) (at-ready .lead .given .1) _ refl
 
-format-listed-token-same-length : (t : ℕ) → format-listed-token-lts.Need-same-length (format-listed-token-claims t) (format-listed-token-at t) format-listed-token.Post
-format-listed-token-same-length t c = search needs
+format-listed-token-same-length-2 : (t : ℕ) → format-listed-token-lts.Need-same-length-2 (format-listed-token-claims t) (format-listed-token-at t) format-listed-token.Post
+format-listed-token-same-length-2 t c = search needs
 
-format-listed-token-returns-2 : (t : ℕ) → format-listed-token-lts.Need-returns-2 (format-listed-token-claims t) (format-listed-token-at t) format-listed-token.Post
-format-listed-token-returns-2 t c =
+format-listed-token-returns-3 : (t : ℕ) → format-listed-token-lts.Need-returns-3 (format-listed-token-claims t) (format-listed-token-at t) format-listed-token.Post
+format-listed-token-returns-3 t c =
     let at-printed = c .before .before in
     let at-if1 = at-printed .before .before in
     let at-byte = at-if1 .before .before in
@@ -709,19 +728,19 @@ format-listed-token-returns-2 t c =
     let at-last = at-lead .before .before .before in
     let number = sym (at-byte .byte-at .ensures) ∙ at-if1 .if1 .taken in
     done-before (at-last .last .given .1)
-    (listed-instruction (at-lead .format-lead-in .ensures .0) (at-ready .lead2 .given .1) _ refl number (at-printed .format-listed-instruction .ensures))
+    (listed-instruction (at-lead .format-lead-in .ensures .0) (at-ready .lead .given .1) _ refl number (at-printed .format-listed-instruction .ensures))
 
 format-listed-token-format-sized-requires : (t : ℕ) → format-listed-token-lts.Need-format-sized-requires (format-listed-token-claims t) (format-listed-token-at t) format-listed-token.Post
 format-listed-token-format-sized-requires t c κs =
     let at-ready = c .before .before .before .before .before .before in
     let at-lead = at-ready .before .before .before .before in
-    head-text (at-lead .format-lead-in .ensures .0) (at-ready .lead2 .given .1) _ refl
+    head-text (at-lead .format-lead-in .ensures .0) (at-ready .lead .given .1) _ refl
 
-format-listed-token-same-length-2 : (t : ℕ) → format-listed-token-lts.Need-same-length-2 (format-listed-token-claims t) (format-listed-token-at t) format-listed-token.Post
-format-listed-token-same-length-2 t c = search needs
+format-listed-token-same-length-3 : (t : ℕ) → format-listed-token-lts.Need-same-length-3 (format-listed-token-claims t) (format-listed-token-at t) format-listed-token.Post
+format-listed-token-same-length-3 t c = search needs
 
-format-listed-token-returns-3 : (t : ℕ) → format-listed-token-lts.Need-returns-3 (format-listed-token-claims t) (format-listed-token-at t) format-listed-token.Post
-format-listed-token-returns-3 t c =
+format-listed-token-returns-4 : (t : ℕ) → format-listed-token-lts.Need-returns-4 (format-listed-token-claims t) (format-listed-token-at t) format-listed-token.Post
+format-listed-token-returns-4 t c =
     let at-printed = c .before .before in
     let at-if2 = at-printed .before .before in
     let at-byte = at-if2 .before .before .before in
@@ -730,23 +749,23 @@ format-listed-token-returns-3 t c =
     let at-last = at-lead .before .before .before in
     let number = sym (at-byte .byte-at .ensures) ∙ at-if2 .if2 .taken in
     done-before (at-last .last .given .1)
-    (listed-data (at-lead .format-lead-in .ensures .0) (at-ready .lead2 .given .1) _ refl number (at-printed .format-sized .ensures))
+    (listed-data (at-lead .format-lead-in .ensures .0) (at-ready .lead .given .1) _ refl number (at-printed .format-sized .ensures))
 
 format-listed-token-format-listed-label-requires : (t : ℕ)
     → format-listed-token-lts.Need-format-listed-label-requires (format-listed-token-claims t) (format-listed-token-at t) format-listed-token.Post
 format-listed-token-format-listed-label-requires t c κs =
     let at-ready = c .before .before .before .before .before .before .before in
     let at-lead = at-ready .before .before .before .before in
-    head-text (at-lead .format-lead-in .ensures .0) (at-ready .lead2 .given .1) _ refl
+    head-text (at-lead .format-lead-in .ensures .0) (at-ready .lead .given .1) _ refl
 
 format-listed-token-stands-requires : (t : ℕ) → format-listed-token-lts.Need-stands-requires (format-listed-token-claims t) (format-listed-token-at t) format-listed-token.Post
 format-listed-token-stands-requires t c κs = search needs
 
-format-listed-token-same-length-3 : (t : ℕ) → format-listed-token-lts.Need-same-length-3 (format-listed-token-claims t) (format-listed-token-at t) format-listed-token.Post
-format-listed-token-same-length-3 t c = search needs
+format-listed-token-same-length-4 : (t : ℕ) → format-listed-token-lts.Need-same-length-4 (format-listed-token-claims t) (format-listed-token-at t) format-listed-token.Post
+format-listed-token-same-length-4 t c = search needs
 
-format-listed-token-returns-4 : (t : ℕ) → format-listed-token-lts.Need-returns-4 (format-listed-token-claims t) (format-listed-token-at t) format-listed-token.Post
-format-listed-token-returns-4 t c =
+format-listed-token-returns-5 : (t : ℕ) → format-listed-token-lts.Need-returns-5 (format-listed-token-claims t) (format-listed-token-at t) format-listed-token.Post
+format-listed-token-returns-5 t c =
     let at-stands = c .before in
     let at-front = at-stands .before .before .before in
     let at-if3 = at-front .before .before in
@@ -757,7 +776,7 @@ format-listed-token-returns-4 t c =
     let number = sym (at-byte .byte-at .ensures) ∙ at-if3 .if3 .taken in
     let none = sym (at-stands .stands .ensures) ∙ not-true _ (c .if4 .taken) in
     done-before (at-last .last .given .1)
-    (listed-label (at-lead .format-lead-in .ensures .0) (at-ready .lead2 .given .1) _ refl number (λ place read. label-alone _ _ _ _ (at-front .format-listed-label .ensures place read) none))
+    (listed-label (at-lead .format-lead-in .ensures .0) (at-ready .lead .given .1) _ refl number (λ place read. label-alone _ _ _ _ (at-front .format-listed-label .ensures place read) none))
 
 format-listed-token-format-block-requires : (t : ℕ) → format-listed-token-lts.Need-format-block-requires (format-listed-token-claims t) (format-listed-token-at t) format-listed-token.Post
 format-listed-token-format-block-requires t c κs =
@@ -766,17 +785,17 @@ format-listed-token-format-block-requires t c κs =
     let at-lead = at-ready .before .before .before .before in
     let at-last = at-lead .before .before .before in
     let start = at-last .before .before .before .before in
-    let opens = listed-opens (at-lead .format-lead-in .ensures .0) (at-ready .lead2 .given .1) _ refl in
+    let opens = listed-opens (at-lead .format-lead-in .ensures .0) (at-ready .lead .given .1) _ refl in
     let levels-left = opened-levels opens refl in
     let measured = start .pre .0 in
     let narrow = start .pre .1 in
     (omega (arith, levels-left, measured), (narrow .0, omega (arith, narrow .1)))
 
-format-listed-token-same-length-4 : (t : ℕ) → format-listed-token-lts.Need-same-length-4 (format-listed-token-claims t) (format-listed-token-at t) format-listed-token.Post
-format-listed-token-same-length-4 t c = search needs
+format-listed-token-same-length-5 : (t : ℕ) → format-listed-token-lts.Need-same-length-5 (format-listed-token-claims t) (format-listed-token-at t) format-listed-token.Post
+format-listed-token-same-length-5 t c = search needs
 
-format-listed-token-returns-5 : (t : ℕ) → format-listed-token-lts.Need-returns-5 (format-listed-token-claims t) (format-listed-token-at t) format-listed-token.Post
-format-listed-token-returns-5 t c =
+format-listed-token-returns-6 : (t : ℕ) → format-listed-token-lts.Need-returns-6 (format-listed-token-claims t) (format-listed-token-at t) format-listed-token.Post
+format-listed-token-returns-6 t c =
     let at-block = c .before .before in
     let at-if4 = at-block .before .before in
     let at-stands = at-if4 .before in
@@ -789,7 +808,7 @@ format-listed-token-returns-5 t c =
     let number = sym (at-byte .byte-at .ensures) ∙ at-if3 .if3 .taken in
     let one = sym (at-stands .stands .ensures) ∙ not-false _ (at-if4 .if4 .left) in
     done-before (at-last .last .given .1)
-    (listed-label (at-lead .format-lead-in .ensures .0) (at-ready .lead2 .given .1) _ refl number (λ place read.
+    (listed-label (at-lead .format-lead-in .ensures .0) (at-ready .lead .given .1) _ refl number (λ place read.
     label-block _ _ _ _ (at-front .format-listed-label .ensures place read) one (at-block .format-block .ensures)))
 
 format-listed-token-format-inner-requires : (t : ℕ) → format-listed-token-lts.Need-format-inner-requires (format-listed-token-claims t) (format-listed-token-at t) format-listed-token.Post
@@ -799,22 +818,12 @@ format-listed-token-format-inner-requires t c κs =
     let at-lead = at-ready .before .before .before .before in
     let at-last = at-lead .before .before .before in
     let start = at-last .before .before .before .before in
-    let opens = listed-opens (at-lead .format-lead-in .ensures .0) (at-ready .lead2 .given .1) _ refl in
+    let opens = listed-opens (at-lead .format-lead-in .ensures .0) (at-ready .lead .given .1) _ refl in
     let levels-left = opened-levels opens refl in
     let token = token-opened false _ opens refl refl in
     let measured = start .pre .0 in
     let narrow = start .pre .1 in
     (omega (arith, levels-left, measured), ((narrow .0, omega (arith, narrow .1)), rw (at-byte .byte-at .ensures) (token .ends)))
-
-format-listed-token-same-length-5 : (t : ℕ) → format-listed-token-lts.Need-same-length-5 (format-listed-token-claims t) (format-listed-token-at t) format-listed-token.Post
-format-listed-token-same-length-5 t c = search needs
-
-format-listed-token-returns-6 : (t : ℕ) → format-listed-token-lts.Need-returns-6 (format-listed-token-claims t) (format-listed-token-at t) format-listed-token.Post
-format-listed-token-returns-6 t c =
-    let at-over = c .before in
-    let at-lead = at-over .before .before .before .before in
-    let at-last = at-lead .before .before .before in
-    done-before (at-last .last .given .1) (listed-over (at-lead .format-lead-in .ensures .0) (at-over .lead .given .1) .from _ refl)
 
 format-listed-token-same-length-6 : (t : ℕ) → format-listed-token-lts.Need-same-length-6 (format-listed-token-claims t) (format-listed-token-at t) format-listed-token.Post
 format-listed-token-same-length-6 t c = search needs
@@ -827,7 +836,7 @@ format-listed-token-returns-7 t c =
     let at-lead = at-ready .before .before .before .before in
     let at-last = at-lead .before .before .before in
     let leads = at-lead .format-lead-in .ensures .0 in
-    let is = at-ready .lead2 .given .1 in
+    let is = at-ready .lead .given .1 in
     let opens = listed-opens leads is _ refl in
     let token = token-opened false _ opens refl refl in
     let inner = rw (at-byte .byte-at .ensures) at (at-format-inner .format-inner .ensures) in
@@ -1057,25 +1066,26 @@ pub +format-block+format-branches+format-each-token+format-inner+format-listed-t
     (format-listed-token-returns t)
     (format-listed-token-format-lead-in-requires t)
     (format-listed-token-enum-known-lead t)
-    (format-listed-token-enum-known-lead-2 t)
+    (format-listed-token-enum-told-2 t)
+    (format-listed-token-over-requires t)
+    (format-listed-token-same-length t)
+    (format-listed-token-returns-2 t)
     (format-listed-token-byte-at-requires t)
     (format-listed-token-sub-below t)
     (format-listed-token-format-listed-instruction-requires t)
-    (format-listed-token-same-length t)
-    (format-listed-token-returns-2 t)
-    (format-listed-token-format-sized-requires t)
     (format-listed-token-same-length-2 t)
     (format-listed-token-returns-3 t)
-    (format-listed-token-format-listed-label-requires t)
-    (format-listed-token-stands-requires t)
+    (format-listed-token-format-sized-requires t)
     (format-listed-token-same-length-3 t)
     (format-listed-token-returns-4 t)
-    (format-listed-token-format-block-requires t)
+    (format-listed-token-format-listed-label-requires t)
+    (format-listed-token-stands-requires t)
     (format-listed-token-same-length-4 t)
     (format-listed-token-returns-5 t)
-    (format-listed-token-format-inner-requires t)
+    (format-listed-token-format-block-requires t)
     (format-listed-token-same-length-5 t)
     (format-listed-token-returns-6 t)
+    (format-listed-token-format-inner-requires t)
     (format-listed-token-same-length-6 t)
     (format-listed-token-returns-7 t))
     (λ t. format-token-lts.spec (format-token-claims t)
