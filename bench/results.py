@@ -113,26 +113,26 @@ def memory(rows):
     )
 
 
-# ------------------------------------------------------------ growth
+# ------------------------------------------------------------ pairs
 
 
-def depth_results(pairs):
-    over = "over half as deep"
-    heads = ("tree", "text", "port, us", over, "port, instructions", over, "Rust, us", over)
+def pair_results(pairs, over):
+    """Each pair, the second over the first."""
+    heads = ("", "bytes", "text", "port, us", over, "port, instructions", over, "Rust, us", over)
 
     def figures(row):
         return row.times["port"], row.counts["port"], row.times["rust"]
 
-    def cells(row, half):
-        shares = (f"{mine / other:.2f}" for mine, other in zip(figures(row), figures(half)))
-        port, count, rust = shares if row is not half else ("", "", "")
-        told = (row.case.name, row.text, microseconds(row, "port"), port, row.counts["port"], count)
+    def cells(row, first):
+        shares = (f"{mine / other:.2f}" for mine, other in zip(figures(row), figures(first)))
+        port, count, rust = shares if row is not first else ("", "", "")
+        told = (row.case.name, size(row), row.text, microseconds(row, "port"), port, row.counts["port"], count)
         return told + (microseconds(row, "rust"), rust)
 
     return table(heads, (cells(row, pair[0]) for pair in pairs for row in pair))
 
 
-def written(list_rows, tree_rows, depth_pairs):
+def written(list_rows, tree_rows, depth_pairs, length_pairs):
     """The lines of RESULTS.md."""
     rows = list_rows + tree_rows
     yield "# The Rust and the port"
@@ -162,7 +162,19 @@ def written(list_rows, tree_rows, depth_pairs):
     yield "them the walk reads each factor once more for each tagged factor that it stands in, so that its time grows"
     yield "with the depth, which ends at 64."
     yield ""
-    yield from depth_results(depth_pairs)
+    yield from pair_results(depth_pairs, "over half as deep")
+    yield "## Lengths and counts above 127"
+    yield ""
+    yield "Pairs of lessons with as many bytes, the second of which has lengths or counts above 127. A tree that has"
+    yield "one is walked and then checked; of a list that has one, every text is looked at once more. A list has no"
+    yield "counts."
+    for kind, name in (("tree", "`format` on trees"), ("list", "`join_chunks` on their chunk lists")):
+        yield ""
+        yield f"{name}:"
+        yield ""
+        pairs = [pair for pair in length_pairs if pair[0].case.kind == kind]
+        yield from list(pair_results(pairs, "over the first"))[:-1]
+    yield ""
     yield "## Instructions of a call"
     yield ""
     yield from counts(rows)

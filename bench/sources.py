@@ -47,6 +47,15 @@ def block_lines(levels):
     return "{\n    inx\n" * levels + "}\n" * levels
 
 
+def comment_of(length):
+    return "// ".ljust(length, ".") + "\n"
+
+
+def block_of(tokens, between="\n"):
+    """A block with so many instructions, each on its line or with nothing between them."""
+    return "{" + between + ("inx" + between) * tokens + "}\n"
+
+
 def lesson_in_blocks(levels, first):
     """Lines of the lesson, each time with a block behind them in which the next lines stand."""
     opened = "".join(lesson_lines(number) + "{\n" for number in range(first, first + levels))
@@ -57,11 +66,13 @@ def lesson_in_blocks(levels, first):
 
 
 def most(length, size):
-    """The greatest count whose length is not above a size. Every further one adds at least as much as the first."""
-    low, high = 0, (size - length(0)) // (length(1) - length(0))
-    while low < high:
-        middle = (low + high + 1) // 2
-        low, high = (middle, high) if length(middle) <= size else (low, middle - 1)
+    """The greatest count whose length is not above a size."""
+    low, high = 0, 1
+    while length(high) <= size:
+        low, high = high, 2 * high
+    while high - low > 1:
+        middle = (low + high) // 2
+        low, high = (middle, high) if length(middle) <= size else (low, middle)
     return low
 
 
