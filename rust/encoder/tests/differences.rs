@@ -227,6 +227,10 @@ fn characters_beyond_ascii() {
     let file = tokens("nop // é");
     assert_eq!(port(&file), Err(Reason::NotAscii));
     assert!(rust(file).unwrap().ends_with("// é"));
+    // A comment on a brace is lost, and its bytes are judged all the same.
+    let file = tokens(".loop 2 /* é */ { nop }");
+    assert_eq!(port(&file), Err(Reason::NotAscii));
+    assert!(rust(file).unwrap().is_ascii());
     // Byte 50, where the comments begin, falls inside a character.
     assert_eq!(rust(tokens(&format!(".text \"{}\"", "é".repeat(40)))), None);
     // A `char` of two bytes has no stored form.
