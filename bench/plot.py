@@ -5,6 +5,7 @@ from math import ceil, floor, log10
 SIDES = {"rust": ("#b5651d", "the Rust"), "port": ("#1f5fa8", "the port")}
 WIDTH, HEIGHT, GAP = 430, 430, 150
 LEFT, TOP = 70, 70
+LINE, COLUMN = 12, 90  # of names: the height of one, and the width in which they could touch
 
 
 class Panel:
@@ -65,13 +66,31 @@ def text(x, y, words, anchor, size=11, colour="#333"):
     return f'<text x="{x:.1f}" y="{y:.1f}" text-anchor="{anchor}" font-size="{size}" fill="{colour}">{words}</text>'
 
 
+def top(group):
+    """Where the first of so many names stands when they stand around the middle of their points."""
+    return sum(group) / len(group) - LINE * (len(group) - 1) / 2
+
+
+def spread(heights):
+    """Heights in order, moved so that names there do not touch: those that would stand around their middle."""
+    groups = []
+    for height in heights:
+        groups.append([height])
+        while len(groups) > 1 and top(groups[-1]) < top(groups[-2]) + LINE * len(groups[-2]):
+            last = groups.pop()
+            groups[-1] += last
+    return [top(group) + LINE * number for group in groups for number in range(len(group))]
+
+
 def labels(ends):
-    """Names behind points, moved down where they would touch one above them."""
-    placed = []
-    for (x, y), name, colour in sorted(ends, key=lambda end: end[0][1]):
-        low = max([y + 4] + [other + 12 for left, other in placed if abs(left - x) < 90 and y + 4 < other + 12])
-        placed.append((x, low))
-        yield text(x + 7, low, name, "start", 11, colour)
+    """Names behind points, tied to them; those of one column do not touch."""
+    while ends:
+        left = min(x for (x, _), _, _ in ends)
+        column = sorted((end for end in ends if end[0][0] < left + COLUMN), key=lambda end: end[0][1])
+        ends = [end for end in ends if end not in column]
+        for ((x, y), name, colour), height in zip(column, spread([y for (_, y), _, _ in column])):
+            yield line(x + 3, y, x + 20, height, colour)
+            yield text(x + 22, height + 4, name, "start", 11, colour)
 
 
 def drawn(list_rows, tree_rows):
