@@ -28,7 +28,9 @@ pub fn format(tree: &[u8], options: &[u8], work: &mut [u8], text: &mut [u8]) -> 
     ensures { λ _. ⌜ now (text .exit) ≡ bufferAfter (formatted (now (tree .entry)) (now (options .entry)) (length (now (work .entry)))) (now (text .entry)) ⌝ }
     ensures { λ _. ⌜ now (work .exit) ≡ zeros (length (now (work .entry))) ⌝ }
     ensures { λ _. ⌜ Lesson (now (tree .entry)) (now (options .entry)) (formatted (now (tree .entry)) (now (options .entry)) (length (now (work .entry)))) ⌝ }
-    ensures { λ r. ⌜ numbers r ≡ numbersIn (formatted (now (tree .entry)) (now (options .entry)) (length (now (work .entry)))) (length (now (text .entry))) ⌝ }
+    ensures { λ r. ⌜ numbers r ≡ numbersIn
+        (formatted (now (tree .entry)) (now (options .entry)) (length (now (work .entry))))
+        (length (now (text .entry))) ⌝ }
 {
     let answer = format_in(tree, options, work, text);
     stores::clear(work);

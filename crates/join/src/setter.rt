@@ -44,7 +44,9 @@ pub fn join_chunks(chunks: &[u8], options: &[u8], text: &mut [u8]) -> Answer
     ensures { λ r. ⌜ r ≡ answerIn (joinOutcome (now (chunks .entry)) (now (options .entry))) (length (now (text .entry))) ⌝ }
     ensures { λ _. ⌜ now (text .exit) ≡ bufferAfter (joinOutcome (now (chunks .entry)) (now (options .entry))) (now (text .entry)) ⌝ }
     ensures { λ _. ⌜ Promised (chunksOf (now (chunks .entry))) (joinOutcome (now (chunks .entry)) (now (options .entry))) ⌝ }
-    ensures { λ r. ⌜ numbers r ≡ numbersIn (joinOutcome (now (chunks .entry)) (now (options .entry))) (length (now (text .entry))) ⌝ }
+    ensures { λ r. ⌜ numbers r ≡ numbersIn
+        (joinOutcome (now (chunks .entry)) (now (options .entry)))
+        (length (now (text .entry))) ⌝ }
 {
     let read = options::read_options(options);
     match read {

@@ -21,7 +21,8 @@ ghost use Rattle.events.specs.Views.{blockBit};
 ghost use Rattle.events.specs.Trees as Trees;
 ghost use Rattle.events.specs.Trees.{listTrivia, breakBefore};
 ghost use Rattle.leaves.specs.Items.{itemsAt};
-ghost use Rattle.leads.specs.Leads.{beforeOf, LeadsIn, leadBy, leadRoom, numbersLead, leadNumbers, overBy, overNumbers};
+ghost use Rattle.leads.specs.Leads.{beforeOf, LeadsIn, leadBy, leadRoom, overBy};
+ghost use Rattle.leads.specs.Leads.{numbersLead, leadNumbers, overNumbers};
 ghost use Rattle.printing.specs.Running.{numbersPrinted};
 
 // What stood before a token in its list: whether it is the first, and the number of the kind of the one before.
@@ -176,7 +177,8 @@ pub fn format_lead_in(
 ) -> Lead
     ensures { λ r. ⌜ LeadsIn r (now (room .exit)) last (now (room .entry)) context drops (beforeOf stood) levels (now (tree .entry)) ⌝ }
     ensures { λ r. ⌜ r ≡ leadBy last (now (room .entry)) context drops (beforeOf stood) levels (now (tree .entry)) ⌝ }
-    ensures { λ _. ⌜ now (room .exit) ≡ leadRoom last (now (room .entry)) context drops (beforeOf stood) levels (now (tree .entry)) ⌝ }
+    ensures { λ _. ⌜ now (room .exit)
+        ≡ leadRoom last (now (room .entry)) context drops (beforeOf stood) levels (now (tree .entry)) ⌝ }
     ensures { λ r. ⌜ numbersLead r ≡ leadNumbers last levels (now (tree .entry)) ⌝ }
 {
     let Printed::Done(state, at) = last else {

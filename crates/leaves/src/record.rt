@@ -12,7 +12,8 @@ use tree::parts::Skipped;
 ghost use mathlib.Core.Path.{_≡_};
 ghost use Rattle.printing.specs.Running.{numbersPrinted};
 ghost use Rattle.events.specs.Views.{bitAt};
-ghost use Rattle.leaves.specs.Records.{Opens, openedBy, openedRoom, numbersOpened, openedNumbers, closedBy, closedNumbers, Skips};
+ghost use Rattle.leaves.specs.Records.{Opens, openedBy, openedRoom, closedBy, Skips};
+ghost use Rattle.leaves.specs.Records.{numbersOpened, openedNumbers, closedNumbers};
 
 // A record that was opened: its own bytes, and the state behind its trivia; or the answer where there is none to go on with.
 pub enum Opened {
@@ -46,7 +47,8 @@ pub fn open(
 ) -> Opened
     ensures { λ r. ⌜ Opens r (now (room .exit)) last (now (room .entry)) context shown levels (now (tree .entry)) class stands ⌝ }
     ensures { λ r. ⌜ r ≡ openedBy last (now (room .entry)) context shown levels (now (tree .entry)) class stands ⌝ }
-    ensures { λ _. ⌜ now (room .exit) ≡ openedRoom last (now (room .entry)) context shown levels (now (tree .entry)) class stands ⌝ }
+    ensures { λ _. ⌜ now (room .exit)
+        ≡ openedRoom last (now (room .entry)) context shown levels (now (tree .entry)) class stands ⌝ }
     ensures { λ r. ⌜ numbersOpened r ≡ openedNumbers last levels (now (tree .entry)) class stands ⌝ }
 {
     let Printed::Done(state, at) = last else {

@@ -15,7 +15,8 @@ ghost use Rattle.printing.specs.Events as Events;
 ghost use Rattle.printing.specs.Running.{atStart, isSpaced, spaced, cleared, trimmed, grown, filled, behind, pushed, pushedRoom, finished, Prints};
 ghost use Rattle.printing.specs.Running.{numbersPrinted, finishNumbers};
 
-// What a state remembers that is given a chunk without a stored form: one more byte than any room counts. No tree has such a chunk.
+// What a state remembers that is given a chunk without a stored form: one more byte than any room counts.
+// No tree has such a chunk.
 const UNSTORABLE: usize = 1048577;
 
 // What stays the same down a subtree.

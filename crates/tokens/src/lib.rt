@@ -12,7 +12,8 @@ ghost use lib.ListN.{length};
 ghost use Rattle.answers.specs.Numbers.{numbers};
 ghost use Rattle.options.specs.Types.{Narrow};
 ghost use Rattle.options.specs.declared.OptionsRead.the-variants as options-are;
-ghost use Rattle.tokens.specs.Chunks.{heldWith, roomWith, onePassWith, chunksHeld, chunksAnswer, numbersHeld, RoomHolds, chunksRoom, onePassRoom};
+ghost use Rattle.tokens.specs.Chunks.{heldWith, roomWith, onePassWith, chunksHeld, chunksAnswer, RoomHolds, chunksRoom, onePassRoom};
+ghost use Rattle.tokens.specs.Chunks.{numbersHeld};
 ghost use Rattle.tokens.specs.Settling.{Walks, printedAnswer, settles};
 
 pub mod fronts;
@@ -62,7 +63,8 @@ pub fn chunks(tree: &[u8], options: &[u8], room: &mut [u8]) -> Answer
     ensures { λ r. ⌜ r ≡ chunksAnswer (chunksHeld (now (tree .entry)) (now (options .entry)) (length (now (room .entry)))) ⌝ }
     ensures { λ _. ⌜ RoomHolds (chunksHeld (now (tree .entry)) (now (options .entry)) (length (now (room .entry)))) (now (room .exit)) ⌝ }
     ensures { λ _. ⌜ now (room .exit) ≡ chunksRoom (now (tree .entry)) (now (options .entry)) (now (room .entry)) ⌝ }
-    ensures { λ r. ⌜ numbers r ≡ numbersHeld (chunksHeld (now (tree .entry)) (now (options .entry)) (length (now (room .entry)))) ⌝ }
+    ensures { λ r. ⌜ numbers r
+        ≡ numbersHeld (chunksHeld (now (tree .entry)) (now (options .entry)) (length (now (room .entry)))) ⌝ }
 {
     let read = options::read_options(options);
     match read {
@@ -115,7 +117,8 @@ pub fn chunks_in_one_pass(tree: &[u8], options: &[u8], room: &mut [u8]) -> Answe
     ensures { λ r. ⌜ r ≡ chunksAnswer (chunksHeld (now (tree .entry)) (now (options .entry)) (length (now (room .entry)))) ⌝ }
     ensures { λ _. ⌜ RoomHolds (chunksHeld (now (tree .entry)) (now (options .entry)) (length (now (room .entry)))) (now (room .exit)) ⌝ }
     ensures { λ _. ⌜ now (room .exit) ≡ onePassRoom (now (tree .entry)) (now (options .entry)) (now (room .entry)) ⌝ }
-    ensures { λ r. ⌜ numbers r ≡ numbersHeld (chunksHeld (now (tree .entry)) (now (options .entry)) (length (now (room .entry)))) ⌝ }
+    ensures { λ r. ⌜ numbers r
+        ≡ numbersHeld (chunksHeld (now (tree .entry)) (now (options .entry)) (length (now (room .entry)))) ⌝ }
 {
     let read = options::read_options(options);
     match read {

@@ -16,7 +16,8 @@ ghost use Prim.Native.Nat.{_<_};
 ghost use Rattle.tree.specs.Grammar.{rule, fields};
 ghost use Rattle.tree.specs.Own.{layout};
 ghost use Rattle.tree.specs.Parts.{skipped, triviumAt, firstClass, secondField, fieldHead, innerHead, headBehind, headAt};
-ghost use Rattle.tree.specs.Parts.{refusedSkip, refusedHead, numbersSkipped, readNumbers, numbersHead, behindNumbers, headNumbers};
+ghost use Rattle.tree.specs.Parts.{refusedSkip, refusedHead, numbersSkipped, readNumbers};
+ghost use Rattle.tree.specs.Parts.{numbersHead, behindNumbers, headNumbers};
 ghost use Rattle.tree.specs.declared.parts.HeadRead.the-variants as HeadRead;
 
 // The place behind a record.
