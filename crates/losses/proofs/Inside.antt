@@ -1,5 +1,5 @@
 -- Every record that uses a place stands within the bytes; so the offset and the letters of an answer are small.
---   narrow-lost : loss ≡ lostFrom from bytes → (loss ≡ lostFrom from bytes) × (Narrow loss × (numbersLost loss ≡ numbersLost (lostFrom from bytes)))
+--   narrow-lost : loss ≡ lostFrom from bytes → (loss ≡ lostFrom from bytes) × (Narrow loss × (numbersLost loss ≡ lostNumbers from bytes))
 use mathlib.Core.Path.{_≡_, refl, sym, ap, subst, _∙_}
 use mathlib.Core.List.{List, [], _∷_, _++_}
 use mathlib.Core.Bool.{Bool, true, false, cond, not, _&&_, _||_}
@@ -37,7 +37,7 @@ use Rattle.events.proofs.Refusals.{read-refusal}
 use Rattle.leaves.proofs.Records.{read-record}
 use Rattle.reading.specs.Places.{Spot, Use, openingBrace, labelColon, valueHead, importPath, pathItem, registerLetter, expressionHead, closingCharacter}
 use Rattle.reading.specs.Places.{hasComment, mark, atClosingCharacter}
-use Rattle.losses.specs.Lost.{firstsIn, leastOf, bitAt, lettersAt, lostFrom, numbersLost, Narrow}
+use Rattle.losses.specs.Lost.{firstsIn, leastOf, bitAt, lettersAt, lostFrom, numbersLost, lostNumbers, Narrow}
 use Rattle.losses.specs.Visits.{firstOf, seenIn, ownMarks, headMarks, closingMarks, ownUses, listedBelow, usesAlong, checkedAlong, partTrees, TokenClass}
 use Rattle.losses.specs.declared.firsts.First.{First}
 use Rattle.losses.specs.declared.firsts.First.the-variants.{At, Never}
@@ -47,6 +47,7 @@ use Rattle.losses.specs.declared.search.Loss.the-variants.{Used}
 use Rattle.losses.proofs.Along.{parts-checked}
 use Rattle.losses.proofs.HeadFound.{head-missed}
 use Rattle.losses.proofs.Listing.{least-one, told-used}
+use Rattle.losses.proofs.Numbers.{lost-numbers}
 use Rattle.losses.proofs.Records.{token-class, record-uses}
 
 -- ---- uses below a limit
@@ -247,9 +248,9 @@ lost-on-narrow from bytes Passed (At at) is here =
     let short = length-passed 65535 bytes (file-passed 65535 64 bytes is .size) in
     rw (is, here) (omega (arith, below, short), letters-some firsts at (spot .0) (spot .1), letters-most firsts at)
 
--- an answer that is what the definition says is small
+-- an answer that is what the definition says is small, and has document 01's numbers
 pub narrow-lost : (loss : Loss) (from : ℕ) (bytes : List ℕ) → loss ≡ lostFrom from bytes
-    → (loss ≡ lostFrom from bytes) × (Narrow loss × (numbersLost loss ≡ numbersLost (lostFrom from bytes)))
+    → (loss ≡ lostFrom from bytes) × (Narrow loss × (numbersLost loss ≡ lostNumbers from bytes))
 narrow-lost loss from bytes is =
     let narrow : Narrow (lostFrom from bytes) = lost-on-narrow from bytes (batchChecked bytes) (leastOf (firstsIn from (readFile 64 bytes .tree))) refl refl in
-    (is, (rw is narrow, ap numbersLost is))
+    (is, (rw is narrow, lost-numbers from bytes is))

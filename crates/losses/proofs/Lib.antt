@@ -12,4 +12,5 @@ pub mod Searching
 pub mod Answered
 pub mod Telling
 pub mod Listing
+pub mod Numbers
 pub mod Inside

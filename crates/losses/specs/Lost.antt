@@ -3,13 +3,13 @@ use Prim.Native.Nat.{ℕ, _+_, _*_, _≤_}
 use mathlib.Core.List.{List, [], _∷_}
 use mathlib.Core.Bool.{Bool, false, cond}
 use lib.Dec.{eqb, ltb}
-use Rattle.answers.specs.Numbers.{numbers}
+use Rattle.answers.specs.Numbers.{numbers, unlessRefused}
 use Rattle.answers.specs.declared.Answer.{Answer}
 use Rattle.answers.specs.declared.Answer.the-variants as answer
 use Rattle.answers.specs.declared.Checked.{Checked}
 use Rattle.answers.specs.declared.Checked.the-variants.{Passed, Failed}
 use Rattle.tree.specs.Tree.{Tree}
-use Rattle.tree.specs.Checking.{readFile, batchChecked}
+use Rattle.tree.specs.Checking.{readFile, batchChecked, treeNumbers}
 use Rattle.reading.specs.Places.{Spot, Use, openingBrace, labelColon, valueHead, importPath, pathItem, registerLetter, expressionHead, closingCharacter}
 use Rattle.reading.specs.Places.{spotNumber, placesIn}
 use Rattle.losses.specs.declared.firsts.First.{First}
@@ -98,6 +98,18 @@ lossAnswer (Refused refusal) = answer.Refused refusal
 
 abbrev pub numbersLost : Loss → ℕ × ℕ
 numbersLost loss = numbers (lossAnswer loss)
+
+-- ---- in document 01's numbers: 0 with the value, or the number and place of the tree's refusal
+
+-- 65,536 times the letters plus the offset, which is below 65,536; 0 where no record uses a place
+abbrev pub lossValue : Firsts → First → ℕ
+lossValue firsts Never = 0
+lossValue firsts (At at) = 65536 * lettersAt firsts at + at
+
+unfoldable pub lostNumbers : ℕ → List ℕ → ℕ × ℕ
+lostNumbers from bytes =
+    let firsts = firstsIn from (readFile 64 bytes .tree) in
+    unlessRefused (treeNumbers 65535 64 bytes) (0, lossValue firsts (leastOf firsts))
 
 -- ---- how large an answer is: an offset that two bytes hold, and letters that one byte holds, one of them at least
 

@@ -12,7 +12,7 @@ use tree::grammar::Class;
 use tree::own;
 use tree::own::OwnRead;
 ghost use mathlib.Core.Path.{_≡_};
-ghost use Rattle.losses.specs.Lost.{lostFrom, numbersLost, Narrow};
+ghost use Rattle.losses.specs.Lost.{lostFrom, numbersLost, lostNumbers, Narrow};
 ghost use Rattle.losses.specs.Visits.{listedBelow, noFirsts, Searches};
 
 // A record that was searched: the place behind it, and the first records so far.
@@ -99,7 +99,7 @@ fn no_firsts() -> Firsts
 pub fn lost(tree: &[u8], from: usize) -> Loss
     ensures { λ r. ⌜ r ≡ lostFrom from (now (tree .entry)) ⌝ }
     ensures { λ r. ⌜ Narrow r ⌝ }
-    ensures { λ r. ⌜ numbersLost r ≡ numbersLost (lostFrom from (now (tree .entry))) ⌝ }
+    ensures { λ r. ⌜ numbersLost r ≡ lostNumbers from (now (tree .entry)) ⌝ }
 {
     let checked = check::check_tree(tree);
     match checked {
