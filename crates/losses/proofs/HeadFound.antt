@@ -26,7 +26,9 @@ use Rattle.leaves.proofs.Leaves.{own-items}
 use Rattle.reading.specs.Places.{hasComment}
 use Rattle.losses.specs.Visits.{TokenClass, TakesIf, TakesHead}
 use Rattle.losses.specs.declared.firsts.Firsts.{Firsts}
+use Rattle.losses.specs.declared.uses.Seen.the-variants.{Shown}
 use Rattle.events.proofs.Passed.{head-passed}
+use Rattle.losses.proofs.Passed.{shows-it}
 use Rattle.losses.proofs.Records.{node-read}
 
 module _ (levels : ℕ) (bytes : List ℕ) (class : Class) (at : ℕ) {place : HeadRead} (same : place ≡ headAt levels bytes class at) where
@@ -48,9 +50,9 @@ module _ (levels : ℕ) (bytes : List ℕ) (class : Class) (at : ℕ) {place : H
     -- and hold its trivia
     pub head-taken : {after before : Firsts} {from spot : ℕ} (own : Own) → Fits bytes (head .place) found → found ≡ Record own
         → TakesIf after before from (head .place) spot (hasComment (itemsAt bytes (own .trivia) (own .«trivia_count»)))
-        → TakesHead after before from levels bytes class at spot
+        → TakesHead (Shown after) before from levels bytes class at spot
     unfolding ownTrivia standsAt
     head-taken own fits held takes passed token =
         let head-tree = head-is bytes class (token .0) (token .1) levels at head (sym same ∙ is)
         ∙ node-read (head .levels) bytes (head .class) (head .place) own (sym read-own ∙ held) in
-        rw head-tree (rw (own-items bytes (head .place) own fits held) at takes)
+        shows-it (rw head-tree (rw (own-items bytes (head .place) own fits held) at takes))

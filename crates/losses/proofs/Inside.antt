@@ -26,14 +26,12 @@ use Rattle.tree.specs.declared.own.OwnRead.{OwnRead}
 use Rattle.tree.specs.declared.own.OwnRead.the-variants.{Record, Refused}
 use Rattle.tree.specs.declared.parts.HeadRead.{HeadRead}
 use Rattle.tree.specs.declared.parts.HeadRead.the-variants.{Found, NoHead}
-use Rattle.tree.proofs.Cases.{failed-passed, both-passed}
+use Rattle.tree.proofs.Cases.{both-passed}
 use Rattle.tree.proofs.Readings.{every-reading, no-record, file-passed}
 use Rattle.events.specs.Views.{ownTrivia, headOf, standsAt, tokenNumber, indexOf}
 use Rattle.events.proofs.Accepted.{length-passed}
 use Rattle.events.proofs.OwnParts.{record-headed}
-use Rattle.events.proofs.Heads.{head-is, own-refused}
-use Rattle.events.proofs.Passed.{own-passed}
-use Rattle.events.proofs.Refusals.{read-refusal}
+use Rattle.events.proofs.Heads.{head-is}
 use Rattle.leaves.proofs.Records.{read-record}
 use Rattle.reading.specs.Places.{Spot, Use, openingBrace, labelColon, valueHead, importPath, pathItem, registerLetter, expressionHead, closingCharacter}
 use Rattle.reading.specs.Places.{hasComment, mark, atClosingCharacter}
@@ -48,6 +46,7 @@ use Rattle.losses.proofs.Along.{parts-checked}
 use Rattle.losses.proofs.HeadFound.{head-missed}
 use Rattle.losses.proofs.Listing.{least-one, told-used}
 use Rattle.losses.proofs.Numbers.{lost-numbers}
+use Rattle.losses.proofs.Passed.{own-unread}
 use Rattle.losses.proofs.Records.{token-class, record-uses}
 
 -- ---- uses below a limit
@@ -139,24 +138,18 @@ module _ (bytes : List ℕ) where
       both-below (length bytes) (seenIn class listed (read levels bytes class place .tree)) (usesAlong (read levels bytes) listed classes next)
       (below class place listed (both .0)) (along-below levels below listed classes next (both .1))
 
-  -- own bytes that were refused are not those of a record that passed
-  module _ (levels : ℕ) (class : Class) (at : ℕ) where
-    refused-below : {R : Type 0} (why : Refusal) → readOwn bytes at class levels ≡ Refused why → read levels bytes class at .checked ≡ Passed → R
-    refused-below why is passed =
-        failed-passed (sym (own-refused levels bytes class at why is) ∙ own-passed (read levels bytes class at .tree) (read-refusal levels bytes class at ∙ passed))
-
   -- where no level is left nothing was read
   unread-below : (class : Class) (at : ℕ) (listed : Bool) (found : OwnRead) → readOwn bytes at class zero ≡ found → read zero bytes class at .checked ≡ Passed
       → Below (length bytes) (seenIn class listed (read zero bytes class at .tree))
   unread-below class at listed (Record own) is passed = no-record bytes at class own is
-  unread-below class at listed (Refused why) is passed = refused-below zero class at why is passed
+  unread-below class at listed (Refused why) is passed = own-unread zero bytes class at passed is
 
   -- a record shows its own uses, and those of its parts
   record-below : (levels : ℕ) → ((class : Class) (at : ℕ) (listed : Bool) → read (levels - 1) bytes class at .checked ≡ Passed
       → Below (length bytes) (seenIn class listed (read (levels - 1) bytes class at .tree)))
       → (class : Class) (at : ℕ) (listed : Bool) (found : OwnRead) → readOwn bytes at class levels ≡ found
       → read levels bytes class at .checked ≡ Passed → Below (length bytes) (seenIn class listed (read levels bytes class at .tree))
-  record-below levels below class at listed (Refused why) is passed = refused-below levels class at why is passed
+  record-below levels below class at listed (Refused why) is passed = own-unread levels bytes class at passed is
   record-below levels below class at listed (Record own) is passed =
       let limit : ℕ = length bytes in
       let tree : Tree = read levels bytes class at .tree in

@@ -4,6 +4,7 @@ pub mod Arms
 pub mod Comments
 pub mod Steps
 pub mod Records
+pub mod Passed
 pub mod Marks
 pub mod HeadFound
 pub mod Operands

@@ -10,7 +10,7 @@ use lib.ListN.{length, getD}
 use lib.Seq.{slice, slice-empty, slice-cons}
 use lib.Dec.{eqb, ltb}
 use borrow.Author.Tests.{ne-eqb, ltb-true, ltb-false}
-use Rattle.answers.specs.declared.Checked.{Checked}
+use Rattle.answers.specs.declared.Refusal.{Refusal}
 use Rattle.answers.specs.declared.Checked.the-variants.{Passed}
 use Rattle.text.proofs.Choices.{by-test, true-false, and-true-left, and-true-right}
 use Rattle.tree.specs.Grammar.{Slot, must, may, kindOf, rule, fields}
@@ -26,20 +26,23 @@ use Rattle.tree.specs.declared.grammar.KindRead.the-variants.{Known}
 use Rattle.tree.specs.declared.own.Own.{Own}
 use Rattle.tree.specs.declared.own.OwnRead.{OwnRead}
 use Rattle.tree.specs.declared.own.OwnRead.the-variants.{Record, Refused}
+use Rattle.tree.specs.declared.parts.Skipped.{Skipped}
+use Rattle.tree.specs.declared.parts.Skipped.the-variants.{Next, NotSkipped}
 use Rattle.tree.proofs.OwnBytes.{own-fits}
-use Rattle.tree.proofs.Cases.{failed-passed, both-passed}
+use Rattle.tree.proofs.Cases.{both-passed}
 use Rattle.events.specs.Views.{tokenNumber, standsAt, stands, indexOf, bitAt}
-use Rattle.events.proofs.Heads.{read-stands, own-refused}
-use Rattle.events.proofs.Refusals.{read-refusal}
+use Rattle.events.proofs.Heads.{read-stands}
 use Rattle.events.proofs.OwnParts.{Fielded, record-parts, record-headed}
 use Rattle.leaves.proofs.Records.{read-record}
 use Rattle.leaves.proofs.Fielded.{standing-range}
 use Rattle.reading.specs.Places.{atClosingCharacter}
-use Rattle.losses.specs.Visits.{behindField, indexIn, partTrees, Takes, TakesClosing}
+use Rattle.losses.specs.Visits.{behindField, indexIn, partTrees, Takes, TakesIf, Shows, TakesClosing}
 use Rattle.losses.specs.declared.firsts.Firsts.{Firsts}
+use Rattle.losses.specs.declared.uses.Seen.{Seen}
+use Rattle.losses.specs.declared.uses.Seen.the-variants.{Shown}
 use Rattle.losses.proofs.Steps.{takes-used, takes-unused}
-use Rattle.events.proofs.Passed.{own-passed}
 use Rattle.losses.proofs.Records.{node-read, inner-number}
+use Rattle.losses.proofs.Passed.{next-unskipped, same-next, own-unread, passed-at, passed-skip, shows-it}
 
 -- ---- fields, one behind the other
 
@@ -127,27 +130,6 @@ module _ (reader : Reader) (bits at : ℕ) where
         index = part-of 3 trees-first ∙ part-of 2 trees-second ∙ part-of 1 trees-third ∙ part-of 0 (rw (stood .1) at trees-fourth);
       }
 
--- ---- a record that passed
-
-module _ (levels : ℕ) (bytes : List ℕ) (class : Class) (at : ℕ) (passed : read levels bytes class at .checked ≡ Passed) where
-  -- its own bytes were read
-  own-there : (own : Own) × (readOwn bytes at class levels ≡ Record own)
-  own-there = go (readOwn bytes at class levels) refl
-    where
-      go : (found : OwnRead) → readOwn bytes at class levels ≡ found → (own : Own) × (readOwn bytes at class levels ≡ Record own)
-      go (Record own) is = (own, is)
-      go (Refused why) is = failed-passed (sym (own-refused levels bytes class at why is) ∙ own-passed (read levels bytes class at .tree) (read-refusal levels bytes class at ∙ passed))
-
-  -- it stands at its place
-  passed-at : standsAt (read levels bytes class at .tree) ≡ at
-  unfolding standsAt
-  passed-at = ap standsAt (node-read levels bytes class at (own-there .0) (own-there .1))
-
-  -- it is skipped
-  passed-behind : behindField levels bytes class at true ≡ read levels bytes class at .end
-  unfolding skipped
-  passed-behind = rw passed
-
 -- ---- the index of a mode
 
 -- the first byte of a part
@@ -159,25 +141,63 @@ slice-first bytes start end part inside =
     let same : start ≡ end = le-antisymm part (ltb-false start end q) in
     rw q (ap (λ (text : List ℕ). getD text 0 0) (ap (λ (place : ℕ). slice place end bytes) same ∙ slice-empty end bytes)))
 
-module _ (levels : ℕ) (bytes : List ℕ) (at : ℕ) where
-  index-read : (own : Own) → readOwn bytes at AddressingMode levels ≡ Record own
-      → getD (indexOf (read levels bytes AddressingMode at .tree)) 0 0 ≡ indexIn bytes (readOwn bytes at AddressingMode levels)
-  unfolding indexOf built
-  index-read own is =
-      let headed = record-headed bytes at AddressingMode levels own is .1 in
-      let within = standing-range (rule AddressingMode) (getD bytes at 0) refl (headed .standing) in
-      let number : getD bytes at 0 ≡ 25 = le-antisymm (within .1) (within .0) in
-      let known : kindOf 25 ≡ Known (own .kind) = rw number at (headed .kindIs) in
-      let leaf : own .kind ≡ variant.Leaf = cc in
-      let fits = own-fits bytes at AddressingMode levels own is in
-      rw (node-read levels bytes AddressingMode at own is, is, leaf) (slice-first bytes (own .text) (own .end) (fits .part) (fits .inside))
-
-  mode-index : read levels bytes AddressingMode at .checked ≡ Passed
-      → getD (indexOf (read levels bytes AddressingMode at .tree)) 0 0 ≡ indexIn bytes (readOwn bytes at AddressingMode levels)
-  mode-index passed = let held = own-there levels bytes AddressingMode at passed in index-read (held .0) (held .1)
+index-read : (levels : ℕ) (bytes : List ℕ) (at : ℕ) (own : Own) → readOwn bytes at AddressingMode levels ≡ Record own
+    → getD (indexOf (read levels bytes AddressingMode at .tree)) 0 0 ≡ indexIn bytes own
+unfolding indexOf built
+index-read levels bytes at own is =
+    let headed = record-headed bytes at AddressingMode levels own is .1 in
+    let within = standing-range (rule AddressingMode) (getD bytes at 0) refl (headed .standing) in
+    let number : getD bytes at 0 ≡ 25 = le-antisymm (within .1) (within .0) in
+    let known : kindOf 25 ≡ Known (own .kind) = rw number at (headed .kindIs) in
+    let leaf : own .kind ≡ variant.Leaf = cc in
+    let fits = own-fits bytes at AddressingMode levels own is in
+    rw (node-read levels bytes AddressingMode at own is, leaf) (slice-first bytes (own .text) (own .end) (fits .part) (fits .inside))
 
 -- ---- the closing character
 
+-- what is read of the fields of an operand that passed
+module _ (levels : ℕ) (bytes : List ℕ) {bits at : ℕ} {trees : List Tree} (held : OperandRead (read levels bytes) bits at trees) where
+  abbrev opens : ℕ
+  opens = lcharAt (read levels bytes) bits at
+
+  abbrev closes : ℕ
+  closes = rcharAt (read levels bytes) bits at
+
+  abbrev printed : ℕ
+  printed = modeAt (read levels bytes) bits at
+
+  -- what is skipped on the way to the character
+  expression-skipped : skipped levels bytes LocatedExpression at ≡ Next opens
+  expression-skipped = passed-skip levels bytes LocatedExpression at (held .expression)
+
+  opening-skipped : behindField levels bytes Char opens (bitAt 1 bits) ≡ Next closes
+  opening-skipped = by-test (bitAt 1 bits) (λ q. rw q (passed-skip levels bytes Char opens (held .opening q))) (λ q. rw q)
+
+  -- it does not stand
+  closing-absent : bitAt 2 bits ≡ false → atClosingCharacter (indexOf (getD trees 3 absent)) (getD trees 2 absent) ≡ false
+  unfolding stands
+  closing-absent none =
+      let mode : List ℕ = indexOf (getD trees 3 absent) in
+      rw (held .rchar, none) (and-false (not (eqb (getD mode 0 0) 3 || eqb (getD mode 0 0) 4)))
+
+  module _ (there : bitAt 2 bits ≡ true) where
+    -- it stands there
+    closing-at : standsAt (getD trees 2 absent) ≡ closes
+    closing-at = rw (held .rchar, there) (passed-at levels bytes Char closes (held .closing there))
+
+    -- the mode stands behind it
+    closing-skipped : skipped levels bytes Char closes ≡ Next printed
+    closing-skipped = rw there (passed-skip levels bytes Char closes (held .closing there))
+
+    -- and it counts where the mode prints none
+    closing-used : (leaf : Own) → readOwn bytes printed AddressingMode levels ≡ Record leaf
+        → atClosingCharacter (indexOf (getD trees 3 absent)) (getD trees 2 absent) ≡ not (eqb (indexIn bytes leaf) 3 || eqb (indexIn bytes leaf) 4)
+    closing-used leaf is =
+        let same : getD (indexOf (getD trees 3 absent)) 0 0 ≡ indexIn bytes leaf =
+        ap (λ (tree : Tree). getD (indexOf tree) 0 0) (held .index) ∙ index-read levels bytes printed leaf is in
+        rw (same, held .rchar, there, read-stands levels bytes Char closes, and-true _)
+
+-- they are read so
 module _ (levels : ℕ) (bytes : List ℕ) (class : Class) (at : ℕ) (own : Own) (is : readOwn bytes at class levels ≡ Record own) (operand : own .kind ≡ variant.Operand)
     (passed : read levels bytes class at .checked ≡ Passed) where
   abbrev reader : Reader
@@ -210,78 +230,77 @@ module _ (levels : ℕ) (bytes : List ℕ) (class : Class) (at : ℕ) (own : Own
       sym (ap (λ (reading : Reading). reading .checked) (read-record bytes class at levels own is .1)) ∙ passed in
       rw (sym due) at (operand-read reader bits (own .end) fits (rw due at parts-passed))
 
-  -- where it would stand, and the index of the mode behind it, as the search finds them
-  abbrev pub soughtAt : ℕ
-  soughtAt = behindField (levels - 1) bytes Char (behindField (levels - 1) bytes LocatedExpression (own .end) true) (bitAt 1 bits)
-
-  abbrev pub soughtIndex : ℕ
-  soughtIndex = indexIn bytes (readOwn bytes (behindField (levels - 1) bytes Char soughtAt true) AddressingMode (levels - 1))
-
-  sought-there : soughtAt ≡ rcharAt reader bits (own .end)
-  sought-there =
-      rw (passed-behind (levels - 1) bytes LocatedExpression (own .end) (parts-held .expression))
-      (by-test (bitAt 1 bits)
-      (λ q. rw q (passed-behind (levels - 1) bytes Char (lcharAt reader bits (own .end)) (parts-held .opening q)))
-      (λ q. rw q))
-
-  -- it does not stand
-  pub closing-absent : bitAt 2 bits ≡ false → atClosingCharacter (indexOf (getD trees 3 absent)) (getD trees 2 absent) ≡ false
-  unfolding stands
-  closing-absent none =
-      let mode : List ℕ = indexOf (getD trees 3 absent) in
-      rw (parts-held .rchar, none) (and-false (not (eqb (getD mode 0 0) 3 || eqb (getD mode 0 0) 4)))
-
-  module _ (there : bitAt 2 bits ≡ true) where
-    -- it stands there
-    pub closing-at : standsAt (getD trees 2 absent) ≡ soughtAt
-    closing-at =
-        rw (parts-held .rchar, there) (passed-at (levels - 1) bytes Char (rcharAt reader bits (own .end)) (parts-held .closing there)) ∙ sym sought-there
-
-    -- and counts where the mode prints none
-    pub closing-used : atClosingCharacter (indexOf (getD trees 3 absent)) (getD trees 2 absent) ≡ not (eqb soughtIndex 3 || eqb soughtIndex 4)
-    closing-used =
-        let rchar-at : ℕ = rcharAt reader bits (own .end) in
-        let mode-at : modeAt reader bits (own .end) ≡ behindField (levels - 1) bytes Char soughtAt true =
-        rw (sought-there, passed-behind (levels - 1) bytes Char rchar-at (parts-held .closing there), there) in
-        let index = mode-index (levels - 1) bytes (modeAt reader bits (own .end)) (parts-held .mode) in
-        let same : getD (indexOf (getD trees 3 absent)) 0 0 ≡ soughtIndex =
-        ap (λ (tree : Tree). getD (indexOf tree) 0 0) (parts-held .index) ∙ index ∙ ap (λ (place : ℕ). indexIn bytes (readOwn bytes place AddressingMode (levels - 1))) mode-at in
-        rw (same, parts-held .rchar, there, read-stands (levels - 1) bytes Char rchar-at, and-true _)
-
 -- ---- what is taken
 
 module _ (levels : ℕ) (bytes : List ℕ) (own : Own) where
+  abbrev below : ℕ
+  below = levels - 1
+
+  abbrev Held : List Tree → Type 0
+  Held trees = OperandRead (read below bytes) (own .map / 2) (own .end) trees
+
+  -- by what is read of its fields
+  by-parts : {seen : Seen} {before : Firsts} {from : ℕ}
+      → ((trees : List Tree) → Held trees → Shows seen (λ after. TakesIf after before from (standsAt (getD trees 2 absent)) 7
+      (atClosingCharacter (indexOf (getD trees 3 absent)) (getD trees 2 absent)))) → TakesClosing seen before from levels bytes own
+  by-parts shows class at is operand passed = shows (partTrees levels bytes class own) (parts-held levels bytes class at own is operand passed)
+
   -- where it does not stand
-  pub takes-no-closing : {before : Firsts} {from : ℕ} {there : Bool} → there ≡ bitAt 2 (own .map / 2) → there ≡ false → TakesClosing before before from levels bytes own
-  takes-no-closing same none class at is operand passed = takes-unused (closing-absent levels bytes class at own is operand passed (sym same ∙ none))
+  pub takes-no-closing : {before : Firsts} {from : ℕ} {there : Bool} → there ≡ bitAt 2 (own .map / 2) → there ≡ false
+      → TakesClosing (Shown before) before from levels bytes own
+  takes-no-closing same none = by-parts (λ trees held. shows-it (takes-unused (closing-absent below bytes held (sym same ∙ none))))
 
-  -- where it does: places and index as they are found
-  module _ {there second : Bool} {lchar rchar mode index : ℕ} (stands-third : there ≡ bitAt 2 (own .map / 2)) (yes-there : there ≡ true)
-      (lchar-is : lchar ≡ behindField (levels - 1) bytes LocatedExpression (own .end) true) (stands-second : second ≡ bitAt 1 (own .map / 2))
-      (rchar-is : rchar ≡ behindField (levels - 1) bytes Char lchar second) (mode-is : mode ≡ behindField (levels - 1) bytes Char rchar true)
-      (index-is : index ≡ indexIn bytes (readOwn bytes mode AddressingMode (levels - 1))) where
-    -- the place is the one that is sought
-    place-sought : (class : Class) (at : ℕ) (is : readOwn bytes at class levels ≡ Record own) (operand : own .kind ≡ variant.Operand)
-        (passed : read levels bytes class at .checked ≡ Passed) → rchar ≡ soughtAt levels bytes class at own is operand passed
-    place-sought class at is operand passed = rchar-is ∙ rw (lchar-is, stands-second)
+  -- where it does: nothing that is read on the way to it and to the mode is refused
+  module _ {there : Bool} (stands-third : there ≡ bitAt 2 (own .map / 2)) (yes-there : there ≡ true)
+      {expression : Skipped} (expression-is : expression ≡ skipped below bytes LocatedExpression (own .end)) where
+    it-stands : bitAt 2 (own .map / 2) ≡ true
+    it-stands = sym stands-third ∙ yes-there
 
-    -- so is the index
-    index-sought : (class : Class) (at : ℕ) (is : readOwn bytes at class levels ≡ Record own) (operand : own .kind ≡ variant.Operand)
-        (passed : read levels bytes class at .checked ≡ Passed) → index ≡ soughtIndex levels bytes class at own is operand passed
-    index-sought class at is operand passed = index-is ∙ rw (mode-is, place-sought class at is operand passed)
+    pub no-expression : {seen : Seen} {before : Firsts} {from : ℕ} {why : Refusal} → expression ≡ NotSkipped why → TakesClosing seen before from levels bytes own
+    no-expression none = by-parts (λ trees held. next-unskipped (sym (expression-skipped below bytes held) ∙ sym expression-is ∙ none))
 
-    -- the mode prints it
-    pub takes-printed : {before : Firsts} {from number : ℕ} → index ≡ number → not (eqb number 3 || eqb number 4) ≡ false → TakesClosing before before from levels bytes own
-    takes-printed is-number printed class at is operand passed =
-        let used = closing-used levels bytes class at own is operand passed (sym stands-third ∙ yes-there) in
-        let same = sym (index-sought class at is operand passed) ∙ is-number in
-        takes-unused (used ∙ ap (λ (index : ℕ). not (eqb index 3 || eqb index 4)) same ∙ printed)
+    module _ {lchar : ℕ} (lchar-is : expression ≡ Next lchar) {second : Bool} (stands-second : second ≡ bitAt 1 (own .map / 2))
+        {opening : Skipped} (opening-is : opening ≡ behindField below bytes Char lchar second) where
+      opening-there : {trees : List Tree} (held : Held trees) → opening ≡ Next (closes below bytes held)
+      opening-there held =
+          let same = same-next (sym lchar-is ∙ expression-is ∙ expression-skipped below bytes held) in
+          opening-is ∙ rw (same, stands-second) (opening-skipped below bytes held)
 
-    -- or not
-    pub takes-closing : {after before : Firsts} {from : ℕ} → (index ≡ 3 → ⊥) → (index ≡ 4 → ⊥) → Takes after before from rchar 7 → TakesClosing after before from levels bytes own
-    takes-closing third fourth takes class at is operand passed =
-        let stands-there = sym stands-third ∙ yes-there in
-        let used = closing-used levels bytes class at own is operand passed stands-there in
-        let place = closing-at levels bytes class at own is operand passed stands-there ∙ sym (place-sought class at is operand passed) in
-        let unprinted : not (eqb index 3 || eqb index 4) ≡ true = rw (ne-eqb index 3 third, ne-eqb index 4 fourth) in
-        rw place (takes-used (used ∙ ap (λ (index : ℕ). not (eqb index 3 || eqb index 4)) (sym (index-sought class at is operand passed)) ∙ unprinted) takes)
+      pub no-opening : {seen : Seen} {before : Firsts} {from : ℕ} {why : Refusal} → opening ≡ NotSkipped why → TakesClosing seen before from levels bytes own
+      no-opening none = by-parts (λ trees held. next-unskipped (sym (opening-there held) ∙ none))
+
+      module _ {rchar : ℕ} (rchar-is : opening ≡ Next rchar) {closing : Skipped} (closing-is : closing ≡ skipped below bytes Char rchar) where
+        rchar-there : {trees : List Tree} (held : Held trees) → rchar ≡ closes below bytes held
+        rchar-there held = same-next (sym rchar-is ∙ opening-there held)
+
+        closing-there : {trees : List Tree} (held : Held trees) → closing ≡ Next (printed below bytes held)
+        closing-there held = closing-is ∙ rw (rchar-there held) (closing-skipped below bytes held it-stands)
+
+        pub no-closing : {seen : Seen} {before : Firsts} {from : ℕ} {why : Refusal} → closing ≡ NotSkipped why → TakesClosing seen before from levels bytes own
+        no-closing none = by-parts (λ trees held. next-unskipped (sym (closing-there held) ∙ none))
+
+        module _ {mode : ℕ} (mode-is : closing ≡ Next mode) {found : OwnRead} (found-is : found ≡ readOwn bytes mode AddressingMode below) where
+          mode-there : {trees : List Tree} (held : Held trees) → readOwn bytes (printed below bytes held) AddressingMode below ≡ found
+          mode-there held =
+              sym (found-is ∙ ap (λ (place : ℕ). readOwn bytes place AddressingMode below) (same-next (sym mode-is ∙ closing-there held)))
+
+          pub no-mode : {seen : Seen} {before : Firsts} {from : ℕ} {why : Refusal} → found ≡ Refused why → TakesClosing seen before from levels bytes own
+          no-mode none = by-parts (λ trees held. own-unread below bytes AddressingMode (printed below bytes held) (held .mode) (mode-there held ∙ none))
+
+          -- the index that the leaf holds tells whether it counts
+          module _ (leaf : Own) (leaf-is : found ≡ Record leaf) {index : ℕ} (index-is : index ≡ indexIn bytes leaf) where
+            used-there : {trees : List Tree} (held : Held trees)
+                → atClosingCharacter (indexOf (getD trees 3 absent)) (getD trees 2 absent) ≡ not (eqb index 3 || eqb index 4)
+            used-there held =
+                closing-used below bytes held it-stands leaf (mode-there held ∙ leaf-is) ∙ ap (λ (index : ℕ). not (eqb index 3 || eqb index 4)) (sym index-is)
+
+            -- the mode prints it
+            pub takes-printed : {before : Firsts} {from : ℕ} → (eqb index 3 || eqb index 4) ≡ true → TakesClosing (Shown before) before from levels bytes own
+            takes-printed prints = by-parts (λ trees held. shows-it (takes-unused (used-there held ∙ ap not prints)))
+
+            -- or not
+            pub takes-closing : {after before : Firsts} {from : ℕ} → (eqb index 3 || eqb index 4) ≡ false → Takes after before from rchar 7
+                → TakesClosing (Shown after) before from levels bytes own
+            takes-closing omits takes =
+                by-parts
+                (λ trees held. shows-it (rw (closing-at below bytes held it-stands ∙ sym (rchar-there held)) (takes-used (used-there held ∙ ap not omits) takes)))

@@ -6,10 +6,11 @@ use mathlib.Core.Bool.{Bool, true, false, cond, not, _&&_, _||_}
 use lib.Dec.{eqb, ltb}
 use lib.ListN.{getD}
 use Rattle.answers.specs.declared.Checked.{Checked}
-use Rattle.answers.specs.declared.Checked.the-variants.{Passed}
+use Rattle.answers.specs.declared.Checked.the-variants.{Passed, Failed}
+use Rattle.answers.specs.declared.Refusal.{Refusal}
 use Rattle.answers.specs.Numbers.{andThen}
 use Rattle.tree.specs.Grammar.{rule, nodes}
-use Rattle.tree.specs.Own.{readOwn}
+use Rattle.tree.specs.Own.{layout, readOwn}
 use Rattle.tree.specs.Parts.{skipped}
 use Rattle.tree.specs.Reading.{Reader, partsDue, readParts, read}
 use Rattle.tree.specs.Tree.{Tree, absent, built}
@@ -17,10 +18,9 @@ use Rattle.tree.specs.Rows.{classNumber}
 use Rattle.tree.specs.declared.grammar.Class.{Class}
 use Rattle.tree.specs.declared.grammar.Kind.the-variants as kind
 use Rattle.tree.specs.declared.own.Own.{Own}
-use Rattle.tree.specs.declared.own.OwnRead.{OwnRead}
-use Rattle.tree.specs.declared.own.OwnRead.the-variants.{Record, Refused}
+use Rattle.tree.specs.declared.own.OwnRead.the-variants.{Record}
 use Rattle.tree.specs.declared.parts.Skipped.{Skipped}
-use Rattle.tree.specs.declared.parts.Skipped.the-variants.{Next, NotSkipped}
+use Rattle.tree.specs.declared.parts.Skipped.the-variants.{Next}
 use Rattle.events.specs.Views.{ownTrivia, tokenNumber, indexOf}
 use Rattle.events.specs.Views.{standsAt, headOf}
 use Rattle.reading.specs.Places.{Spot, Use, hasComment, mark, placesIn}
@@ -29,7 +29,12 @@ use Rattle.reading.specs.Places.{atOpeningBrace, atLabelColon, atRegisterLetter
 use Rattle.losses.specs.declared.firsts.First.{First}
 use Rattle.losses.specs.declared.firsts.First.the-variants.{Never}
 use Rattle.losses.specs.declared.firsts.Firsts.{Firsts}
+use Rattle.losses.specs.declared.uses.Seen.{Seen}
+use Rattle.losses.specs.declared.uses.Seen.the-variants as seeing
+use Rattle.losses.specs.declared.uses.Seen.the-variants.{Shown}
 use Rattle.losses.specs.declared.search.Searched.{Searched}
+use Rattle.losses.specs.declared.search.Searched.the-variants as searching
+use Rattle.losses.specs.declared.search.Searched.the-variants.{Whole}
 use Rattle.losses.specs.Lost.{firstWith, firstFrom}
 
 -- ---- which use a record shows, by its class and its kind
@@ -137,29 +142,59 @@ pub record TakesAll (after before : Firsts) (from : ℕ) (uses : List Use) : Typ
 abbrev pub TokenClass : Class → Type 0
 TokenClass class = (located : Bool) × (rule class ≡ nodes 0 23 located)
 
-abbrev pub TakesHead : Firsts → Firsts → ℕ → ℕ → List ℕ → Class → ℕ → ℕ → Type 0
-TakesHead after before from levels bytes class at number =
+-- the first records are shown, and this holds of them; so no refusal was met
+pub record Shows (seen : Seen) (held : Firsts → Type 0) : Type 0 where
+  pub firsts : Firsts
+  pub is : seen ≡ Shown firsts
+  pub holds : held firsts
+
+abbrev pub TakesHead : Seen → Firsts → ℕ → ℕ → List ℕ → Class → ℕ → ℕ → Type 0
+TakesHead seen before from levels bytes class at number =
     read levels bytes class at .checked ≡ Passed → TokenClass class
-    → TakesIf after before from (standsAt (headOf (read levels bytes class at .tree))) number (hasComment (ownTrivia (headOf (read levels bytes class at .tree))))
+    → Shows seen (λ after. TakesIf after before from (standsAt (headOf (read levels bytes class at .tree))) number
+    (hasComment (ownTrivia (headOf (read levels bytes class at .tree)))))
 
 abbrev pub partTrees : ℕ → List ℕ → Class → Own → List Tree
 partTrees levels bytes class own = readParts (read (levels - 1) bytes) (partsDue class own) (own .end) .trees
 
-abbrev pub TakesClosing : Firsts → Firsts → ℕ → ℕ → List ℕ → Own → Type 0
-TakesClosing after before from levels bytes own =
+abbrev pub TakesClosing : Seen → Firsts → ℕ → ℕ → List ℕ → Own → Type 0
+TakesClosing seen before from levels bytes own =
     (class : Class) (at : ℕ) → readOwn bytes at class levels ≡ Record own → own .kind ≡ kind.Operand → read levels bytes class at .checked ≡ Passed
-    → TakesIf after before from (standsAt (getD (partTrees levels bytes class own) 2 absent)) 7
-    (atClosingCharacter (indexOf (getD (partTrees levels bytes class own) 3 absent)) (getD (partTrees levels bytes class own) 2 absent))
+    → Shows seen (λ after. TakesIf after before from (standsAt (getD (partTrees levels bytes class own) 2 absent)) 7
+    (atClosingCharacter (indexOf (getD (partTrees levels bytes class own) 3 absent)) (getD (partTrees levels bytes class own) 2 absent)))
 
-abbrev pub TakesRecord : Firsts → Firsts → ℕ → ℕ → List ℕ → Class → ℕ → Own → Bool → Type 0
-TakesRecord after before from levels bytes class at own listed =
+abbrev pub TakesRecord : Seen → Firsts → ℕ → ℕ → List ℕ → Class → ℕ → Own → Bool → Type 0
+TakesRecord seen before from levels bytes class at own listed =
     readOwn bytes at class levels ≡ Record own → read levels bytes class at .checked ≡ Passed
-    → TakesAll after before from (ownUses class listed (read levels bytes class at .tree) at (partTrees levels bytes class own))
+    → Shows seen (λ after. TakesAll after before from
+    (ownUses class listed (read levels bytes class at .tree) at (partTrees levels bytes class own)))
+
+-- the same of a search, which comes to the place behind the record
+pub record Finds (searched : Searched) (held : ℕ → Firsts → Type 0) : Type 0 where
+  pub end : ℕ
+  pub firsts : Firsts
+  pub is : searched ≡ Whole end firsts
+  pub holds : held end firsts
 
 abbrev pub Searches : Searched → Firsts → ℕ → ℕ → List ℕ → Class → ℕ → Bool → Type 0
 Searches searched before from levels bytes class at listed =
     read levels bytes class at .checked ≡ Passed
-    → (searched .end ≡ read levels bytes class at .end) × TakesAll (searched .firsts) before from (seenIn class listed (read levels bytes class at .tree))
+    → Finds searched (λ end after. (end ≡ read levels bytes class at .end)
+    × TakesAll after before from (seenIn class listed (read levels bytes class at .tree)))
+
+-- ---- the refusal that was met; where there is none a place stands for one
+
+abbrev pub refusedUse : ℕ → Seen → Refusal
+refusedUse at (seeing.Refused refusal) = refusal
+refusedUse at (Shown firsts) = layout at
+
+abbrev pub refusedSearch : Searched → Refusal
+refusedSearch (searching.Refused refusal) = refusal
+refusedSearch (Whole end firsts) = layout end
+
+abbrev pub refusedCheck : Checked → Refusal
+refusedCheck (Failed refusal) = refusal
+refusedCheck Passed = layout 0
 
 -- ---- the parts of a record
 
@@ -181,13 +216,8 @@ checkedAlong reader (class ∷ classes) place = andThen (reader class place .che
 
 -- ---- a field, and a leaf's index
 
-abbrev pub behindOn : ℕ → Skipped → ℕ
-behindOn at (Next end) = end
-behindOn at (NotSkipped refusal) = at
+abbrev pub behindField : ℕ → List ℕ → Class → ℕ → Bool → Skipped
+behindField levels bytes class at stands = cond stands (skipped levels bytes class at) (Next at)
 
-abbrev pub behindField : ℕ → List ℕ → Class → ℕ → Bool → ℕ
-behindField levels bytes class at stands = cond stands (behindOn at (skipped levels bytes class at)) at
-
-abbrev pub indexIn : List ℕ → OwnRead → ℕ
-indexIn bytes (Record own) = cond (ltb (own .text) (own .end)) (getD bytes (own .text) 0) 0
-indexIn bytes (Refused refusal) = 0
+abbrev pub indexIn : List ℕ → Own → ℕ
+indexIn bytes own = cond (ltb (own .text) (own .end)) (getD bytes (own .text) 0) 0

@@ -1,7 +1,9 @@
-// The uses of places that a record shows by itself: comments on it, on its head, and an operand's closing character. Places go by their
-// numbers, 0 for (a) to 7 for (h); 8 is none.
+// The uses of places that a record shows by itself: comments on it, on its head, and an operand's closing character.
+// Places go by their numbers, 0 for (a) to 7 for (h); 8 is none.
 use crate::firsts;
 use crate::firsts::Firsts;
+use answers::Reason;
+use answers::Refusal;
 use leads;
 use leaves::record;
 use tree::grammar::Class;
@@ -13,17 +15,35 @@ use tree::parts::HeadRead;
 use tree::parts::Skipped;
 use tree::parts::TriviumRead;
 ghost use mathlib.Core.Path.{_≡_};
-ghost use mathlib.Core.List.{List};
 ghost use Prim.Native.Nat.{_<_};
-ghost use Rattle.tree.specs.Own.{readOwn};
-ghost use Rattle.tree.specs.Reading.{read};
-ghost use Rattle.tree.specs.declared.own.OwnRead.the-variants as own-is;
-ghost use Rattle.answers.specs.declared.Checked.the-variants.{Passed};
 ghost use Rattle.leaves.specs.Items.{itemsAt};
 ghost use Rattle.reading.specs.Places.{hasComment};
-ghost use Rattle.losses.specs.Visits.{kindSpot, ownSpot, tokenSpot, headSpot, behindField, indexIn, TakesIf, TakesHead, TakesClosing, TakesRecord};
+ghost use Rattle.losses.specs.declared.uses.Seen.the-variants as Seen;
+ghost use Rattle.losses.specs.Visits.{kindSpot, ownSpot, tokenSpot, headSpot, behindField, indexIn, refusedUse};
+ghost use Rattle.losses.specs.Visits.{TakesIf, TakesHead, TakesClosing, TakesRecord};
 
-// Whether one of `count` trivia items is a comment: codes 2 and 3 are, the last two.
+// What a record shows: the first records so far with it, or the refusal that reading it met, which is none where the
+// tree passed the check.
+pub enum Seen {
+    Shown(Firsts),
+    Refused(Refusal),
+}
+
+// The refusal that was met; what was shown has none, and the record's place stands for one.
+pub(crate) fn refused_use(seen: Seen, at: usize) -> Refusal
+    ensures { λ r. ⌜ r ≡ refusedUse at seen ⌝ }
+{
+    match seen {
+        Seen::Refused(refusal) => refusal,
+        Seen::Shown(_) => Refusal {
+            reason: Reason::TreeLayout,
+            place: at,
+        },
+    }
+}
+
+// Whether one of `count` trivia items is a comment: codes 2 and 3 are, the last two. No item of a record that was
+// read is broken.
 fn has_comment(tree: &[u8], at: usize, count: usize) -> bool
     ensures { λ r. ⌜ r ≡ hasComment (itemsAt (now (tree .entry)) at count) ⌝ }
 {
@@ -120,76 +140,76 @@ fn head_use(
     spot: usize,
     from: usize,
     firsts: Firsts,
-) -> Firsts
-    ensures { λ r. ⌜ (spot ≡ 8 → r ≡ firsts) ⌝ }
+) -> Seen
+    ensures { λ r. ⌜ (spot ≡ 8 → r ≡ Seen.Shown firsts) ⌝ }
     ensures { λ r. ⌜ TakesHead r firsts from levels (now (tree .entry)) class at spot ⌝ }
 {
     if spot == 8 {
-        return firsts;
+        return Seen::Shown(firsts);
     }
     let place = parts::head_place(tree, at, class, levels);
     let HeadRead::Found(head) = place else {
-        return firsts;
+        return Seen::Refused(parts::refused_head(place));
     };
     let field = head.class;
     let read = own::read_own(tree, head.place, field, head.levels);
     let OwnRead::Record(own) = read else {
-        return firsts;
+        return Seen::Refused(own::refusal_of(read));
     };
-    own_use(tree, own, head.place, spot, from, firsts)
+    Seen::Shown(own_use(tree, own, head.place, spot, from, firsts))
 }
 
 // The place behind a field that may stand or not.
-fn behind(tree: &[u8], at: usize, class: Class, levels: usize, stands: bool) -> usize
+fn behind(tree: &[u8], at: usize, class: Class, levels: usize, stands: bool) -> Skipped
     ensures { λ r. ⌜ r ≡ behindField levels (now (tree .entry)) class at stands ⌝ }
 {
     if !stands {
-        return at;
+        return Skipped::Next(at);
     }
-    let skipped = parts::skip(tree, at, class, levels);
-    match skipped {
-        Skipped::Next(place) => place,
-        Skipped::NotSkipped(_) => at,
-    }
+    parts::skip(tree, at, class, levels)
 }
 
 // The first byte of a leaf's text, which of an enum is its index; 0 where there is none.
-fn index_at(tree: &[u8], at: usize, class: Class, levels: usize) -> usize
-    ensures { λ r. ⌜ r ≡ indexIn (now (tree .entry)) (readOwn (now (tree .entry)) at class levels) ⌝ }
+fn index_of(tree: &[u8], leaf: Own) -> usize
+    ensures { λ r. ⌜ r ≡ indexIn (now (tree .entry)) leaf ⌝ }
 {
-    let read = own::read_own(tree, at, class, levels);
-    match read {
-        OwnRead::Record(own) => {
-            if own.text < own.end {
-                return leads::byte_at(tree, own.text);
-            }
-            0
-        }
-        OwnRead::Refused(_) => 0,
+    if leaf.text < leaf.end {
+        return leads::byte_at(tree, leaf.text);
     }
+    0
 }
 
 // An operand's closing character, where it stands and its mode prints none: modes 3 and 4 do.
-fn closing_use(tree: &[u8], own: Own, levels: usize, from: usize, firsts: Firsts) -> Firsts
+fn closing_use(tree: &[u8], own: Own, levels: usize, from: usize, firsts: Firsts) -> Seen
     requires { ⌜ 0 < levels ⌝ }
     ensures { λ r. ⌜ TakesClosing r firsts from levels (now (tree .entry)) own ⌝ }
 {
     let bits = own.map / 2;
     if !record::stands(bits, 2) {
-        return firsts;
+        return Seen::Shown(firsts);
     }
     let below = levels - 1;
-    let lchar = behind(tree, own.end, Class::LocatedExpression, below, true);
-    let rchar = behind(tree, lchar, Class::Char, below, record::stands(bits, 1));
-    let mode = behind(tree, rchar, Class::Char, below, true);
-    let index = index_at(tree, mode, Class::AddressingMode, below);
-    if index == 3 {
-        return firsts;
+    let expression = parts::skip(tree, own.end, Class::LocatedExpression, below);
+    let Skipped::Next(lchar) = expression else {
+        return Seen::Refused(parts::refused_skip(expression));
+    };
+    let opening = behind(tree, lchar, Class::Char, below, record::stands(bits, 1));
+    let Skipped::Next(rchar) = opening else {
+        return Seen::Refused(parts::refused_skip(opening));
+    };
+    let closing = parts::skip(tree, rchar, Class::Char, below);
+    let Skipped::Next(mode) = closing else {
+        return Seen::Refused(parts::refused_skip(closing));
+    };
+    let read = own::read_own(tree, mode, Class::AddressingMode, below);
+    let OwnRead::Record(leaf) = read else {
+        return Seen::Refused(own::refusal_of(read));
+    };
+    let index = index_of(tree, leaf);
+    if index == 3 || index == 4 {
+        return Seen::Shown(firsts);
     }
-    if index == 4 {
-        return firsts;
-    }
-    firsts::take(from, firsts, rchar, 7)
+    Seen::Shown(firsts::take(from, firsts, rchar, 7))
 }
 
 // All that a record shows by itself.
@@ -202,7 +222,7 @@ pub(crate) fn record_uses(
     listed: bool,
     from: usize,
     firsts: Firsts,
-) -> Firsts
+) -> Seen
     requires { ⌜ 0 < levels ⌝ }
     ensures { λ r. ⌜ TakesRecord r firsts from levels (now (tree .entry)) class at own listed ⌝ }
 {
@@ -210,9 +230,12 @@ pub(crate) fn record_uses(
     let spot = own_spot(class, number, listed);
     let by_own = own_use(tree, own, at, spot, from, firsts);
     let head = head_spot(class, number, listed);
-    let by_head = head_use(tree, at, class, levels, head, from, by_own);
+    let headed = head_use(tree, at, class, levels, head, from, by_own);
+    let Seen::Shown(by_head) = headed else {
+        return headed;
+    };
     if number == 37 {
         return closing_use(tree, own, levels, from, by_head);
     }
-    by_head
+    headed
 }

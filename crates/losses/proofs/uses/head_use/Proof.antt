@@ -2,17 +2,13 @@
 use mathlib.Core.Path.{refl}
 use Rattle.losses.proofs.Steps.{takes-none}
 use Rattle.losses.proofs.HeadFound.{head-missed, head-unread, head-taken}
+use Rattle.losses.proofs.Passed.{shows-it}
 use borrow.Author.Needs.{needs}
 use Rattle.losses.proofs.uses.head_use.Statement.{statement}
 use Rattle.losses.proofs.uses.head_use.Tie as tie
-use Rattle.losses.proofs.uses.head_use.Reads as reads
-use Rattle.losses.proofs.uses.head_use.Lts as lts
-use Rattle.losses.proofs.uses.own_use.Reads as own-use-reads
-use Rattle.tree.proofs.own.read_own.Reads as read-own-reads
-use Rattle.tree.proofs.parts.head_place.Reads as head-place-reads
 
 returns : tie.Need-returns
-returns c = (λ none. refl, λ passed token. takes-none (c .if1 .taken))
+returns c = (λ none. refl, λ passed token. shows-it (takes-none (c .if1 .taken)))
 
 head-place-requires : tie.Need-head-place-requires
 head-place-requires c κs = search needs
@@ -23,9 +19,15 @@ enum-known-place c = search needs
 enum-told : tie.Need-enum-told
 enum-told c = search needs
 
+refused-head-requires : tie.Need-refused-head-requires
+refused-head-requires c κs = search needs
+
 returns-2 : tie.Need-returns-2
 returns-2 c =
-    (λ none. refl, λ passed token. head-missed _ _ _ _ (c .before .before .head-place .ensures .0) (c .enum-told .given .1) passed token)
+    let missed = c .before in (
+      λ none. absurd (missed .before .before .before .if1 .left none),
+      λ passed token. head-missed _ _ _ _ (missed .before .before .head-place .ensures .0) (missed .enum-told .given .1) passed token,
+    )
 
 read-own-requires : tie.Need-read-own-requires
 read-own-requires c κs = search needs
@@ -36,12 +38,16 @@ enum-known-read c = search needs
 enum-told-2 : tie.Need-enum-told-2
 enum-told-2 c = search needs
 
+refusal-of-requires : tie.Need-refusal-of-requires
+refusal-of-requires c κs = search needs
+
 returns-3 : tie.Need-returns-3
 returns-3 c =
-    let place = c .before .before .before .before in (
-      λ none. refl,
-      λ passed token. head-unread _ _ _ _ (place .before .before .head-place .ensures .0) _ (place .place .given .1) (c .before .before .read-own .ensures .0)
-          (c .enum-told2 .given .1) passed token,
+    let unread = c .before in
+    let place = unread .before .before .before .before in (
+      λ none. absurd (place .before .before .before .if1 .left none),
+      λ passed token. head-unread _ _ _ _ (place .before .before .head-place .ensures .0) _ (place .place .given .1) (unread .before .before .read-own .ensures .0)
+          (unread .enum-told2 .given .1) passed token,
     )
 
 own-use-requires : tie.Need-own-use-requires
@@ -63,10 +69,12 @@ head-use-spec =
     head-place-requires
     enum-known-place
     enum-told
+    refused-head-requires
     returns-2
     read-own-requires
     enum-known-read
     enum-told-2
+    refusal-of-requires
     returns-3
     own-use-requires
     returns-4)
