@@ -6,3 +6,4 @@ pub mod Records
 pub mod Inks
 pub mod ReadShape
 pub mod Files
+pub mod PlaceSamples
