@@ -1,4 +1,5 @@
 pub mod Samples
+pub mod PrintedTexts
 pub mod Texts
 pub mod Pushes
 pub mod Storable

@@ -133,6 +133,7 @@ fn usage() -> ! {
 }
 
 fn main() {
+    build::assert_declared_order();
     let mut args: Vec<String> = std::env::args().skip(1).collect();
     let mut alphabet = Alphabet::Utf8;
     let mut utf8 = false;
