@@ -1,5 +1,6 @@
 pub mod ListPlaces
 pub mod Numbers
+pub mod Packings
 pub mod RoomPlaces
 pub mod Small
 pub mod Stops
