@@ -2,4 +2,5 @@ pub mod Pushing
 pub mod Running
 pub mod Holding
 pub mod Held
+pub mod Rooms
 pub mod Stops

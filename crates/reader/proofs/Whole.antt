@@ -16,8 +16,8 @@ use Rattle.answers.specs.declared.Checked.{Checked}
 use Rattle.answers.specs.declared.Checked.the-variants.{Passed, Failed}
 use Rattle.text.proofs.Choices.{by-test, cond-both, and-true-left, and-true-right}
 use Rattle.tree.specs.Grammar.{kindOf}
-use Rattle.tree.specs.Own.{fieldsFit, mapFits, sizedEnd, triviumEnd, triviaEnd, triviaRead, textEnd, restOf, layout, ownAt}
-use Rattle.tree.specs.Own.{readOwn}
+use Rattle.tree.specs.Own.{fieldsFit, mapFits, sizedEnd, triviumEnd, triviaEnd, triviaRead, textEnd, restOf}
+use Rattle.tree.specs.Own.{layout, ownAt, readOwn}
 use Rattle.tree.specs.Reading.{triviaFrom, due, partsDue, fieldsDue, readParts, readOn, read}
 use Rattle.tree.specs.Parts.{skippedOn, skipped}
 use Rattle.tree.specs.Tree.{built, chain}
@@ -135,6 +135,6 @@ abbrev wanted : List ℕ × ℕ × Skipped → Skipped
 wanted sample = sample .2
 
 pub some-behind : map found rows ≡ map wanted rows
-unfolding tokensBehind behindRow skipped read readParts partsDue fieldsDue triviaFrom readOwn ownAt restOf textEnd triviaRead
-    triviaEnd triviumEnd sizedEnd mapFits fieldsFit built chain
+unfolding tokensBehind behindRow skipped read readParts partsDue fieldsDue triviaFrom readOwn ownAt restOf textEnd
+    triviaRead triviaEnd triviumEnd sizedEnd mapFits fieldsFit built chain
 some-behind = refl
