@@ -7,3 +7,4 @@ pub mod Placed
 pub mod Restored
 pub mod RoundTrip
 pub mod Numbers
+pub mod Limits
