@@ -4,4 +4,5 @@ pub mod Ink
 pub mod Lines
 pub mod Accepted
 pub mod TwoBytes
+pub mod Bytes
 pub mod Buffers
