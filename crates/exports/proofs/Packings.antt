@@ -15,7 +15,8 @@ use Rattle.answers.specs.declared.Reason.{Reason}
 use Rattle.answers.specs.declared.Reason.the-variants.{OptionsLength, OptionsValue, TreeLength, TreeDepth, TreeLayout}
 use Rattle.answers.specs.declared.Reason.the-variants.{ChunkLayout, NotAscii, WorkRoom, TextRoom}
 use Rattle.losses.specs.declared.search.Loss.the-variants as loss
-use Rattle.exports.specs.Packed.{packedOf, Small, lossAnswer}
+use Rattle.losses.specs.Lost.{lossAnswer}
+use Rattle.exports.specs.Packed.{packedOf, Small}
 
 abbrev refused : Reason → ℕ → Answer
 refused reason place = Refused (record { reason = reason; place = place })
