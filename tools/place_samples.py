@@ -14,7 +14,7 @@ from collections import namedtuple
 from antt_rows import deliver, listed, numbers, quoted, table
 from lesson_cases import KINDS
 from streams import ask_oracle
-from tree_shapes import PLAIN, least, slots_of, stand, with_trivia
+from tree_shapes import PLAIN, holding, least, slots_of, stand, with_trivia
 
 import gen
 import model as m
@@ -72,20 +72,13 @@ def file(*tokens):
     return gen.encode(named(gen.lst(*tokens), iter(b"abcdefghijklmnopqrstuvwxyz"), iter(b"ABCDEFGHIJKLMNOPQRSTUVWXYZ")))
 
 
-def holding(kind, name, value):
-    """A least token with a field."""
-    token = least(m.TOKEN, kind)
-    stand(token, name, value)
-    return token
-
-
 def operated(mode, closed):
     """An instruction whose operand has an addressing mode, with or without a closing character."""
     operand = full(m.OPERAND)
     operand["addressing_mode"].text = bytes([mode])
     if not closed:
         operand.fields["rchar"] = None
-    return holding(13, "operand", operand)
+    return holding(13, operand=operand)
 
 
 def factor(kind):
@@ -105,36 +98,36 @@ def token_samples():
     for kind in TOKENS:
         yield Sample(f"{KINDS[kind]} in a list", file(full(m.TOKEN, kind)))
     for kind in TOKENS:
-        yield Sample(f"{KINDS[kind]} as a definition's value", file(holding(6, "value", least(m.TOKEN, kind))))
+        yield Sample(f"{KINDS[kind]} as a definition's value", file(holding(6, value=least(m.TOKEN, kind))))
     for kind in (2, 3, 9, 13):
-        yield Sample(f"{KINDS[kind]} as a pair's value", file(holding(4, "value", least(m.LTOKEN, kind))))
+        yield Sample(f"{KINDS[kind]} as a pair's value", file(holding(4, value=least(m.LTOKEN, kind))))
 
 
 def part_samples():
     """The kinds that are no tokens."""
-    yield Sample("a block", file(holding(2, "block", full(m.BLOCK))))
-    yield Sample("a string", file(holding(12, "filename", full(m.ISTRING))))
+    yield Sample("a block", file(holding(2, block=full(m.BLOCK))))
+    yield Sample("a string", file(holding(12, filename=full(m.ISTRING))))
     yield Sample("an operand", file(operated(0, False)))
     for mode, casings in enumerate(CASINGS):
         yield Sample(f"an operand of mode {mode} with a closing character", file(operated(mode, True)), casings)
-    yield Sample("signs before a factor", file(holding(0, "value", full(m.LEXPR, 29))))
+    yield Sample("signs before a factor", file(holding(0, value=full(m.LEXPR, 29))))
     for kind in FACTORS:
-        yield Sample(f"{KINDS[kind].replace('_', ' ')} in an expression", file(holding(0, "value", factor(kind))))
-    yield Sample("a binary expression", file(holding(0, "value", full(m.LEXPR, 28))))
-    yield Sample("a binary expression in a list", file(holding(9, "expr", full(m.EXPR, 28))))
-    yield Sample("a binary expression as a value", file(holding(6, "value", holding(9, "expr", full(m.EXPR, 28)))))
-    yield Sample("an import of all", file(holding(11, "args", full(m.IMPORT_ARGS, 40))))
+        yield Sample(f"{KINDS[kind].replace('_', ' ')} in an expression", file(holding(0, value=factor(kind))))
+    yield Sample("a binary expression", file(holding(0, value=full(m.LEXPR, 28))))
+    yield Sample("a binary expression in a list", file(holding(9, expr=full(m.EXPR, 28))))
+    yield Sample("a binary expression as a value", file(holding(6, value=holding(9, expr=full(m.EXPR, 28)))))
+    yield Sample("an import of all", file(holding(11, args=full(m.IMPORT_ARGS, 40))))
     paths = gen.lst(*[full(m.IMPORT_ARG_LIST.item) for _ in range(2)], type_=m.IMPORT_ARGS)
     for path in paths.items:
         path.fields["value"] = full(m.IMPORT_ARG_LIST.item.item)
-    yield Sample("an import of paths", file(holding(11, "args", paths)))
+    yield Sample("an import of paths", file(holding(11, args=paths)))
 
 
 def block_samples():
     """Tokens in blocks that stand in a list, that are no tokens, that are a value."""
-    yield Sample("tokens in a block in a list", file(holding(2, "block", block())))
-    yield Sample("tokens in a block that is no token", file(holding(15, "block", block())))
-    yield Sample("tokens in a block that is a value", file(holding(6, "value", holding(2, "block", block()))))
+    yield Sample("tokens in a block in a list", file(holding(2, block=block())))
+    yield Sample("tokens in a block that is no token", file(holding(15, block=block())))
+    yield Sample("tokens in a block that is a value", file(holding(6, value=holding(2, block=block()))))
 
 
 # ------------------------------------------------------------ their rows

@@ -13,7 +13,7 @@ from itertools import product
 
 from antt_rows import deliver, listed, quoted, table
 from streams import ask_oracle
-from tree_shapes import least, stand
+from tree_shapes import holding
 
 import gen
 import model as m
@@ -25,14 +25,6 @@ MARK = b"~"
 
 # How a leaf prints, the class of its record, how many marks the token prints before it, and the token that holds it.
 Style = namedtuple("Style", "name leaf_class marks token")
-
-
-def holding(kind, **fields):
-    """A least token with some fields of our own."""
-    token = least(m.TOKEN, kind)
-    for name, value in fields.items():
-        stand(token, name, value)
-    return token
 
 
 def expression(record):

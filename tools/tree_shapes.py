@@ -74,6 +74,14 @@ def stand(node, name, value):
                 node.fields[slot.name] = least(slot.type)
 
 
+def holding(kind, **fields):
+    """A least token with some fields of our own."""
+    token = least(m.TOKEN, kind)
+    for name, value in fields.items():
+        stand(token, name, value)
+    return token
+
+
 def choices(type_, kind):
     """A record of this kind with each choice of its optional fields, the fullest last; a list with no item
     and with two; a leaf with and without its text, where it may be absent."""

@@ -1,6 +1,6 @@
--- What the Rust prints for each index of each enum, as one table: the definition prints the same under the same casings,
--- an enum has as many names as there are texts, and the index behind the last prints nothing. tools/printed_texts.py
--- makes the rows from the Rust's answers.
+-- What the Rust prints for each index of each enum, as one table: the definition prints the same under the same
+-- casings, an enum has as many names as there are texts, and the index behind the last prints nothing.
+-- tools/printed_texts.py makes the rows from the Rust's answers.
 --   texts-held : map found rows ≡ map wanted rows
 use Prim.Native.Nat.{ℕ, _+_}
 use Prim.Native.String.{String}
@@ -16,8 +16,8 @@ use Rattle.tree.specs.declared.grammar.TextRule.{TextRule}
 use Rattle.tree.specs.declared.grammar.TextRule.the-variants.{Byte}
 use Rattle.printing.specs.declared.Context.{Context}
 use Rattle.events.specs.Printed.{Style, mnemonic, register, operator, dataSize, encoding, variableType}
-use Rattle.events.specs.Printed.{numberType, modifier, ascii, mnemonics, registers, operators, dataSizes, encodings}
-use Rattle.events.specs.Printed.{variableTypes, numberTypes, modifiers, printed}
+use Rattle.events.specs.Printed.{numberType, modifier, ascii, mnemonics, registers, operators, dataSizes}
+use Rattle.events.specs.Printed.{encodings, variableTypes, numberTypes, modifiers, printed}
 
 -- a style, the class of the leaves that print in it, and the texts by index, with the choices of casings that give
 -- them: of mnemonics and of registers, 0 upper and 1 lower
