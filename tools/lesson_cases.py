@@ -82,7 +82,7 @@ def loss_lines(tree):
 def sentence(number, place, options, tree, work, text):
     given = {1: ("options", options), 2: ("options", options)}.get(number, ("tree", tree))
     if number == 8:
-        meaning = f" is how many bytes of work room the chunks need, and the limit is {work}"
+        meaning = f" is how many bytes of work room were needed at the push that did not fit, not in all, and the limit is {work}"
     elif number == 9:
         meaning = f" is how many bytes the text needs, and the limit is {text}"
     elif place < len(given[1]):

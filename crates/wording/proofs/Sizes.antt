@@ -1,4 +1,4 @@
--- How long a sentence is: no refusal's has more than 160 bytes, so a line of 256 has room for every one.
+-- How long a sentence is: no refusal's has more than 200 bytes, so a line of 256 has room for every one.
 use mathlib.Core.Path.{_≡_}
 use mathlib.Core.List.{List, [], _∷_, _++_}
 use Prim.Native.Nat.{ℕ, zero, suc, _+_, _/_, _%_, _≤_}
@@ -14,7 +14,7 @@ use Rattle.text.specs.Literals.{ascii}
 use Rattle.text.proofs.Choices.{by-test}
 use Rattle.wording.specs.Lines.{say, digits, decimal}
 use Rattle.wording.specs.Names.{reasons}
-use Rattle.wording.specs.Sentences.{standing, limited, inOptions, inTree, meaning, named, sentence}
+use Rattle.wording.specs.Sentences.{standing, limited, inOptions, inTree, atPush, meaning, named, sentence}
 
 -- how many bytes pieces have
 abbrev size : List (List ℕ) → ℕ
@@ -77,16 +77,16 @@ size-named reason =
     )
 
 module _ (place : ℕ) (tree options : List ℕ) (work text : ℕ) where
-  in-options : size (inOptions options place) ≤ 86
+  in-options : size (inOptions options place) ≤ 123
   unfolding flat ascii
   in-options = omega (arith, size-append (say " of the options") (standing options place), size-standing options place)
 
-  in-tree : size (inTree tree place) ≤ 86
+  in-tree : size (inTree tree place) ≤ 123
   unfolding flat ascii
   in-tree = omega (arith, size-append (say " of the tree") (standing tree place), size-standing tree place)
 
   -- what a place means
-  size-meaning : (reason : Reason) → size (meaning reason place tree options work text) ≤ 86
+  size-meaning : (reason : Reason) → size (meaning reason place tree options work text) ≤ 123
   unfolding flat ascii meaning
   size-meaning OptionsLength = in-options
   size-meaning OptionsValue = in-options
@@ -95,11 +95,11 @@ module _ (place : ℕ) (tree options : List ℕ) (work text : ℕ) where
   size-meaning TreeLayout = in-tree
   size-meaning ChunkLayout = omega arith
   size-meaning NotAscii = in-tree
-  size-meaning WorkRoom = omega (arith, size-append (say " is how many bytes of work room the chunks need") (limited work), size-limited work)
+  size-meaning WorkRoom = omega (arith, size-append atPush (limited work), size-limited work)
   size-meaning TextRoom = omega (arith, size-append (say " is how many bytes the text needs") (limited text), size-limited text)
 
 -- the whole sentence
-pub size-sentence : (refusal : Refusal) (tree options : List ℕ) (work text : ℕ) → length (flat (sentence refusal tree options work text)) ≤ 160
+pub size-sentence : (refusal : Refusal) (tree options : List ℕ) (work text : ℕ) → length (flat (sentence refusal tree options work text)) ≤ 200
 unfolding flat ascii sentence
 size-sentence refusal tree options work text =
     let front = named (refusal .reason) in

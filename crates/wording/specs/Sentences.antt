@@ -26,6 +26,10 @@ inOptions options place = say " of the options" ++ standing options place
 abbrev pub inTree : List ℕ → ℕ → List (List ℕ)
 inTree tree place = say " of the tree" ++ standing tree place
 
+-- refusal 8: "place is the length needed at that push"; the chunks behind it would need more
+abbrev pub atPush : List (List ℕ)
+atPush = say " is how many bytes of work room were needed at the push that did not fit, not in all"
+
 -- what a refusal's place counts in, and what stands there; or what it counts, and the limit
 unfoldable pub meaning : Reason → ℕ → List ℕ → List ℕ → ℕ → ℕ → List (List ℕ)
 meaning OptionsLength place tree options work text = inOptions options place
@@ -35,7 +39,7 @@ meaning TreeDepth place tree options work text = inTree tree place
 meaning TreeLayout place tree options work text = inTree tree place
 meaning ChunkLayout place tree options work text = say " of the chunk list"
 meaning NotAscii place tree options work text = inTree tree place
-meaning WorkRoom place tree options work text = say " is how many bytes of work room the chunks need" ++ limited work
+meaning WorkRoom place tree options work text = atPush ++ limited work
 meaning TextRoom place tree options work text = say " is how many bytes the text needs" ++ limited text
 
 -- a refusal's number and name

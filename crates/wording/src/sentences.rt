@@ -7,7 +7,7 @@ use text::numbers;
 ghost use mathlib.Core.Path.{_≡_};
 ghost use mathlib.Core.List.{_++_};
 ghost use Rattle.wording.specs.Lines.{lineIn, puts, say};
-ghost use Rattle.wording.specs.Sentences.{standing, limited, inOptions, inTree, meaning, named, sentence};
+ghost use Rattle.wording.specs.Sentences.{standing, limited, inOptions, inTree, atPush, meaning, named, sentence};
 
 // What stands at a place of an input.
 fn put_standing(line: &mut [u8], at: usize, input: &[u8], place: usize) -> usize
@@ -43,10 +43,15 @@ fn put_in_tree(line: &mut [u8], at: usize, tree: &[u8], place: usize) -> usize
     put_standing(line, first, tree, place)
 }
 
+// The need of work room at the push that did not fit.
 fn put_work_room(line: &mut [u8], at: usize, limit: usize) -> usize
-    ensures { λ r. ⌜ lineIn (now (line .exit)) r ≡ puts (say " is how many bytes of work room the chunks need" ++ limited limit) (lineIn (now (line .entry)) at) ⌝ }
+    ensures { λ r. ⌜ lineIn (now (line .exit)) r ≡ puts (atPush ++ limited limit) (lineIn (now (line .entry)) at) ⌝ }
 {
-    let first = lines::put(line, at, b" is how many bytes of work room the chunks need");
+    let first = lines::put(
+        line,
+        at,
+        b" is how many bytes of work room were needed at the push that did not fit, not in all",
+    );
     put_limit(line, first, limit)
 }
 
