@@ -95,6 +95,29 @@ fn answer_join(options: &[u8], chunks: &[u8], text: &mut [u8]) {
     }
 }
 
+// Fills a room with a part, again and again; the last copy may be cut.
+fn repeat(part: &[u8], room: &mut [u8]) {
+    let count = part.len();
+    if count == 0 {
+        return;
+    }
+    let mut at = 0;
+    while at < room.len() {
+        room[at] = part[at % count];
+        at += 1;
+    }
+}
+
+// A case of the column setter with a list that fills the work room; false where there is nothing to repeat.
+fn answer_repeated(options: &[u8], part: &[u8], room: &mut [u8], text: &mut [u8]) -> bool {
+    if part.len() == 0 {
+        return false;
+    }
+    repeat(part, room);
+    answer_join(options, room, text);
+    true
+}
+
 // A case of the tree's check, which has no text.
 fn answer_check(bytes: &[u8], text: &mut [u8]) {
     stores::fill(text, 0, text.len(), 165);
@@ -276,6 +299,9 @@ fn answer_command(
     if command == b'L' {
         answer_lost(payload, text);
         return true;
+    }
+    if command == b'R' {
+        return answer_repeated(options, payload, room, text);
     }
     false
 }
