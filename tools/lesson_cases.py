@@ -4,7 +4,7 @@
 
 Texts and chunks come from ORACLE, the Rust; refusals, records and places from the model of document 01; the wording is written
 here a second time. The sample trees come from samples/, made by `oracle parse`; with --samples they are made again first, with
-the texts beside them."""
+the texts and the records beside them."""
 
 import subprocess
 import sys
@@ -26,6 +26,7 @@ KINDS = """Align Assert Braces Config ConfigPair Data Definition Eof Error Expre
     InterpolatedString Operand RegisterSuffix ImportAs ImportArgs::All SpecificImportArg ArgItem""".split()
 REASONS = [None, "options length", "options value", "tree length", "tree depth", "tree layout", "chunk layout", "not ASCII",
            "work room", "text room"]
+MODES = ["AbsoluteOrZp", "Immediate", "Implied", "Indirect", "OuterIndirect"]
 TRIVIA = ["whitespace", "newline", "comment", "line comment"]
 
 # The options of the samples, by the name of the file that holds them.
@@ -40,13 +41,24 @@ def quoted(text):
     return '"' + "".join(named.get(b) or (chr(b) if 32 <= b < 127 else f"\\x{b:02x}") for b in text) + '"'
 
 
+def leaf_shown(rec):
+    """A leaf's text in quotes; of an enum's case what it prints under the default options, and its index."""
+    if rec.type.leaf is None or rec.type.leaf[0] != "enum":
+        return quoted(rec.text)
+    index = rec.text[0]
+    if rec.type is model.ADDRESSING_MODE:
+        return f"{MODES[index]} ({index})"
+    printed = model.leaf_text(rec, model.parse_options(OPTIONS["plain.options"])).decode()
+    return f"{printed or 'nothing'} ({index})"
+
+
 def record_lines(rec, depth=1):
     """A line for a record and each record in it, in stored order."""
     line = f"{rec.off:5} {depth}{'  ' * depth}{KINDS[rec.kind].replace('_', ' ')}"
     if rec.kind == LIST:
         line += f" of {len(rec.items)}"
     if rec.text is not None:
-        line += " " + quoted(rec.text)
+        line += " " + leaf_shown(rec)
     for item in rec.trivia:
         line += f" [{TRIVIA[item.code]}" + ("" if item.code == 1 else " " + quoted(item.text)) + "]"
     yield line
@@ -183,6 +195,8 @@ def make_samples(oracle, folder):
             asked = [oracle, "--ascii", "format", folder / name, tree]
             text = subprocess.run(asked, stdout=subprocess.PIPE, check=True).stdout
             (folder / f"{source.stem}.{Path(name).stem}.txt").write_bytes(text)
+        records = record_lines(model.check_tree(tree.read_bytes()))
+        (folder / f"{source.stem}.records.txt").write_text("".join(line + "\n" for line in records))
 
 
 def main():

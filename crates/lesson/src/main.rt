@@ -9,10 +9,10 @@ use libc::STDIN_FILENO;
 use libc::STDOUT_FILENO;
 use losses::search::Loss;
 use text::numbers;
+use tree::check;
+use tree::check::Part;
 use tree::grammar::Class;
-use tree::grammar::Kind;
 use tree::own;
-use tree::own::Own;
 use tree::own::OwnRead;
 use wording::lines;
 use wording::places;
@@ -142,65 +142,26 @@ fn class_of(number: usize) -> Class {
     }
 }
 
-// How many of the six fields stand.
-fn fields_of(map: usize) -> usize {
-    let front = map / 2 % 2 + map / 4 % 2 + map / 8 % 2;
-    let back = map / 16 % 2 + map / 32 % 2 + map / 64 % 2;
-    front + back
-}
-
-// How many parts a record has.
-fn parts_of(own: Own) -> usize {
-    let kind = own.kind;
-    match kind {
-        Kind::Vec => own.count,
-        Kind::Leaf => 0,
-        Kind::PathItem => 0,
-        _ => fields_of(own.map),
-    }
-}
-
-// What was read of a record: the place behind its own bytes, and how many parts stand there.
-struct Shown {
-    end: usize,
-    parts: usize,
-}
-
-// A line for the record at a place, without its parts.
-fn show_own(tree: &[u8], at: usize, levels: usize, line: &mut [u8]) -> Shown
+// A line for the record of a class at a place and one for each record in it; the place behind them.
+fn show_record(tree: &[u8], at: usize, class: Class, levels: usize, line: &mut [u8]) -> usize
     requires { ⌜ levels ≤ 64 ⌝ }
 {
-    if tree.len() <= at {
-        return Shown { end: at, parts: 0 };
-    }
-    let class = class_of(numbers::wide(tree[at]));
     let read = own::read_own(tree, at, class, levels);
     let OwnRead::Record(own) = read else {
-        return Shown { end: at, parts: 0 };
-    };
-    let used = records::put_record(line, 0, tree, at, 65 - levels, own);
-    write_line(line, used);
-    Shown {
-        end: own.end,
-        parts: parts_of(own),
-    }
-}
-
-// A line for the record at a place and one for each record in it; the place behind them.
-fn show_record(tree: &[u8], at: usize, levels: usize, line: &mut [u8]) -> usize
-    requires { ⌜ levels ≤ 64 ⌝ }
-{
-    if levels == 0 {
         return at;
+    };
+    let used = records::put_record(line, 0, tree, at, 65 - levels, class, own);
+    write_line(line, used);
+    let mut place = own.end;
+    let mut plan = check::plan_of(class, own);
+    loop {
+        let part = check::next_part(plan);
+        let Part::Next(field, rest) = part else {
+            return place;
+        };
+        place = show_record(tree, place, field, levels - 1, line);
+        plan = rest;
     }
-    let shown = show_own(tree, at, levels, line);
-    let mut place = shown.end;
-    let mut left = shown.parts;
-    while 0 < left {
-        place = show_record(tree, place, levels - 1, line);
-        left -= 1;
-    }
-    place
 }
 
 // The records of a tree.
@@ -209,7 +170,7 @@ fn answer_tree(tree: &[u8], options: &[u8], line: &mut [u8]) {
     match checked {
         Checked::Passed => {
             write_status(0);
-            show_record(tree, 0, 64, line);
+            show_record(tree, 0, Class::Tokens, 64, line);
         }
         Checked::Failed(refusal) => write_refusal(refusal, tree, options, 0, line.len()),
     }

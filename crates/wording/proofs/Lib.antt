@@ -1,4 +1,5 @@
 pub mod Pieces
 pub mod Tables
+pub mod Forms
 pub mod Whole
 pub mod Sizes

@@ -1,5 +1,6 @@
 pub mod Lines
 pub mod Names
 pub mod Sentences
+pub mod Entries
 pub mod Records
 pub mod Losses

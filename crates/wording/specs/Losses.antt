@@ -10,6 +10,7 @@ use Rattle.tree.specs.declared.own.Own.{Own}
 use Rattle.leaves.specs.Items.{itemsAt}
 use Rattle.wording.specs.Lines.{say, quoted}
 use Rattle.wording.specs.Records.{offset, content}
+use Rattle.wording.specs.declared.entries.Form.the-variants.{Text}
 
 -- a letter in parentheses, where its bit stands
 unfoldable pub letter : ℕ → ℕ → List (List ℕ)
@@ -34,7 +35,7 @@ comments (item ∷ items) = comment item ++ comments items
 
 -- the closing character itself, for (h)
 unfoldable pub closing : List ℕ → ℕ → Own → List (List ℕ)
-closing tree bit own = cond (eqb bit 1) (content tree 25 own) []
+closing tree bit own = cond (eqb bit 1) (content tree 25 Text own) []
 
 -- a loss's line: its record's offset, the letters (a) to (h) of its places, the texts that stand there, and what becomes of them
 unfoldable pub lossPieces : List ℕ → ℕ → ℕ → Own → List (List ℕ)

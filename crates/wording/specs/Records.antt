@@ -7,10 +7,14 @@ use lib.Seq.{slice}
 use lib.Dec.{eqb, ltb, leb}
 use Rattle.tree.specs.Tree.{Trivium}
 use Rattle.tree.specs.declared.own.Own.{Own}
+use Rattle.tree.specs.declared.grammar.Class.{Class}
 use Rattle.chunks.specs.declared.stored.StoredChunk.{StoredChunk}
 use Rattle.leaves.specs.Items.{itemsAt}
 use Rattle.wording.specs.Lines.{say, spaces, decimal, quoted}
 use Rattle.wording.specs.Names.{kindName, codes, typeName}
+use Rattle.wording.specs.Entries.{indexed, formOf}
+use Rattle.wording.specs.declared.entries.Form.{Form}
+use Rattle.wording.specs.declared.entries.Form.the-variants.{Text, Entry}
 
 -- so many spaces that an offset's last digit is the fifth of its line
 unfoldable pub spacesBefore : ℕ → ℕ
@@ -33,21 +37,28 @@ unfoldable pub trivia : List Trivium → List (List ℕ)
 trivia [] = []
 trivia (item ∷ items) = trivium item ++ trivia items
 
--- what stands in a record beside its parts: how many a list has, or the text of a leaf
-unfoldable pub content : List ℕ → ℕ → Own → List (List ℕ)
-content tree number own =
-    cond (eqb number 24) (say " of " ++ decimal (own .count))
-    (cond (leb (own .end) (own .text)) [] (say " " ++ quoted (slice (own .text) (own .end) tree)))
+-- a leaf's text in quotes, or the case of an enum whose index is its first byte
+unfoldable pub leafShown : List ℕ → Form → Own → List (List ℕ)
+leafShown tree Text own = quoted (slice (own .text) (own .end) tree)
+leafShown tree (Entry table) own = indexed table (getD tree (own .text) 0)
 
--- a record's line: its offset, its depth, its kind by name, a list's count or a leaf's text, and its trivia
-unfoldable pub recordPieces : List ℕ → ℕ → ℕ → Own → List (List ℕ)
-recordPieces tree place depth own =
-    offset place ++ (deep depth ++ (say (kindName (getD tree place 0)) ++ (content tree (getD tree place 0) own
+-- what stands in a record beside its parts: how many a list has, or what a leaf shows
+unfoldable pub content : List ℕ → ℕ → Form → Own → List (List ℕ)
+content tree number form own =
+    cond (eqb number 24) (say " of " ++ decimal (own .count))
+    (cond (leb (own .end) (own .text)) [] (say " " ++ leafShown tree form own))
+
+-- a record's line: its offset, its depth, its kind by name, a list's count or what a leaf shows, and its trivia
+unfoldable pub recordPieces : List ℕ → ℕ → ℕ → Class → Own → List (List ℕ)
+recordPieces tree place depth class own =
+    offset place ++ (deep depth ++ (say (kindName (getD tree place 0))
+    ++ (content tree (getD tree place 0) (formOf class) own
     ++ (trivia (itemsAt tree (own .trivia) (own .«trivia_count»)) ++ say "\n"))))
 
 -- own bytes that do not stand in the tree have no line
-abbrev pub recordLine : List ℕ → ℕ → ℕ → Own → List (List ℕ)
-recordLine tree place depth own = cond (ltb place (length tree) && leb (own .end) (length tree)) (recordPieces tree place depth own) []
+abbrev pub recordLine : List ℕ → ℕ → ℕ → Class → Own → List (List ℕ)
+recordLine tree place depth class own =
+    cond (ltb place (length tree) && leb (own .end) (length tree)) (recordPieces tree place depth class own) []
 
 -- a chunk's line: its place among the stored ones, its type, its indent and its text
 unfoldable pub chunkPieces : List ℕ → ℕ → StoredChunk → List (List ℕ)

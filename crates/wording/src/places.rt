@@ -1,4 +1,5 @@
 // A line for a record that uses one of the eight places of document 01: what stands there, and what becomes of it.
+use crate::entries::Form;
 use crate::lines;
 use crate::records;
 use tree::own::Own;
@@ -92,7 +93,7 @@ fn put_closing(line: &mut [u8], at: usize, tree: &[u8], bit: usize, own: Own) ->
     ensures { λ r. ⌜ lineIn (now (line .exit)) r ≡ puts (closing (now (tree .entry)) bit own) (lineIn (now (line .entry)) at) ⌝ }
 {
     if bit == 1 {
-        return records::put_content(line, at, tree, 25, own);
+        return records::put_content(line, at, tree, 25, Form::Text, own);
     }
     at
 }

@@ -1,8 +1,11 @@
 // A line for a record of a tree, and one for a chunk.
+use crate::entries;
+use crate::entries::Form;
 use crate::lines;
 use crate::names;
 use chunks::stored::StoredChunk;
 use text::numbers;
+use tree::grammar::Class;
 use tree::own::Own;
 use tree::parts;
 use tree::parts::TriviumRead;
@@ -12,7 +15,7 @@ ghost use Prim.Native.Nat.{_≤_, _<_};
 ghost use lib.ListN.{length};
 ghost use Rattle.leaves.specs.Items.{itemOf, itemsAt};
 ghost use Rattle.wording.specs.Lines.{lineIn, puts};
-ghost use Rattle.wording.specs.Records.{spacesBefore, offset, deep, trivium, trivia, content, recordPieces, recordLine, chunkPieces, chunkLine};
+ghost use Rattle.wording.specs.Records.{spacesBefore, offset, deep, trivium, trivia, leafShown, content, recordPieces, recordLine, chunkPieces, chunkLine};
 
 // How many spaces stand before an offset, so that its last digit is the fifth of the line.
 fn spaces_before(n: usize) -> usize
@@ -88,41 +91,61 @@ fn put_trivia(line: &mut [u8], at: usize, tree: &[u8], place: usize, count: usiz
     next
 }
 
-// What stands in a record beside its parts: how many a list has, or the text of a leaf.
-pub(crate) fn put_content(line: &mut [u8], at: usize, tree: &[u8], number: usize, own: Own) -> usize
-    requires { ⌜ own .end ≤ length (now tree) ⌝ }
-    ensures { λ r. ⌜ lineIn (now (line .exit)) r ≡ puts (content (now (tree .entry)) number own) (lineIn (now (line .entry)) at) ⌝ }
+// What a leaf shows: its text in quotes, or the case of an enum whose index is its first byte.
+fn put_leaf(line: &mut [u8], at: usize, tree: &[u8], form: Form, own: Own) -> usize
+    requires { ⌜ (own .text < own .end) × (own .end ≤ length (now tree)) ⌝ }
+    ensures { λ r. ⌜ lineIn (now (line .exit)) r ≡ puts (leafShown (now (tree .entry)) form own) (lineIn (now (line .entry)) at) ⌝ }
 {
     let start = own.text;
     let end = own.end;
+    match form {
+        Form::Text => lines::put_quoted(line, at, &tree[start..end]),
+        Form::Entry(table) => entries::put_indexed(line, at, table, numbers::wide(tree[start])),
+    }
+}
+
+// What stands in a record beside its parts: how many a list has, or what a leaf shows.
+pub(crate) fn put_content(
+    line: &mut [u8],
+    at: usize,
+    tree: &[u8],
+    number: usize,
+    form: Form,
+    own: Own,
+) -> usize
+    requires { ⌜ own .end ≤ length (now tree) ⌝ }
+    ensures { λ r. ⌜ lineIn (now (line .exit)) r ≡ puts (content (now (tree .entry)) number form own) (lineIn (now (line .entry)) at) ⌝ }
+{
     if number == 24 {
         let first = lines::put(line, at, b" of ");
         return lines::put_number(line, first, own.count);
     }
-    if end <= start {
+    if own.end <= own.text {
         return at;
     }
     let first = lines::put(line, at, b" ");
-    lines::put_quoted(line, first, &tree[start..end])
+    put_leaf(line, first, tree, form, own)
 }
 
-// A record's line: its offset, its depth, its kind by name, a list's count or a leaf's text, and its trivia.
+// A record's line: its offset, its depth, its kind by name, a list's count or what a leaf shows, and its trivia.
 fn put_standing_record(
     line: &mut [u8],
     at: usize,
     tree: &[u8],
     place: usize,
     depth: usize,
+    class: Class,
     own: Own,
 ) -> usize
     requires { ⌜ (place < length (now tree)) × (own .end ≤ length (now tree)) ⌝ }
-    ensures { λ r. ⌜ lineIn (now (line .exit)) r ≡ puts (recordPieces (now (tree .entry)) place depth own) (lineIn (now (line .entry)) at) ⌝ }
+    ensures { λ r. ⌜ lineIn (now (line .exit)) r ≡ puts (recordPieces (now (tree .entry)) place depth class own) (lineIn (now (line .entry)) at) ⌝ }
 {
     let number = numbers::wide(tree[place]);
+    let form = entries::form_of(class);
     let first = put_offset(line, at, place);
     let second = put_depth(line, first, depth);
     let third = names::put_kind(line, second, number);
-    let fourth = put_content(line, third, tree, number, own);
+    let fourth = put_content(line, third, tree, number, form, own);
     let last = put_trivia(line, fourth, tree, own.trivia, own.trivia_count);
     lines::put(line, last, b"\n")
 }
@@ -134,9 +157,10 @@ pub fn put_record(
     tree: &[u8],
     place: usize,
     depth: usize,
+    class: Class,
     own: Own,
 ) -> usize
-    ensures { λ r. ⌜ lineIn (now (line .exit)) r ≡ puts (recordLine (now (tree .entry)) place depth own) (lineIn (now (line .entry)) at) ⌝ }
+    ensures { λ r. ⌜ lineIn (now (line .exit)) r ≡ puts (recordLine (now (tree .entry)) place depth class own) (lineIn (now (line .entry)) at) ⌝ }
 {
     if tree.len() <= place {
         return at;
@@ -144,7 +168,7 @@ pub fn put_record(
     if tree.len() < own.end {
         return at;
     }
-    put_standing_record(line, at, tree, place, depth, own)
+    put_standing_record(line, at, tree, place, depth, class, own)
 }
 
 // A chunk's line: its place among the stored ones, its type, its indent and its text.

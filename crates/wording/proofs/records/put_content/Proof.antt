@@ -2,7 +2,6 @@
 use borrow.Author.Tests.{eq-eqb, ne-eqb, le-leb, lt-leb}
 use borrow.Author.Needs.{needs}
 use Rattle.text.specs.Literals.{ascii}
-use Rattle.text.proofs.Parts.{part-slice}
 use Rattle.wording.specs.Records.{content}
 use Rattle.wording.proofs.Pieces.{after, put-nothing}
 use Rattle.wording.proofs.records.put_content.Statement.{statement}
@@ -30,7 +29,7 @@ returns c =
 
 returns-2 : tie.Need-returns-2
 unfolding content
-returns-2 c = rw (ne-eqb _ _ (c .before .if1 .left), le-leb _ _ (c .if2 .taken)) (put-nothing _)
+returns-2 c = rw (ne-eqb _ _ (c .before .before .if1 .left), le-leb _ _ (c .if2 .taken)) (put-nothing _)
 
 slice-aggregate-put-2 : tie.Need-slice-aggregate-put-2
 slice-aggregate-put-2 c = search needs
@@ -38,17 +37,8 @@ slice-aggregate-put-2 c = search needs
 put-requires-2 : tie.Need-put-requires-2
 put-requires-2 c κs = search needs
 
-sub-put-quoted : tie.Need-sub-put-quoted
-sub-put-quoted c = search needs
-
-part-put-quoted-start : tie.Need-part-put-quoted-start
-part-put-quoted-start c = search needs
-
-part-put-quoted-end : tie.Need-part-put-quoted-end
-part-put-quoted-end c = search needs
-
-put-quoted-requires : tie.Need-put-quoted-requires
-put-quoted-requires c κs = search needs
+put-leaf-requires : tie.Need-put-leaf-requires
+put-leaf-requires c κs = search needs
 
 same-length-2 : tie.Need-same-length-2
 same-length-2 c = search needs
@@ -57,9 +47,10 @@ returns-3 : tie.Need-returns-3
 unfolding content ascii
 returns-3 c =
     let second = c .before .before in
-    let first = second .before .before .before .before .before in
+    let first = second .before .before .before .before in
     let tried = first .before .before .before in
-    rw (ne-eqb _ _ (tried .before .if1 .left), lt-leb _ _ (tried .if2 .left)) (after _ _ _ (first .put2 .ensures) (rw part-slice at (second .put-quoted .ensures)))
+    rw (ne-eqb _ _ (tried .before .before .if1 .left), lt-leb _ _ (tried .if2 .left))
+    (after _ _ _ (first .put2 .ensures) (second .put-leaf .ensures))
 
 pub put-content-spec : {M : Type 1} → statement M
 put-content-spec =
@@ -73,9 +64,6 @@ put-content-spec =
     returns-2
     slice-aggregate-put-2
     put-requires-2
-    sub-put-quoted
-    part-put-quoted-start
-    part-put-quoted-end
-    put-quoted-requires
+    put-leaf-requires
     same-length-2
     returns-3)

@@ -12,6 +12,9 @@ shared-slice-read-wide c = search needs
 wide-requires : tie.Need-wide-requires
 wide-requires c κs = search needs
 
+form-of-requires : tie.Need-form-of-requires
+form-of-requires c κs = search needs
+
 put-offset-requires : tie.Need-put-offset-requires
 put-offset-requires c κs = search needs
 
@@ -45,8 +48,9 @@ returns c =
     let third = fourth .before .before .before .before in
     let second = third .before .before .before .before in
     let first = second .before .before .before .before in
-    let numbered = first .before .before in
-    rw (← (numbered .wide .ensures .0))
+    let formed = first .before .before in
+    let numbered = formed .before in
+    rw (← (numbered .wide .ensures .0), ← (formed .form-of .ensures))
     (after _ _ _ (first .put-offset .ensures)
     (after _ _ _ (second .put-depth .ensures)
     (after _ _ _ (third .put-kind .ensures)
@@ -58,6 +62,7 @@ put-standing-record-spec =
     (tie.spec
     shared-slice-read-wide
     wide-requires
+    form-of-requires
     put-offset-requires
     put-depth-requires
     put-kind-requires
