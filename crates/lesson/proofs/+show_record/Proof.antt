@@ -320,7 +320,7 @@ show-record-loop-less : (t : ℕ) → show-record-lts.Need-loop-less (
 show-record-loop-less t c =
     let part = c .before .before .before .before .before in
     let turn = part .before .before in
-    rest-less (turn .before .loop .plan) _ _ _ (part .part .given .1) (turn .next-part .ensures .1)
+    rest-less (turn .before .loop .plan) _ _ _ (part .part .given .1) (turn .next-part .ensures)
 
 show-record-loop-again : (t : ℕ) → show-record-lts.Need-loop-again (
   read-own-reads.Asked,
