@@ -19,7 +19,7 @@ For the tree call:
 For the search of lost comments:
 --lost N        N random trees, one of seven damaged, against the model
 All:
---streams       cut and overlong cases and wrong commands, which end a run of `replay`
+--streams       cut and overlong cases, wrong commands and nothing to repeat, which end a run of `replay`
 If no part is named: 20,000 random lists and as many random trees.
 
 Texts are the Rust's, through the program ORACLE. Refusals of random lists, all answers at the limits and
@@ -54,7 +54,7 @@ def compare_streams(tally, oracle):
         runs.append((whole[:cut], b"".join(answer for answer, end in zip(answers, ends) if end <= cut)))
     # Options, payload, work room and text buffer, each one byte too long.
     tail = four(0) + four(0)
-    for command in (b"J", b"K", b"C", b"F", b"L"):
+    for command in (b"J", b"K", b"C", b"F", b"L", b"R"):
         for overlong in (
             command + four(17) + bytes(17) + four(0) + tail,
             command + four(1) + b"\0" + four(MOST + 1) + bytes(MOST + 1) + tail,
@@ -62,7 +62,9 @@ def compare_streams(tally, oracle):
             command + four(1) + b"\0" + four(0) + four(0) + four(MOST + 1),
         ):
             runs.append((stored[0] + overlong + stored[1], answers[0]))
-    for other in set(range(256)) - set(b"JKCFL"):
+    # Nothing to repeat.
+    runs.append((stored[0] + b"R" + four(1) + b"\0" + four(0) + tail + stored[1], answers[0]))
+    for other in set(range(256)) - set(b"JKCFLR"):
         runs.append((stored[0] + bytes([other]) + stored[1][1:] + stored[2], answers[0]))
     for stream, due in runs:
         got = run([tally.replay], stream)

@@ -3,7 +3,7 @@ Rust, for the search against the model."""
 
 from itertools import islice
 
-from streams import ask_format, ask_walk, format_due, lost_case, lost_due, walk_due
+from streams import ask_format, ask_walk, format_due, lost_case, told, walk_due
 
 import gen  # after streams, which finds the model's folder
 from gen import encode
@@ -53,5 +53,6 @@ def compare_random_lost(tally, count, seed):
     trees = (encode(g.any_tree()) for _ in range(count))
     for batch in batches(enumerate(trees), 10000):
         given = [tree if number % 7 else g.damaged_tree(tree) for number, tree in batch]
-        tally.compare([lost_case(tree) for tree in given], [lost_due(tree) for tree in given])
+        searches = [lost_case(tree) for tree in given]
+        tally.compare(searches, [told(case) for case in searches])
     tally.close(f"searches for lost comments in {count} random trees, seed {seed}")

@@ -84,6 +84,9 @@ def layout():
         body = (b"\2\0" if first & 4 else b"") + b"\1\0q"
         yield b"\0", bytes([first]) + body, (MORE,)
         yield b"\0", before + bytes([first]) + body, (MORE,)
+    # Bit 3 with two bytes more, which a later layout may have.
+    for first in (8, 9, 10, 12):
+        yield b"\0", bytes([first]) + (b"\2\0" if first & 4 else b"") + b"\1\0" + b"\1\0q", (MORE,)
     for indent in (0, 1, 2, 127, 128, 255, 256, 4095, 4096, 4097, 8192, 32768, 65535):
         stored = b"\4" + indent.to_bytes(2, "little") + b"\1\0q"
         yield b"\0", stored, (EXACT, ONE_SHORT)
@@ -211,6 +214,20 @@ def random_lists(seed, count):
         elif g.chance(0.2):
             stored = g.damaged_chunks(stored)
         yield options, stored, (g.r.choice([EXACT, EXACT, MORE, ONE_SHORT, NONE]),)
+
+
+def long_lists():
+    """Lists round the greatest length, as a part that is repeated: (options, part, length of the list, buffer). Chunks
+    of 16 bytes fill it; of 15 the last one is cut. One byte more is refused at 0, whatever the list holds."""
+    blank, nop, high = (encode_chunks([code(text.ljust(12) + b"\n")]) for text in (b"", b"nop", b"\x80"))
+    odd = encode_chunks([comment(b" " * 11 + b"\n")])
+    for part, more in product((blank, nop, high, odd, b"\0"), (-1, 0, 1)):
+        yield b"\0", part, m.MAX_CHUNKS + more, 0
+    yield b"\0", blank, m.MAX_CHUNKS, MOST
+    yield b"\0", blank, MOST, MOST
+    yield b"\0", blank, 0, 0
+    for options in (b"", b"\1\2"):
+        yield options, blank, m.MAX_CHUNKS + 1, 0
 
 
 def all_lists(seed, count):

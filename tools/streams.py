@@ -12,7 +12,7 @@ import model as m
 # The longest payload and buffer that `replay` takes.
 MOST = 1114112
 
-# `room` is the length of the text buffer that is lent, `work` that of the work room.
+# `room` is the length of the text buffer that is lent, `work` that of the work room, or of the list for the command R.
 Case = namedtuple("Case", "command options payload room work", defaults=[0])
 
 # `text` is empty where the number is not 0, and for the command K; it is the chunks for the command C, and the eight
@@ -27,6 +27,16 @@ def four(number):
 def join_case(options, chunks, room):
     """A case of the column setter."""
     return Case(b"J", options, chunks, room)
+
+
+def repeated_case(options, part, length, room):
+    """A case of the column setter with a list of `length` bytes: a part again and again, the last one cut."""
+    return Case(b"R", options, part, room, length)
+
+
+def repeated(case):
+    """The list of such a case."""
+    return (case.payload * (case.work // len(case.payload) + 1))[: case.work]
 
 
 def check_case(tree):
@@ -57,6 +67,27 @@ def stored_case(case):
 
 def stored_answer(answer):
     return bytes([answer.number]) + four(answer.value) + bytes([answer.flag]) + answer.text
+
+
+def read_cases(stream):
+    """The cases of a stream, up to one that `replay` does not take."""
+    cases, at = [], 0
+
+    def part(length):
+        nonlocal at
+        at += length
+        return stream[at - length : at]
+
+    def number():
+        return int.from_bytes(part(4), "little")
+
+    while at < len(stream):
+        command, options, payload = part(1), part(number()), part(number())
+        work, room = number(), number()
+        if max(work, room) > MOST:
+            break
+        cases.append(Case(command, options, payload, room, work))
+    return cases
 
 
 def read_answers(stream):
@@ -169,12 +200,34 @@ def check_due(refusal):
     return Answer(number, place, 0, b"")
 
 
-def lost_due(tree):
-    """The answer that is due for the search for lost comments: for each place the offset of the first record that uses
-    it plus 1, or 0; by the model of document 01."""
+# ------------------------------------------------------------ the answers of a model
+
+
+def firsts(uses):
+    """For each place the offset of the first record that uses it plus 1, or 0."""
+    return [min((at + 1 for at, used in uses if used == letter), default=0) for letter in "abcdefgh"]
+
+
+def told_bytes(case, model):
+    """The bytes that a model accepts a case with."""
+    if case.command == b"C":
+        options = model.parse_options(case.options)
+        return model.encode_chunks(model.print_chunks(model.check_tree(case.payload), options, case.work).chunks)
+    tree = model.check_tree(case.payload)
+    return b"".join(map(four, firsts(model.place_uses(tree)))) if case.command == b"L" else b""
+
+
+def told(case, model=m):
+    """The answer that a model of document 01 gives for a case."""
+    if case.command in (b"J", b"R"):
+        chunks = case.payload if case.command == b"J" else repeated(case)
+        given = model.join_call(chunks, case.options, case.room)
+        return Answer(given.number, given.value, 0, given.text)
+    if case.command == b"F":
+        given = model.format_call(case.payload, case.options, case.work, case.room)
+        return Answer(given.number, given.value, 0, given.text)
     try:
-        uses = m.place_uses(m.check_tree(tree))
-    except m.Refusal as refusal:
+        given = told_bytes(case, model)
+        return Answer(0, len(given), 0, given)
+    except model.Refusal as refusal:
         return Answer(refusal.number, refusal.place, 0, b"")
-    firsts = [min((at + 1 for at, used in uses if used == letter), default=0) for letter in "abcdefgh"]
-    return Answer(0, 32, 0, b"".join(map(four, firsts)))

@@ -82,6 +82,13 @@ def trivia_places():
             yield from in_place(place, [with_trivia(encode(least(place.type, kind)), FOUR_CODES)])
 
 
+def trivia_alone():
+    """Every leaf with trivia and no text, whether or not the text may be absent."""
+    for place in TYPE_PLACES:
+        kinds_here = [kind for kind in place.type.kinds if kind in (LEAF, PATH_ITEM)]
+        yield from in_place(place, [with_trivia(bytes([kind, 0]), FOUR_CODES) for kind in kinds_here])
+
+
 def trivia_faults():
     """For each type and kind that may have trivia: each code with texts of 0, 1 and 2 bytes; a count of 0, one
     too many and one too few; codes past the last; a length one too long and one far past the end; bytes
@@ -224,6 +231,27 @@ def high_bytes():
                 yield high[:later] + b"\xff" + high[later + 1 :]
 
 
+def high_before_fields():
+    """A byte above 127 in the trivia of a record and in a text of its fields: the trivia come first; in the first of
+    two trivia, and in the second alone."""
+    high, plain = (2, b"a\x80"), (3, b"//")
+    for place in TYPE_PLACES:
+        for kind in place.type.kinds:
+            if m.may_have_trivia(kind, place.type) and slots_of(kind, place.type):
+                record = encode(raised(least(place.type, kind)))
+                trivia = ([high, plain], [plain, high], [high, high], [plain])
+                yield from in_place(place, [with_trivia(record, items) for items in trivia])
+
+
+def raised(node):
+    """The record with a byte above 127 as the text of every leaf that may have one."""
+    if node.kind == LEAF and node.type.leaf[0] in ("str", "char"):
+        node.text = b"\xff"
+    for child in node.children():
+        raised(child)
+    return node
+
+
 def two_faults():
     """Two wrong bytes in records of one tree: the first in reading order is told, so a record's own bytes come before
     its fields and fields go from left to right."""
@@ -256,6 +284,7 @@ def all_trees(seed, count):
         kinds,
         maps,
         trivia_places,
+        trivia_alone,
         trivia_faults,
         texts,
         leaf_types,
@@ -266,6 +295,7 @@ def all_trees(seed, count):
         depths,
         lengths,
         high_bytes,
+        high_before_fields,
         two_faults,
     ):
         yield from part()
