@@ -142,7 +142,8 @@ fn class_of(number: usize) -> Class {
     }
 }
 
-// A line for the record of a class at a place and one for each record in it; the place behind them.
+// A line for the record of a class at a place and one for each record in it; the place behind them. The tree was
+// checked, so that every record is read: a refusal could not be told any more, behind the status of an accepted tree.
 fn show_record(tree: &[u8], at: usize, class: Class, levels: usize, line: &mut [u8]) -> usize
     requires { ⌜ levels ≤ 64 ⌝ }
 {
