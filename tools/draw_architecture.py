@@ -87,11 +87,12 @@ CALLS = [
     ("losses", [(581, 563), (569, 563)]),
 ]
 
-# the time of a check in seconds, in a run of the whole gate, two crates at a time
+# the time of a check in seconds, in a run of the whole gate, four crates at a time on two cores
 CHECK_TIMES = {
-    "answers": 4, "text": 9, "options": 10, "chunks": 19, "columns": 3, "join": 68, "tree": 60, "reader": 8, "printing": 11,
-    "tree_laws": 3, "events": 7, "leaves": 37, "reading": 5, "leads": 20, "expressions": 75, "tokens": 101,
-    "losses": 25, "formatting": 28, "exports": 31, "wording": 55, "samples": 52, "replay": 63, "lesson": 63,
+    "answers": 4, "text": 9, "options": 16, "chunks": 24, "columns": 5, "join": 69, "tree": 71, "reader": 10,
+    "printing": 13, "tree_laws": 5, "events": 7, "leaves": 38, "reading": 7, "leads": 39, "expressions": 112,
+    "tokens": 109, "losses": 30, "formatting": 30, "exports": 78, "wording": 106, "samples": 109, "replay": 119,
+    "lesson": 118,
 }
 
 LIBRARIES = {"io", "libc"}
