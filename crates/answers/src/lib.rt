@@ -1,6 +1,6 @@
 // The answers of the formatter's calls: acceptance, or a refusal by name with its place.
 ghost use mathlib.Core.Path.{_≡_};
-ghost use Rattle.answers.specs.Numbers.{number, numbers, answerOf};
+ghost use Rattle.answers.specs.Numbers.{number, numbers, answerOf, numbersChecked};
 
 // What document 01's nine numbers stand for, in checking order.
 pub enum Reason {
@@ -81,6 +81,7 @@ impl Checked {
     // The same judgement as an answer with no text.
     pub fn answer(self) -> Answer
         ensures { λ r. ⌜ r ≡ answerOf self ⌝ }
+        ensures { λ r. ⌜ numbers r ≡ numbersChecked self ⌝ }
     {
         match self {
             Checked::Passed => Answer::Accepted(0),

@@ -14,11 +14,11 @@ answer-requires : tie.Need-answer-requires
 answer-requires c κs = search needs
 
 packed-requires : tie.Need-packed-requires
-packed-requires c κs = check-answer _ _ (c .answer .ensures ∙ ap answerOf (c .before .check-tree .ensures .0))
+packed-requires c κs = check-answer _ _ (c .answer .ensures .0 ∙ ap answerOf (c .before .check-tree .ensures .0))
 
 returns : tie.Need-returns
 returns c =
-    let answered = c .before .answer .ensures ∙ ap answerOf (c .before .before .check-tree .ensures .0) in
+    let answered = c .before .answer .ensures .0 ∙ ap answerOf (c .before .before .check-tree .ensures .0) in
     (c .packed .ensures ∙ ap packedOf answered, check-answer _ _ refl)
 
 pub felgutrosa-check-tree-spec : {M : Type 1} → statement M
