@@ -31,12 +31,14 @@ numbers (Accepted length) = (0, length)
 numbers (Refused refusal) = numbersOf refusal
 
 -- a judgement has no text: where it is passed its number and value are 0
+abbrev pub numbersChecked : Checked → ℕ × ℕ
+numbersChecked Passed = (0, 0)
+numbersChecked (Failed refusal) = numbersOf refusal
+
+-- the same judgement as an answer
 abbrev pub answerOf : Checked → Answer
 answerOf Passed = Accepted 0
 answerOf (Failed refusal) = Refused refusal
-
-abbrev pub numbersChecked : Checked → ℕ × ℕ
-numbersChecked checked = numbers (answerOf checked)
 
 -- two judgements in checking order, as numbers and places: the second counts where the first is passed
 abbrev pub unlessRefused : ℕ × ℕ → ℕ × ℕ → ℕ × ℕ
