@@ -5,18 +5,19 @@ use mathlib.Core.Bool.{Bool, true, false, cond, _||_}
 use lib.ListN.{length}
 use lib.Seq.{sets}
 use lib.Dec.{eqb, ltb}
+use Rattle.text.specs.Characters as characters
 use Rattle.chunks.specs.Stored.{Chunk, storedChunk}
 use Rattle.chunks.specs.declared.append.Appended.{Appended}
 use Rattle.chunks.specs.declared.append.Appended.the-variants.{Used, NoRoom, NoChunk, UsedPastRoom}
 
 -- "a pending space goes in front"
 abbrev pub withSpace : Bool → List ℕ → List ℕ
-withSpace true text = 32 ∷ text
+withSpace true text = characters.space ∷ text
 withSpace false text = text
 
 -- a label's colon goes behind
 abbrev pub withColon : Bool → List ℕ → List ℕ
-withColon true text = text ++ (58 ∷ [])
+withColon true text = text ++ (characters.colon ∷ [])
 withColon false text = text
 
 -- "room above 1,048,576 bytes counts as that"

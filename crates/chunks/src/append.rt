@@ -1,5 +1,6 @@
 // Appending a chunk to a lent room.
 use crate::stored::ChunkType;
+use text::characters;
 use text::numbers;
 use text::stores;
 ghost use mathlib.Core.Path.{_≡_};
@@ -118,10 +119,10 @@ fn store_text(room: &mut [u8], at: usize, spaced: bool, text: &[u8], colon: bool
     requires { ⌜ at + length (withSpace spaced (withColon colon (now text))) ≤ length (now room) ⌝ }
     ensures { λ _. ⌜ now (room .exit) ≡ sets (now (room .entry)) at (withSpace spaced (withColon colon (now (text .entry)))) ⌝ }
 {
-    let start = store_if(room, at, spaced, 32);
+    let start = store_if(room, at, spaced, characters::SPACE);
     stores::copy(text, room, start);
     let end = start + text.len();
-    store_if(room, end, colon, 58);
+    store_if(room, end, colon, characters::COLON);
 }
 
 // Appends a chunk behind the used length of a room, its text with a space in front and a colon behind where the flags say so.

@@ -3,6 +3,7 @@ use Prim.Native.Nat.{ℕ}
 use mathlib.Core.List.{List, [], _∷_, _++_}
 use mathlib.Core.Bool.{Bool, true, false, cond}
 use lib.Dec.{eqb}
+use Rattle.text.specs.Characters as characters
 use Rattle.text.specs.Lines.{onto, isNewline}
 use Rattle.chunks.specs.Stored.{Chunk}
 use Rattle.chunks.specs.declared.stored.ChunkType.{ChunkType}
@@ -11,7 +12,7 @@ use Rattle.columns.specs.declared.Follows.the-variants.{Nothing, Newline
 
 unfoldable pub cut : List ℕ → List (List ℕ)
 cut [] = []
-cut (b ∷ bs) = cond (eqb b 10) ((b ∷ []) ∷ cut bs) (onto b (cut bs))
+cut (b ∷ bs) = cond (eqb b characters.newline) ((b ∷ []) ∷ cut bs) (onto b (cut bs))
 
 -- what follows a chunk, by the chunks behind it
 abbrev pub following : List Chunk → Follows

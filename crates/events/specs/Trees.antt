@@ -9,7 +9,10 @@ use Rattle.answers.specs.declared.Checked.the-variants.{Passed, Failed}
 use Rattle.options.specs.declared.BracePosition.{BracePosition}
 use Rattle.options.specs.declared.BracePosition.the-variants.{SameLine, NewLine}
 use Rattle.chunks.specs.declared.stored.ChunkType.the-variants as chunk
+use Rattle.text.specs.Characters as characters
 use Rattle.text.specs.Lines.{isEmpty, isNewline}
+use Rattle.tree.specs.Kinds as kinds
+use Rattle.tree.specs.Codes as codes
 use Rattle.tree.specs.Tree.{Tree, Trivium, absent, refused, node, nil, cons, Align, Assert, Braces, Config, ConfigPair, Data, Definition, Eof, Error}
 use Rattle.tree.specs.Tree.{Expression, If, Import, File, Instruction, Label, Loop, MacroDefinition, MacroInvocation, ProgramCounterDefinition}
 use Rattle.tree.specs.Tree.{Segment, Test, Text, Trace, VariableDefinition, Vec, Leaf, PathItem, Block, BinaryExpression, Factor}
@@ -28,10 +31,10 @@ abbrev pub word : Context → List ℕ → Events
 word context text = push chunk.Code context text
 
 abbrev pub blank : Context → Events
-blank context = word context (32 ∷ [])
+blank context = word context (characters.space ∷ [])
 
 abbrev pub newline : Context → Events
-newline context = word context (10 ∷ [])
+newline context = word context (characters.newline ∷ [])
 
 -- ---- "A reading that finds a refusal ends the walk there."; what was accepted has none
 
@@ -45,10 +48,10 @@ skipping tree = stopAt (firstRefusal tree)
 
 -- ---- trivia: `Formattable for &Vec<Trivia>`
 
--- comments are codes 2 and 3; whitespace prints nothing
+-- whitespace prints nothing; what is neither whitespace nor a newline is a comment
 abbrev pub triviumEvents : Context → Trivium → Events
 triviumEvents context item =
-    cond (eqb (item .code) 0) nothing (cond (eqb (item .code) 1) (newline context) (push chunk.Comment context (item .text)))
+    cond (eqb (item .code) codes.whitespace) nothing (cond (eqb (item .code) codes.newline) (newline context) (push chunk.Comment context (item .text)))
 
 unfoldable pub triviaEvents : Context → List Trivium → Events
 triviaEvents context [] = nothing
@@ -56,7 +59,7 @@ triviaEvents context (item ∷ items) = triviumEvents context item ▹ triviaEve
 
 -- an item whose chunk, if it makes one, is exactly a newline
 abbrev pub onlyNewline : Trivium → Bool
-onlyNewline item = eqb (item .code) 0 || (eqb (item .code) 1 || (isEmpty (item .text) || isNewline (item .text)))
+onlyNewline item = eqb (item .code) codes.whitespace || (eqb (item .code) codes.newline || (isEmpty (item .text) || isNewline (item .text)))
 
 -- "A newline chunk dropped first in a list is never held": trivia first in a block's list, without the newlines before any other chunk
 unfoldable pub leadEvents : Context → List Trivium → Events
@@ -75,21 +78,27 @@ oneOf number (n ∷ ns) = eqb number n || oneOf number ns
 
 -- after a token of the same kind: `Braces`, `Definition`, `If`, `Loop`, `Segment`; `Import` and `Label` with a block
 abbrev pub afterSame : ℕ → Bool → Bool
-afterSame number block = oneOf number (2 ∷ 6 ∷ 10 ∷ 15 ∷ 19 ∷ []) || (oneOf number (11 ∷ 14 ∷ []) && block)
+afterSame number block =
+    oneOf number (kinds.braces ∷ kinds.definition ∷ kinds.if ∷ kinds.loop ∷ kinds.segment ∷ [])
+    || (oneOf number (kinds.import ∷ kinds.label ∷ []) && block)
 
 -- two kinds of one group: `Assert` and `Trace`, `Data` and `Text`, `Instruction` and `MacroInvocation`
 abbrev pub grouped : ℕ → ℕ → Bool
 grouped previous number =
-    (oneOf previous (1 ∷ 22 ∷ []) && oneOf number (1 ∷ 22 ∷ []))
-    || ((oneOf previous (5 ∷ 21 ∷ []) && oneOf number (5 ∷ 21 ∷ [])) || (oneOf previous (13 ∷ 17 ∷ []) && oneOf number (13 ∷ 17 ∷ [])))
+    let checks = kinds.assert ∷ kinds.trace ∷ [] in
+    let values = kinds.«data» ∷ kinds.text ∷ [] in
+    let code = kinds.instruction ∷ kinds.macroInvocation ∷ [] in
+    (oneOf previous checks && oneOf number checks)
+    || ((oneOf previous values && oneOf number values) || (oneOf previous code && oneOf number code))
 
 -- after a token of another kind: all but groups; a `Label` only with a block, or after `Braces` or `If`
 abbrev pub afterOther : ℕ → ℕ → Bool → Bool
-afterOther previous number block = cond (eqb number 14) (block || oneOf previous (2 ∷ 10 ∷ [])) (not (grouped previous number))
+afterOther previous number block = cond (eqb number kinds.label) (block || oneOf previous (kinds.braces ∷ kinds.if ∷ [])) (not (grouped previous number))
 
 -- none before an `Error`
 abbrev pub breaks : ℕ → ℕ → Bool → Bool
-breaks previous number block = not (eqb number 8) && cond (eqb previous number) (afterSame number block) (afterOther previous number block)
+breaks previous number block =
+    not (eqb number kinds.error) && cond (eqb previous number) (afterSame number block) (afterOther previous number block)
 
 -- what stood before a token in its list
 pub data Before : Type 0 where
@@ -120,7 +129,7 @@ pub data Place : Type 0 where
 abbrev pub closingEvents : Context → Bool → Before → Closing → Events
 closingEvents context drops before fileEnd = nothing
 closingEvents context drops before (blockEnd rparen) =
-    stopAt (ownRefusal rparen) ▹ listTrivia context drops (ownTrivia rparen) ▹ breakBefore context before 7 false
+    stopAt (ownRefusal rparen) ▹ listTrivia context drops (ownTrivia rparen) ▹ breakBefore context before kinds.eof false
 
 -- the end of a list
 abbrev pub endEvents : Context → Place → Events
@@ -145,7 +154,7 @@ itemEvents context (tokens drops before closing) item bare whole rest =
 -- a leaf's text where it stands; a label is one chunk with its colon
 abbrev pub leafEvents : Context → Place → List ℕ → Events
 leafEvents context (leaf style) text = word context (printed context style text)
-leafEvents context labelled text = push chunk.Label context (text ++ (58 ∷ []))
+leafEvents context labelled text = push chunk.Label context (text ++ (characters.colon ∷ []))
 leafEvents context arguments text = word context text
 leafEvents context imports text = word context text
 leafEvents context inString text = word context text
@@ -174,10 +183,10 @@ abbrev pub elseEvents : Context → BracePosition → Events → Events → Even
 elseEvents context SameLine tag block = blank context ▹ tag ▹ blank context ▹ block
 elseEvents context NewLine tag block = newline context ▹ tag ▹ block
 
--- the closing character and the suffix by the addressing mode: 3 is `Indirect`, 4 `OuterIndirect`; no other mode prints the character
+-- the closing character and the suffix by the addressing mode; but for `Indirect` and `OuterIndirect` no mode prints the character
 abbrev pub operandEvents : List ℕ → Events → Events → Events
 operandEvents mode rchar suffix =
-    cond (eqb (getD mode 0 0) 3) (suffix ▹ rchar) (cond (eqb (getD mode 0 0) 4) (rchar ▹ suffix) suffix)
+    cond (eqb (getD mode 0 0) codes.indirect) (suffix ▹ rchar) (cond (eqb (getD mode 0 0) codes.outerIndirect) (rchar ▹ suffix) suffix)
 
 -- ---- the events of a tree: its context, where it stands, whether its own trivia are printed
 
@@ -246,7 +255,7 @@ eventsIn context place shown (VariableDefinition ty id eq value) =
     ▹ eventsIn context (leaf plain) true eq ▹ blank context ▹ eventsIn context (leaf plain) true value
 eventsIn context place shown (Vec items) = eventsIn context place true items
 eventsIn context place shown (Leaf text) = leafEvents context place text
-eventsIn context place shown (PathItem text) = word context (123 ∷ []) ▹ word context text ▹ word context (125 ∷ [])
+eventsIn context place shown (PathItem text) = word context (characters.openingBrace ∷ []) ▹ word context text ▹ word context (characters.closingBrace ∷ [])
 eventsIn context place shown (Block lparen inner rparen) =
     opening context (context .options .braces .position) (eventsIn context (leaf plain) false lparen)
     ▹ eventsIn (deeper context) (tokens true first (blockEnd rparen)) true inner ▹ trim ▹ newline context ▹ eventsIn context (leaf plain) false rparen
@@ -266,7 +275,7 @@ eventsIn context place shown (IdentifierValue path modifier′) =
     cond (stands modifier′) (skipping path) nothing ▹ eventsIn context (leaf modifier) true modifier′ ▹ eventsIn context (leaf plain) true path
 eventsIn context place shown (Number ty value) = eventsIn context (leaf numberType) true ty ▹ eventsIn context (leaf plain) true value
 eventsIn context place shown (StringFactor string) = eventsIn context (leaf plain) true string
-eventsIn context place shown (InterpolatedString lquote items) = eventsIn context (leaf plain) true lquote ▹ eventsIn context inString true items ▹ word context (34 ∷ [])
+eventsIn context place shown (InterpolatedString lquote items) = eventsIn context (leaf plain) true lquote ▹ eventsIn context inString true items ▹ word context (characters.quote ∷ [])
 eventsIn context place shown (Operand expr lchar rchar mode suffix) =
     cond (stands lchar) (skipping expr) nothing ▹ eventsIn context (leaf plain) true lchar ▹ eventsIn context (leaf plain) true expr ▹ skipping rchar
     ▹ skipping mode ▹ operandEvents (indexOf mode) (eventsIn context (leaf plain) true rchar) (eventsIn context (leaf plain) true suffix)

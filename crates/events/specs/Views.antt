@@ -3,6 +3,7 @@ use Prim.Native.Nat.{ℕ, zero, suc, _/_, _%_}
 use mathlib.Core.List.{List, []}
 use mathlib.Core.Bool.{Bool, true, false, cond}
 use lib.Dec.{eqb}
+use Rattle.tree.specs.Kinds as kinds
 use Rattle.tree.specs.Tree.{Tree, Trivium, absent, refused, node, nil, cons, Align, Assert, Braces, Config, ConfigPair, Data, Definition, Eof, Error}
 use Rattle.tree.specs.Tree.{Expression, If, Import, File, Instruction, Label, Loop, MacroDefinition, MacroInvocation, ProgramCounterDefinition}
 use Rattle.tree.specs.Tree.{Segment, Test, Text, Trace, VariableDefinition, Vec, Leaf, PathItem, Block, BinaryExpression, Factor}
@@ -326,7 +327,7 @@ bitAt (suc place) bits = bitAt place (bits / 2)
 
 -- the bit of that block, by the kind's number: the fifth field of an `Import` (11), the third of a `Label` (14)
 abbrev pub blockBit : ℕ → ℕ → Bool
-blockBit number bits = cond (eqb number 11) (bitAt 4 bits) (cond (eqb number 14) (bitAt 2 bits) false)
+blockBit number bits = cond (eqb number kinds.import) (bitAt 4 bits) (cond (eqb number kinds.label) (bitAt 2 bits) false)
 
 -- the index that an enum's leaf holds
 unfoldable pub indexOf : Tree → List ℕ

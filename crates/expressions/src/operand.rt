@@ -7,6 +7,7 @@ use leaves::texts::Style;
 use printing::Context;
 use printing::Printed;
 use text::numbers;
+use tree::codes;
 use tree::grammar::Class;
 use tree::own;
 use tree::own::Own;
@@ -168,7 +169,7 @@ fn format_end(
     let Printed::Done(_, behind) = last else {
         return last;
     };
-    if mode == 4 {
+    if mode == codes::OUTER_INDIRECT {
         let closing = format_closing(tree, room, context, levels, rchar, last.moved_to(place));
         return format_register_suffix(
             tree,
@@ -183,7 +184,7 @@ fn format_end(
     let Printed::Done(_, end) = register else {
         return register;
     };
-    if mode == 3 {
+    if mode == codes::INDIRECT {
         let closing = format_closing(tree, room, context, levels, rchar, register.moved_to(place));
         return closing.moved_to(end);
     }

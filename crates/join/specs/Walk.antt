@@ -6,6 +6,7 @@ use mathlib.Core.Bool.{Bool, true, false, cond, not, _&&_, _||_}
 use lib.ListN.{length, getD, set, take}
 use lib.Seq.{slice}
 use lib.Dec.{eqb, ltb, leb}
+use Rattle.text.specs.Characters as characters
 use Rattle.text.specs.Ink.{allBlank, leadingBlanks, inkEnd, spaces}
 use Rattle.text.specs.Lines.{newlineAt}
 use Rattle.options.specs.declared.Alignment.{Alignment}
@@ -116,7 +117,7 @@ layOf margins Comment n count newline follows = layComment margins n follows
 pub record LoneNewline (list : List ℕ) (spot : Spot) : Type 0 where
   pub code : spot .ty ≡ Code
   pub one : spot .end - spot .at ≡ 1
-  pub newline : getD list (spot .at) 0 ≡ 10
+  pub newline : getD list (spot .at) 0 ≡ characters.newline
   pub more : spot .end < length list
 
 -- a step over the piece at a spot, on a line of n bytes. Where it ends the line it may leave blanks out, which are cut in any case.
@@ -136,7 +137,7 @@ pub record Stepped (margins : Margins) (list : List ℕ) (spot : Spot) (n : ℕ)
 
 -- no byte between two places is a newline
 abbrev pub Clear : List ℕ → ℕ → ℕ → Type 0
-Clear list from to = (i : ℕ) → from ≤ i → i < to → getD list i 0 ≡ 10 → ⊥
+Clear list from to = (i : ℕ) → from ≤ i → i < to → getD list i 0 ≡ characters.newline → ⊥
 
 -- the rest of the chunk at a spot has no newline, and another chunk follows
 pub record Whole (list : List ℕ) (spot : Spot) : Type 0 where
@@ -265,7 +266,7 @@ grownBy past cut =
 
 -- a newline goes before each line but the first
 abbrev pub front : Bool → List ℕ
-front true = 10 ∷ []
+front true = characters.newline ∷ []
 front false = []
 
 -- the bytes that a kept line adds to the text

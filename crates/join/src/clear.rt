@@ -1,4 +1,5 @@
 // Whether a part of a list has no newline, asked of several bytes at a time.
+use text::characters;
 ghost use mathlib.Core.Path.{_≡_};
 ghost use mathlib.Core.Bool.{true};
 ghost use Prim.Native.Nat.{_+_, _≤_, _<_};
@@ -10,7 +11,7 @@ fn two_clear(list: &[u8], at: usize) -> bool
     requires { ⌜ at + 2 ≤ length (now list) ⌝ }
     ensures { λ r. ⌜ (r ≡ true → Clear (now (list .entry)) at (at + 2)) ⌝ }
 {
-    if list[at] == 10 {
+    if list[at] == characters::NEWLINE {
         return false;
     }
     list[at + 1] != 10
@@ -64,12 +65,12 @@ pub(crate) fn is_clear(list: &[u8], from: usize, to: usize) -> bool
     requires { ⌜ (from < to) × (to ≤ length (now list)) ⌝ }
     ensures { λ r. ⌜ (r ≡ true → Clear (now (list .entry)) from to) ⌝ }
 {
-    if list[from] == 10 {
+    if list[from] == characters::NEWLINE {
         return false;
     }
     let count = to - from;
     if count < 3 {
-        return list[to - 1] != 10;
+        return list[to - 1] != characters::NEWLINE;
     }
     if count < 5 {
         if two_clear(list, from) {

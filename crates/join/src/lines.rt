@@ -7,6 +7,7 @@ use crate::piece;
 use crate::piece::Spot;
 use chunks::stored::ChunkType;
 use columns::Margins;
+use text::characters;
 use text::stores;
 ghost use mathlib.Core.Path.{_≡_};
 ghost use mathlib.Core.Bool.{true, cond};
@@ -103,7 +104,7 @@ pub(crate) fn put_newline(text: &mut [u8], past: Past)
     let length = past.length;
     if past.any {
         if length < text.len() {
-            text[length] = 10;
+            text[length] = characters::NEWLINE;
         }
     }
 }
@@ -125,7 +126,7 @@ pub(crate) fn write_cut(
     let start = line_start(past);
     let base = start + cut.lead;
     put_newline(text, past);
-    stores::fill(text, start, cut.lead, 32);
+    stores::fill(text, start, cut.lead, characters::SPACE);
     let window = Window {
         base: base,
         low: cut.low,
@@ -211,7 +212,7 @@ pub(crate) fn try_line(
     let start = line_start(past);
     let base = start + guess.lead;
     put_newline(text, past);
-    stores::fill(text, start, guess.lead, 32);
+    stores::fill(text, start, guess.lead, characters::SPACE);
     let window = window_of(text.len(), base, guess.low);
     line::walk_line(text, window, list, margins, spot)
 }

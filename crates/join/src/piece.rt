@@ -5,6 +5,7 @@ use chunks::stored::StoredChunk;
 use columns::Follows;
 use columns::Margins;
 use options::Alignment;
+use text::characters;
 use text::numbers;
 use text::scans;
 ghost use mathlib.Core.Path.{_≡_};
@@ -161,7 +162,7 @@ pub(crate) fn behind_chunk(list: &[u8], place: usize) -> Follows
     let chunk = chunk_in(list, place);
     let start = chunk.start;
     if chunk.end - start == 1 {
-        if list[start] == 10 {
+        if list[start] == characters::NEWLINE {
             return Follows::Newline;
         }
     }
@@ -314,7 +315,7 @@ pub(crate) fn is_newline(list: &[u8], spot: Spot) -> bool
     if end - at != 1 {
         return false;
     }
-    if list[at] != 10 {
+    if list[at] != characters::NEWLINE {
         return false;
     }
     let ty = spot.ty;

@@ -1,5 +1,6 @@
 // Runs of bytes, stored where the text has room for them. Most runs are short: they are stored by a few bytes at a time, and a part may be stored twice.
 use crate::piece::Step;
+use text::characters;
 use text::stores;
 ghost use mathlib.Core.Path.{_≡_};
 ghost use mathlib.Core.List.{_++_};
@@ -17,10 +18,10 @@ pub(crate) fn store_spaces(text: &mut [u8], place: usize, count: usize)
         return;
     }
     if count == 1 {
-        text[place] = 32;
+        text[place] = characters::SPACE;
         return;
     }
-    stores::fill(text, place, count, 32);
+    stores::fill(text, place, count, characters::SPACE);
 }
 
 // One to three bytes: the first, the middle and the last.

@@ -6,6 +6,7 @@ use printing::Context;
 use printing::Printed;
 use text::numbers;
 use tree::grammar::Class;
+use tree::kinds;
 use tree::own;
 use tree::own::Own;
 use tree::own::OwnRead;
@@ -53,13 +54,13 @@ fn after_same(number: usize, block: bool) -> bool
     ensures { λ r. ⌜ r ≡ Trees.afterSame number block ⌝ }
 {
     match number {
-        2 => true,
-        6 => true,
-        10 => true,
-        15 => true,
-        19 => true,
-        11 => block,
-        14 => block,
+        kinds::BRACES => true,
+        kinds::DEFINITION => true,
+        kinds::IF => true,
+        kinds::LOOP => true,
+        kinds::SEGMENT => true,
+        kinds::IMPORT => block,
+        kinds::LABEL => block,
         _ => false,
     }
 }
@@ -69,12 +70,12 @@ fn grouped(previous: usize, number: usize) -> bool
     ensures { λ r. ⌜ r ≡ Trees.grouped previous number ⌝ }
 {
     match number {
-        1 => one_of(previous, 1, 22),
-        22 => one_of(previous, 1, 22),
-        5 => one_of(previous, 5, 21),
-        21 => one_of(previous, 5, 21),
-        13 => one_of(previous, 13, 17),
-        17 => one_of(previous, 13, 17),
+        kinds::ASSERT => one_of(previous, kinds::ASSERT, kinds::TRACE),
+        kinds::TRACE => one_of(previous, kinds::ASSERT, kinds::TRACE),
+        kinds::DATA => one_of(previous, kinds::DATA, kinds::TEXT),
+        kinds::TEXT => one_of(previous, kinds::DATA, kinds::TEXT),
+        kinds::INSTRUCTION => one_of(previous, kinds::INSTRUCTION, kinds::MACRO_INVOCATION),
+        kinds::MACRO_INVOCATION => one_of(previous, kinds::INSTRUCTION, kinds::MACRO_INVOCATION),
         _ => false,
     }
 }
@@ -83,11 +84,11 @@ fn grouped(previous: usize, number: usize) -> bool
 fn after_other(previous: usize, number: usize, block: bool) -> bool
     ensures { λ r. ⌜ r ≡ Trees.afterOther previous number block ⌝ }
 {
-    if number == 14 {
+    if number == kinds::LABEL {
         if block {
             return true;
         }
-        return one_of(previous, 2, 10);
+        return one_of(previous, kinds::BRACES, kinds::IF);
     }
     !grouped(previous, number)
 }
@@ -96,7 +97,7 @@ fn after_other(previous: usize, number: usize, block: bool) -> bool
 fn breaks(previous: usize, number: usize, block: bool) -> bool
     ensures { λ r. ⌜ r ≡ Trees.breaks previous number block ⌝ }
 {
-    if number == 8 {
+    if number == kinds::ERROR {
         return false;
     }
     if previous == number {
@@ -129,10 +130,10 @@ fn break_before(
 fn has_block(number: usize, bits: usize) -> bool
     ensures { λ r. ⌜ r ≡ blockBit number bits ⌝ }
 {
-    if number == 11 {
+    if number == kinds::IMPORT {
         return record::stands(bits, 4);
     }
-    if number == 14 {
+    if number == kinds::LABEL {
         return record::stands(bits, 2);
     }
     false
@@ -241,6 +242,6 @@ pub fn format_lead_out(
         return Printed::Refused(own::refusal_of(found));
     };
     let shown = list_trivia(tree, room, context, own, drops, state);
-    let next = break_before(room, context, stood, 7, false, shown);
+    let next = break_before(room, context, stood, kinds::EOF, false, shown);
     next.finish(at)
 }

@@ -2,6 +2,8 @@
 use chunks::stored::ChunkType;
 use printing::CodeFormatter;
 use printing::Context;
+use text::characters;
+use tree::codes;
 use tree::parts;
 use tree::parts::TriviumRead;
 use tree::parts::TriviumSpan;
@@ -23,10 +25,10 @@ fn format_trivium(
     requires { ⌜ (item .start ≤ item .end) × (item .end ≤ length (now tree)) ⌝ }
     ensures { λ r. ⌜ run (triviumEvents context (itemOf (now (tree .entry)) item)) (going (now (room .entry)) state) ≡ going (now (room .exit)) r ⌝ }
 {
-    if item.code == 0 {
+    if item.code == codes::WHITESPACE {
         return state;
     }
-    if item.code == 1 {
+    if item.code == codes::NEWLINE {
         return state.push(room, context, b"\n");
     }
     let start = item.start;
@@ -65,10 +67,10 @@ fn only_newline(tree: &[u8], item: TriviumSpan) -> bool
     requires { ⌜ (item .start ≤ item .end) × (item .end ≤ length (now tree)) ⌝ }
     ensures { λ r. ⌜ r ≡ onlyNewline (itemOf (now (tree .entry)) item) ⌝ }
 {
-    if item.code == 0 {
+    if item.code == codes::WHITESPACE {
         return true;
     }
-    if item.code == 1 {
+    if item.code == codes::NEWLINE {
         return true;
     }
     let start = item.start;
@@ -77,7 +79,7 @@ fn only_newline(tree: &[u8], item: TriviumSpan) -> bool
         return true;
     }
     if count == 1 {
-        return tree[start] == 10;
+        return tree[start] == characters::NEWLINE;
     }
     false
 }

@@ -12,6 +12,7 @@ use text::numbers;
 use tree::check;
 use tree::check::Part;
 use tree::grammar::Class;
+use tree::kinds;
 use tree::own;
 use tree::own::OwnRead;
 use wording::lines;
@@ -125,19 +126,19 @@ fn answer_chunks(options: &[u8], tree: &[u8], work: &mut [u8], line: &mut [u8]) 
 // A class in which a kind may stand.
 fn class_of(number: usize) -> Class {
     match number {
-        24 => Class::Tokens,
-        25 => Class::Word,
-        26 => Class::StringItem,
-        27 => Class::BlockRecord,
-        28 | 29 => Class::LocatedExpression,
-        30..=35 => Class::LocatedFactor,
-        36 => Class::StringRecord,
-        37 => Class::OperandRecord,
-        38 => Class::SuffixRecord,
-        39 => Class::AsRecord,
-        40 => Class::ImportArguments,
-        41 => Class::ImportPath,
-        42 => Class::ExpressionArgument,
+        kinds::VEC => Class::Tokens,
+        kinds::LEAF => Class::Word,
+        kinds::PATH_ITEM => Class::StringItem,
+        kinds::BLOCK => Class::BlockRecord,
+        kinds::BINARY_EXPRESSION | kinds::FACTOR => Class::LocatedExpression,
+        kinds::CURRENT_PROGRAM_COUNTER..=kinds::STRING_FACTOR => Class::LocatedFactor,
+        kinds::INTERPOLATED_STRING => Class::StringRecord,
+        kinds::OPERAND => Class::OperandRecord,
+        kinds::REGISTER_SUFFIX => Class::SuffixRecord,
+        kinds::IMPORT_AS => Class::AsRecord,
+        kinds::IMPORT_ALL => Class::ImportArguments,
+        kinds::SPECIFIC_IMPORT_ARG => Class::ImportPath,
+        kinds::ARG_ITEM => Class::ExpressionArgument,
         _ => Class::LocatedToken,
     }
 }
@@ -208,7 +209,7 @@ fn show_losses(tree: &[u8], line: &mut [u8]) {
     }
 }
 
-// 1 where ink is lost or doubled: by every use of a place but a register letter's, 32, whose comment is kept.
+// 1 where ink is lost or doubled: by every use of a place but a register letter's, whose comment is kept.
 fn lost_status(tree: &[u8]) -> usize {
     let mut from = 0;
     let mut left = tree.len();
@@ -217,7 +218,7 @@ fn lost_status(tree: &[u8]) -> usize {
         let Loss::Used(place, letters) = found else {
             return 0;
         };
-        if letters != 32 {
+        if letters != places::REGISTER_LETTER {
             return 1;
         }
         if tree.len() <= place {

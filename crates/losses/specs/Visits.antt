@@ -9,6 +9,7 @@ use Rattle.answers.specs.declared.Checked.{Checked}
 use Rattle.answers.specs.declared.Checked.the-variants.{Passed, Failed}
 use Rattle.answers.specs.declared.Refusal.{Refusal}
 use Rattle.answers.specs.Numbers.{andThen}
+use Rattle.tree.specs.Kinds as kinds
 use Rattle.tree.specs.Grammar.{rule, nodes}
 use Rattle.tree.specs.Own.{layout, readOwn}
 use Rattle.tree.specs.Parts.{skipped}
@@ -16,6 +17,7 @@ use Rattle.tree.specs.Reading.{Reader, partsDue, readParts, read}
 use Rattle.tree.specs.Tree.{Tree, absent, built}
 use Rattle.tree.specs.Rows.{classNumber}
 use Rattle.tree.specs.declared.grammar.Class.{Class}
+use Rattle.tree.specs.declared.grammar.Class.the-variants.{OpenBrace, Colon, IndexRegister, BareToken, LocatedToken}
 use Rattle.tree.specs.declared.grammar.Kind.the-variants as kind
 use Rattle.tree.specs.declared.own.Own.{Own}
 use Rattle.tree.specs.declared.own.OwnRead.the-variants.{Record}
@@ -39,42 +41,41 @@ use Rattle.losses.specs.Lost.{firstWith, firstFrom}
 
 -- ---- which use a record shows, by its class and its kind
 
--- the use that a field's class tells of what stands in it: classes 3, 5 and 8 are a block's `{`, a label's colon and a register; a token (20, 21) that stands in
--- no list is a value
+-- the use that a field's class tells of what stands in it: a block's `{`, a label's colon, a register; a token that stands in no list is a value
 abbrev pub classUses : Class → Bool → Tree → List Use
 classUses class listed tree =
-    cond (eqb (classNumber class) 3) (mark (standsAt tree) openingBrace (atOpeningBrace listed tree))
-    (cond (eqb (classNumber class) 5) (mark (standsAt tree) labelColon (atLabelColon tree))
-    (cond (eqb (classNumber class) 8) (mark (standsAt tree) registerLetter (atRegisterLetter tree))
-    (cond ((eqb (classNumber class) 20 || eqb (classNumber class) 21) && not listed) (mark (standsAt (headOf tree)) valueHead (atValueHead tree)) [])))
+    cond (eqb (classNumber class) (classNumber OpenBrace)) (mark (standsAt tree) openingBrace (atOpeningBrace listed tree))
+    (cond (eqb (classNumber class) (classNumber Colon)) (mark (standsAt tree) labelColon (atLabelColon tree))
+    (cond (eqb (classNumber class) (classNumber IndexRegister)) (mark (standsAt tree) registerLetter (atRegisterLetter tree))
+    (cond ((eqb (classNumber class) (classNumber BareToken) || eqb (classNumber class) (classNumber LocatedToken)) && not listed) (mark (standsAt (headOf tree)) valueHead (atValueHead tree)) [])))
 
 -- all uses of a record of a class
 abbrev pub seenIn : Class → Bool → Tree → List Use
 seenIn class listed tree = classUses class listed tree ++ placesIn listed tree
 
--- the uses that a record's kind tells: the head of an `Expression` (9) in a list, the closing character of an operand (37)
+-- the uses that a record's kind tells: the head of an `Expression` in a list, the closing character of an operand
 abbrev pub kindUses : Bool → ℕ → List Tree → List Use
 kindUses listed number parts =
-    cond (eqb number 9) (mark (standsAt (headOf (getD parts 0 absent))) expressionHead (atExpressionHead listed (getD parts 0 absent)))
-    (cond (eqb number 37) (mark (standsAt (getD parts 2 absent)) closingCharacter (atClosingCharacter (indexOf (getD parts 3 absent)) (getD parts 2 absent))) [])
+    cond (eqb number kinds.expression) (mark (standsAt (headOf (getD parts 0 absent))) expressionHead (atExpressionHead listed (getD parts 0 absent)))
+    (cond (eqb number kinds.operand) (mark (standsAt (getD parts 2 absent)) closingCharacter (atClosingCharacter (indexOf (getD parts 3 absent)) (getD parts 2 absent))) [])
 
 -- what a comment on the record itself uses
 abbrev pub ownMarks : Class → ℕ → Bool → ℕ → Bool → List Use
 ownMarks class number listed at used =
-    cond (eqb (classNumber class) 3) (mark at openingBrace (not listed && used))
-    (cond (eqb (classNumber class) 5) (mark at labelColon used)
-    (cond (eqb (classNumber class) 8) (mark at registerLetter used)
-    (mark at importPath (eqb number 41 && used) ++ mark at pathItem (eqb number 26 && used))))
+    cond (eqb (classNumber class) (classNumber OpenBrace)) (mark at openingBrace (not listed && used))
+    (cond (eqb (classNumber class) (classNumber Colon)) (mark at labelColon used)
+    (cond (eqb (classNumber class) (classNumber IndexRegister)) (mark at registerLetter used)
+    (mark at importPath (eqb number kinds.specificImportArg && used) ++ mark at pathItem (eqb number kinds.pathItem && used))))
 
 -- and one on its head
 abbrev pub headMarks : Class → ℕ → Bool → ℕ → Bool → List Use
 headMarks class number listed at used =
-    cond (eqb (classNumber class) 20 || eqb (classNumber class) 21)
-    (cond (eqb number 9) (mark at expressionHead (listed && used)) (mark at valueHead (not listed && used))) []
+    cond (eqb (classNumber class) (classNumber BareToken) || eqb (classNumber class) (classNumber LocatedToken))
+    (cond (eqb number kinds.expression) (mark at expressionHead (listed && used)) (mark at valueHead (not listed && used))) []
 
 abbrev pub closingMarks : ℕ → List Tree → List Use
 closingMarks number parts =
-    cond (eqb number 37) (mark (standsAt (getD parts 2 absent)) closingCharacter (atClosingCharacter (indexOf (getD parts 3 absent)) (getD parts 2 absent))) []
+    cond (eqb number kinds.operand) (mark (standsAt (getD parts 2 absent)) closingCharacter (atClosingCharacter (indexOf (getD parts 3 absent)) (getD parts 2 absent))) []
 
 -- all but those of its parts
 abbrev pub ownUses : Class → Bool → Tree → ℕ → List Tree → List Use
@@ -84,22 +85,30 @@ ownUses class listed tree at parts =
 
 -- whether the parts of a record of a kind stand in a list
 abbrev pub listedBelow : ℕ → Bool → Bool
-listedBelow number listed = cond (eqb number 24) true (cond (eqb number 2 || (eqb number 3 || eqb number 27)) listed false)
+listedBelow number listed = cond (eqb number kinds.vec) true (cond (eqb number kinds.braces || (eqb number kinds.config || eqb number kinds.block)) listed false)
 
--- ---- the same by numbers: 8 is no place
+-- ---- the same by numbers
+
+-- where no place is used
+abbrev pub noSpot : ℕ
+noSpot = 8
 
 abbrev pub kindSpot : ℕ → ℕ
-kindSpot number = cond (eqb number 41) 3 (cond (eqb number 26) 4 8)
+kindSpot number =
+    cond (eqb number kinds.specificImportArg) (spotNumber importPath) (cond (eqb number kinds.pathItem) (spotNumber pathItem) noSpot)
 
 abbrev pub ownSpot : Class → ℕ → Bool → ℕ
 ownSpot class number listed =
-    cond (eqb (classNumber class) 3) (cond listed 8 0) (cond (eqb (classNumber class) 5) 1 (cond (eqb (classNumber class) 8) 5 (kindSpot number)))
+    cond (eqb (classNumber class) (classNumber OpenBrace)) (cond listed noSpot (spotNumber openingBrace))
+    (cond (eqb (classNumber class) (classNumber Colon)) (spotNumber labelColon)
+    (cond (eqb (classNumber class) (classNumber IndexRegister)) (spotNumber registerLetter) (kindSpot number)))
 
 abbrev pub tokenSpot : ℕ → Bool → ℕ
-tokenSpot number listed = cond (eqb number 9) (cond listed 6 8) (cond listed 8 2)
+tokenSpot number listed =
+    cond (eqb number kinds.expression) (cond listed (spotNumber expressionHead) noSpot) (cond listed noSpot (spotNumber valueHead))
 
 abbrev pub headSpot : Class → ℕ → Bool → ℕ
-headSpot class number listed = cond (eqb (classNumber class) 20 || eqb (classNumber class) 21) (tokenSpot number listed) 8
+headSpot class number listed = cond (eqb (classNumber class) (classNumber BareToken) || eqb (classNumber class) (classNumber LocatedToken)) (tokenSpot number listed) noSpot
 
 -- ---- what the first records become
 
@@ -140,7 +149,7 @@ pub record TakesAll (after before : Firsts) (from : ℕ) (uses : List Use) : Typ
 -- ---- what is promised of a record that was read without refusal
 
 abbrev pub TokenClass : Class → Type 0
-TokenClass class = (located : Bool) × (rule class ≡ nodes 0 23 located)
+TokenClass class = (located : Bool) × (rule class ≡ nodes kinds.align kinds.variableDefinition located)
 
 -- the first records are shown, and this holds of them; so no refusal was met
 pub record Shows (seen : Seen) (held : Firsts → Type 0) : Type 0 where

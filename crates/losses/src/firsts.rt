@@ -1,4 +1,5 @@
 // For each of the eight places the first record that uses it.
+use crate::places;
 ghost use mathlib.Core.Path.{_≡_};
 ghost use mathlib.Core.Bool.{cond};
 ghost use Prim.Native.Nat.{_≤_};
@@ -45,7 +46,7 @@ fn earlier(from: usize, first: First, at: usize, used: bool) -> First
     }
 }
 
-// A record at an offset that uses a place, by the place's number: 0 for (a) to 7 for (h).
+// A record at an offset that uses a place, by the place's number.
 pub(crate) fn take(from: usize, firsts: Firsts, at: usize, spot: usize) -> Firsts
     ensures { λ r. ⌜ Takes r firsts from at spot ⌝ }
 {
@@ -58,14 +59,19 @@ pub(crate) fn take(from: usize, firsts: Firsts, at: usize, spot: usize) -> First
     let expression_head = firsts.expression_head;
     let closing_character = firsts.closing_character;
     Firsts {
-        opening_brace: earlier(from, opening_brace, at, spot == 0),
-        label_colon: earlier(from, label_colon, at, spot == 1),
-        value_head: earlier(from, value_head, at, spot == 2),
-        import_path: earlier(from, import_path, at, spot == 3),
-        path_item: earlier(from, path_item, at, spot == 4),
-        register_letter: earlier(from, register_letter, at, spot == 5),
-        expression_head: earlier(from, expression_head, at, spot == 6),
-        closing_character: earlier(from, closing_character, at, spot == 7),
+        opening_brace: earlier(from, opening_brace, at, spot == places::OPENING_BRACE),
+        label_colon: earlier(from, label_colon, at, spot == places::LABEL_COLON),
+        value_head: earlier(from, value_head, at, spot == places::VALUE_HEAD),
+        import_path: earlier(from, import_path, at, spot == places::IMPORT_PATH),
+        path_item: earlier(from, path_item, at, spot == places::PATH_ITEM),
+        register_letter: earlier(from, register_letter, at, spot == places::REGISTER_LETTER),
+        expression_head: earlier(from, expression_head, at, spot == places::EXPRESSION_HEAD),
+        closing_character: earlier(
+            from,
+            closing_character,
+            at,
+            spot == places::CLOSING_CHARACTER,
+        ),
     }
 }
 

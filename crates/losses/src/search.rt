@@ -11,6 +11,7 @@ use leads;
 use tree::check;
 use tree::check::Part;
 use tree::grammar::Class;
+use tree::kinds;
 use tree::own;
 use tree::own::OwnRead;
 ghost use mathlib.Core.Path.{_≡_};
@@ -31,16 +32,16 @@ pub enum Loss {
     Refused(Refusal),
 }
 
-// Whether the parts of a record stand in a list: the items of a list (24) do; the block of `Braces` (2) or `Config` (3)
-// and its brace (27) count as their token.
+// Whether the parts of a record stand in a list: the items of a list do; the block of `Braces` or `Config` and its
+// brace count as their token.
 fn listed_below(number: usize, listed: bool) -> bool
     ensures { λ r. ⌜ r ≡ listedBelow number listed ⌝ }
 {
     match number {
-        24 => true,
-        2 => listed,
-        3 => listed,
-        27 => listed,
+        kinds::VEC => true,
+        kinds::BRACES => listed,
+        kinds::CONFIG => listed,
+        kinds::BLOCK => listed,
         _ => false,
     }
 }

@@ -1,12 +1,14 @@
 // The uses of places that a record shows by itself: comments on it, on its head, and an operand's closing character.
-// Places go by their numbers, 0 for (a) to 7 for (h); 8 is none.
 use crate::firsts;
 use crate::firsts::Firsts;
+use crate::places;
 use answers::Reason;
 use answers::Refusal;
 use leads;
 use leaves::record;
+use tree::codes;
 use tree::grammar::Class;
+use tree::kinds;
 use tree::own;
 use tree::own::Own;
 use tree::own::OwnRead;
@@ -19,7 +21,7 @@ ghost use Prim.Native.Nat.{_<_};
 ghost use Rattle.leaves.specs.Items.{itemsAt};
 ghost use Rattle.reading.specs.Places.{hasComment};
 ghost use Rattle.losses.specs.declared.uses.Seen.the-variants as Seen;
-ghost use Rattle.losses.specs.Visits.{kindSpot, ownSpot, tokenSpot, headSpot, behindField, indexIn, refusedUse};
+ghost use Rattle.losses.specs.Visits.{noSpot, kindSpot, ownSpot, tokenSpot, headSpot, behindField, indexIn, refusedUse};
 ghost use Rattle.losses.specs.Visits.{TakesIf, TakesHead, TakesClosing, TakesRecord};
 
 // What a record shows: the first records so far with it, or the refusal that reading it met, which is none where the
@@ -42,8 +44,8 @@ pub(crate) fn refused_use(seen: Seen, at: usize) -> Refusal
     }
 }
 
-// Whether one of `count` trivia items is a comment: codes 2 and 3 are, the last two. No item of a record that was
-// read is broken.
+// Whether one of `count` trivia items is a comment, which the last two codes are. No item of a record that was read
+// is broken.
 fn has_comment(tree: &[u8], at: usize, count: usize) -> bool
     ensures { λ r. ⌜ r ≡ hasComment (itemsAt (now (tree .entry)) at count) ⌝ }
 {
@@ -54,7 +56,7 @@ fn has_comment(tree: &[u8], at: usize, count: usize) -> bool
         let TriviumRead::Item(item) = read else {
             return false;
         };
-        if 2 <= item.code {
+        if codes::C_STYLE <= item.code {
             return true;
         }
         place = item.end;
@@ -68,9 +70,9 @@ fn kind_spot(number: usize) -> usize
     ensures { λ r. ⌜ r ≡ kindSpot number ⌝ }
 {
     match number {
-        41 => 3,
-        26 => 4,
-        _ => 8,
+        kinds::SPECIFIC_IMPORT_ARG => places::IMPORT_PATH,
+        kinds::PATH_ITEM => places::PATH_ITEM,
+        _ => places::NONE,
     }
 }
 
@@ -81,12 +83,12 @@ fn own_spot(class: Class, number: usize, listed: bool) -> usize
     match class {
         Class::OpenBrace => {
             if listed {
-                return 8;
+                return places::NONE;
             }
-            0
+            places::OPENING_BRACE
         }
-        Class::Colon => 1,
-        Class::IndexRegister => 5,
+        Class::Colon => places::LABEL_COLON,
+        Class::IndexRegister => places::REGISTER_LETTER,
         _ => kind_spot(number),
     }
 }
@@ -95,16 +97,16 @@ fn own_spot(class: Class, number: usize, listed: bool) -> usize
 fn token_spot(number: usize, listed: bool) -> usize
     ensures { λ r. ⌜ r ≡ tokenSpot number listed ⌝ }
 {
-    if number == 9 {
+    if number == kinds::EXPRESSION {
         if listed {
-            return 6;
+            return places::EXPRESSION_HEAD;
         }
-        return 8;
+        return places::NONE;
     }
     if listed {
-        return 8;
+        return places::NONE;
     }
-    2
+    places::VALUE_HEAD
 }
 
 // The place that a comment on a record's head uses.
@@ -114,7 +116,7 @@ fn head_spot(class: Class, number: usize, listed: bool) -> usize
     match class {
         Class::BareToken => token_spot(number, listed),
         Class::LocatedToken => token_spot(number, listed),
-        _ => 8,
+        _ => places::NONE,
     }
 }
 
@@ -122,7 +124,7 @@ fn head_spot(class: Class, number: usize, listed: bool) -> usize
 fn own_use(tree: &[u8], own: Own, at: usize, spot: usize, from: usize, firsts: Firsts) -> Firsts
     ensures { λ r. ⌜ TakesIf r firsts from at spot (hasComment (itemsAt (now (tree .entry)) (own .trivia) (own .«trivia_count»))) ⌝ }
 {
-    if spot == 8 {
+    if spot == places::NONE {
         return firsts;
     }
     if !has_comment(tree, own.trivia, own.trivia_count) {
@@ -141,10 +143,10 @@ fn head_use(
     from: usize,
     firsts: Firsts,
 ) -> Seen
-    ensures { λ r. ⌜ (spot ≡ 8 → r ≡ Seen.Shown firsts) ⌝ }
+    ensures { λ r. ⌜ (spot ≡ noSpot → r ≡ Seen.Shown firsts) ⌝ }
     ensures { λ r. ⌜ TakesHead r firsts from levels (now (tree .entry)) class at spot ⌝ }
 {
-    if spot == 8 {
+    if spot == places::NONE {
         return Seen::Shown(firsts);
     }
     let place = parts::head_place(tree, at, class, levels);
@@ -179,7 +181,7 @@ fn index_of(tree: &[u8], leaf: Own) -> usize
     0
 }
 
-// An operand's closing character, where it stands and its mode prints none: modes 3 and 4 do.
+// An operand's closing character, where it stands and its mode prints none: `Indirect` and `OuterIndirect` do.
 fn closing_use(tree: &[u8], own: Own, levels: usize, from: usize, firsts: Firsts) -> Seen
     requires { ⌜ 0 < levels ⌝ }
     ensures { λ r. ⌜ TakesClosing r firsts from levels (now (tree .entry)) own ⌝ }
@@ -206,10 +208,10 @@ fn closing_use(tree: &[u8], own: Own, levels: usize, from: usize, firsts: Firsts
         return Seen::Refused(own::refusal_of(read));
     };
     let index = index_of(tree, leaf);
-    if index == 3 || index == 4 {
+    if index == codes::INDIRECT || index == codes::OUTER_INDIRECT {
         return Seen::Shown(firsts);
     }
-    Seen::Shown(firsts::take(from, firsts, rchar, 7))
+    Seen::Shown(firsts::take(from, firsts, rchar, places::CLOSING_CHARACTER))
 }
 
 // All that a record shows by itself.
@@ -234,7 +236,7 @@ pub(crate) fn record_uses(
     let Seen::Shown(by_head) = headed else {
         return headed;
     };
-    if number == 37 {
+    if number == kinds::OPERAND {
         return closing_use(tree, own, levels, from, by_head);
     }
     headed

@@ -5,6 +5,7 @@ use chunks::append;
 use chunks::append::Appended;
 use chunks::stored::ChunkType;
 use options::FormattingOptions;
+use text::characters;
 ghost use mathlib.Core.Path.{_≡_};
 ghost use mathlib.Core.List.{List};
 ghost use Prim.Native.Nat.{ℕ};
@@ -257,7 +258,7 @@ fn is_newline(text: &[u8]) -> bool
     ensures { λ r. ⌜ r ≡ isNewline (now (text .entry)) ⌝ }
 {
     if text.len() == 1 {
-        return text[0] == 10;
+        return text[0] == characters::NEWLINE;
     }
     false
 }

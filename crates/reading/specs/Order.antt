@@ -6,6 +6,8 @@ use lib.ListN.{getD}
 use lib.Dec.{eqb, leb}
 use Rattle.options.specs.Types.{optionsOf}
 use Rattle.options.specs.declared.MnemonicOptions.{MnemonicOptions}
+use Rattle.text.specs.Characters as characters
+use Rattle.tree.specs.Codes as codes
 use Rattle.tree.specs.Tree.{Tree, Trivium, absent, refused, node, nil, cons, Align, Assert, Braces, Config, ConfigPair, Data, Definition, Eof, Error}
 use Rattle.tree.specs.Tree.{Expression, If, Import, File, Instruction, Label, Loop, MacroDefinition, MacroInvocation, ProgramCounterDefinition}
 use Rattle.tree.specs.Tree.{Segment, Test, Text, Trace, VariableDefinition, Vec, Leaf, PathItem, Block, BinaryExpression, Factor}
@@ -17,7 +19,7 @@ use Rattle.events.specs.Views.{ownTrivia, indexOf}
 
 -- "A comment is trivia of code 2 or 3", the two last codes
 abbrev pub isComment : Trivium → Bool
-isComment item = leb 2 (item .code)
+isComment item = leb codes.cStyle (item .code)
 
 -- "its trivia's comments, in stored order and with their bytes as stored; whitespace and newlines in trivia give nothing"
 unfoldable pub comments : List Trivium → List (List ℕ)
@@ -36,7 +38,7 @@ shownAs casings style text = printed (casedContext casings) style text
 
 -- the closing character and the suffix of an operand by its addressing mode, 4 is `OuterIndirect`; where the character is not printed it comes last
 abbrev pub closingOrder : List ℕ → List (List ℕ) → List (List ℕ) → List (List ℕ)
-closingOrder mode rchar suffix = cond (eqb (getD mode 0 0) 4) (rchar ++ suffix) (suffix ++ rchar)
+closingOrder mode rchar suffix = cond (eqb (getD mode 0 0) codes.outerIndirect) (rchar ++ suffix) (suffix ++ rchar)
 
 -- the texts of a tree in reading order, where a leaf prints in a style: "A list gives its records, first to last. Any other record gives its trivia's comments ...
 -- Then it gives its parts as printed, each once, in the order of printing (a binary expression's left side first). ... A string adds its closing quote, a path
@@ -65,7 +67,7 @@ orderIn casings style (Import tag args source filename block) =
     ++ orderIn casings plain block)))
 orderIn casings style (File tag filename) = orderIn casings plain tag ++ orderIn casings plain filename
 orderIn casings style (Instruction mnemonic′ operand) = orderIn casings mnemonic mnemonic′ ++ orderIn casings plain operand
-orderIn casings style (Label id colon block) = orderIn casings plain id ++ (comments (ownTrivia colon) ++ ((58 ∷ []) ∷ orderIn casings plain block))
+orderIn casings style (Label id colon block) = orderIn casings plain id ++ (comments (ownTrivia colon) ++ ((characters.colon ∷ []) ∷ orderIn casings plain block))
 orderIn casings style (Loop tag expr block) = orderIn casings plain tag ++ (orderIn casings plain expr ++ orderIn casings plain block)
 orderIn casings style (MacroDefinition tag id lparen args rparen block) =
     orderIn casings plain tag ++ (orderIn casings plain id ++ (orderIn casings plain lparen ++ (orderIn casings plain args
@@ -79,7 +81,7 @@ orderIn casings style (Trace tag lparen args rparen) = orderIn casings plain tag
 orderIn casings style (VariableDefinition ty id eq value) = orderIn casings variableType ty ++ (orderIn casings plain id ++ (orderIn casings plain eq ++ orderIn casings plain value))
 orderIn casings style (Vec items) = orderIn casings style items
 orderIn casings style (Leaf text) = shownAs casings style text ∷ []
-orderIn casings style (PathItem text) = (123 ∷ []) ∷ text ∷ (125 ∷ []) ∷ []
+orderIn casings style (PathItem text) = (characters.openingBrace ∷ []) ∷ text ∷ (characters.closingBrace ∷ []) ∷ []
 orderIn casings style (Block lparen inner rparen) = orderIn casings plain lparen ++ (orderIn casings plain inner ++ orderIn casings plain rparen)
 orderIn casings style (BinaryExpression op lhs rhs) = orderIn casings plain lhs ++ (orderIn casings operator op ++ orderIn casings plain rhs)
 orderIn casings style (Factor factor tagNot tagNeg) = orderIn casings plain tagNot ++ (orderIn casings plain tagNeg ++ orderIn casings plain factor)
@@ -89,7 +91,7 @@ orderIn casings style (FunctionCall name lparen args rparen) = orderIn casings p
 orderIn casings style (IdentifierValue path modifier′) = orderIn casings modifier modifier′ ++ orderIn casings plain path
 orderIn casings style (Number ty value) = orderIn casings numberType ty ++ orderIn casings plain value
 orderIn casings style (StringFactor string) = orderIn casings plain string
-orderIn casings style (InterpolatedString lquote items) = orderIn casings plain lquote ++ (orderIn casings plain items ++ ((34 ∷ []) ∷ []))
+orderIn casings style (InterpolatedString lquote items) = orderIn casings plain lquote ++ (orderIn casings plain items ++ ((characters.quote ∷ []) ∷ []))
 orderIn casings style (Operand expr lchar rchar mode suffix) =
     orderIn casings plain lchar ++ (orderIn casings plain expr
     ++ closingOrder (indexOf mode) (orderIn casings plain rchar) (orderIn casings plain suffix))

@@ -9,6 +9,8 @@ use Rattle.tree.specs.Tree.{Expression, If, Import, File, Instruction, Label, L
 use Rattle.tree.specs.Tree.{Segment, Test, Text, Trace, VariableDefinition, Vec, Leaf, PathItem, Block, BinaryExpression, Factor}
 use Rattle.tree.specs.Tree.{CurrentProgramCounter, ExprParens, FunctionCall, IdentifierValue, Number, StringFactor, InterpolatedString, Operand}
 use Rattle.tree.specs.Tree.{RegisterSuffix, ImportAs, ImportAll, SpecificImportArg, ArgItem}
+use Rattle.tree.specs.Kinds as kinds
+use Rattle.tree.specs.Codes as codes
 use Rattle.events.specs.Views.{ownTrivia, headOf, headTrivia, standsAt, tokenNumber, stands, indexOf}
 use Rattle.reading.specs.Order.{isComment}
 
@@ -31,17 +33,17 @@ atOpeningBrace listed lparen = not listed && hasComment (ownTrivia lparen)
 abbrev pub atLabelColon : Tree → Bool
 atLabelColon colon = hasComment (ownTrivia colon)
 
--- (c) "the head of a `Definition`'s or `ConfigPair`'s value that is not an `Expression`, head as in `Token::trivia`"; an `Expression` is kind 9
+-- (c) "the head of a `Definition`'s or `ConfigPair`'s value that is not an `Expression`, head as in `Token::trivia`"
 abbrev pub atValueHead : Tree → Bool
-atValueHead value = not (eqb (tokenNumber value) 9) && hasComment (headTrivia value)
+atValueHead value = not (eqb (tokenNumber value) kinds.expression) && hasComment (headTrivia value)
 
--- (d) "kind 41"
+-- (d) "kind 41", a `SpecificImportArg`
 abbrev pub atImportPath : List Trivium → Tree → Bool
-atImportPath trivia tree = eqb (tokenNumber tree) 41 && hasComment trivia
+atImportPath trivia tree = eqb (tokenNumber tree) kinds.specificImportArg && hasComment trivia
 
--- (e) "a path item", kind 26
+-- (e) "a path item"
 abbrev pub atPathItem : List Trivium → Tree → Bool
-atPathItem trivia tree = eqb (tokenNumber tree) 26 && hasComment trivia
+atPathItem trivia tree = eqb (tokenNumber tree) kinds.pathItem && hasComment trivia
 
 -- (f) "a register letter"
 abbrev pub atRegisterLetter : Tree → Bool
@@ -51,9 +53,9 @@ atRegisterLetter register = hasComment (ownTrivia register)
 abbrev pub atExpressionHead : Bool → Tree → Bool
 atExpressionHead listed expression = listed && hasComment (headTrivia expression)
 
--- (h) "a closing character, commented or not, of an operand neither `Indirect` nor `OuterIndirect`", which are modes 3 and 4
+-- (h) "a closing character, commented or not, of an operand neither `Indirect` nor `OuterIndirect`"
 abbrev pub atClosingCharacter : List ℕ → Tree → Bool
-atClosingCharacter mode rchar = not (eqb (getD mode 0 0) 3 || eqb (getD mode 0 0) 4) && stands rchar
+atClosingCharacter mode rchar = not (eqb (getD mode 0 0) codes.indirect || eqb (getD mode 0 0) codes.outerIndirect) && stands rchar
 
 -- ---- the places that a tree uses
 

@@ -4,9 +4,10 @@ use mathlib.Core.List.{List, [], _∷_, _++_}
 use mathlib.Core.Bool.{Bool, true, cond, _&&_, _||_}
 use lib.ListN.{length, replicate}
 use lib.Dec.{eqb, leb}
+use Rattle.text.specs.Characters as characters
 
 unfoldable pub blank : ℕ → Bool
-blank b = eqb b 32 || (leb 9 b && leb b 13)
+blank b = eqb b characters.space || (leb 9 b && leb b 13)
 
 -- the ink of a list, in order
 unfoldable pub ink : List ℕ → List ℕ
@@ -43,4 +44,4 @@ abbrev pub inkEnd : List ℕ → ℕ
 inkEnd bytes = length (trimEnd bytes)
 
 abbrev pub spaces : ℕ → List ℕ
-spaces n = replicate n 32
+spaces n = replicate n characters.space

@@ -1,3 +1,4 @@
+pub mod Characters
 pub mod Ink
 pub mod Lines
 pub mod Accepted

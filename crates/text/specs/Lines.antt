@@ -3,6 +3,7 @@ use Prim.Native.Nat.{ℕ, _+_}
 use mathlib.Core.List.{List, [], _∷_, _++_}
 use mathlib.Core.Bool.{Bool, true, false, cond, not, _&&_, _||_}
 use lib.Dec.{eqb}
+use Rattle.text.specs.Characters as characters
 use Rattle.text.specs.Ink.{blank}
 
 -- a byte in front of the first line
@@ -13,7 +14,7 @@ onto b (line ∷ lines) = (b ∷ line) ∷ lines
 -- what the newlines of a text part, at least one line
 unfoldable pub parted : List ℕ → List (List ℕ)
 parted [] = [] ∷ []
-parted (b ∷ bs) = cond (eqb b 10) ([] ∷ parted bs) (onto b (parted bs))
+parted (b ∷ bs) = cond (eqb b characters.newline) ([] ∷ parted bs) (onto b (parted bs))
 
 abbrev pub linesOf : List ℕ → List (List ℕ)
 linesOf [] = []
@@ -21,12 +22,12 @@ linesOf (b ∷ bs) = parted (b ∷ bs)
 
 unfoldable pub hasNewline : List ℕ → Bool
 hasNewline [] = false
-hasNewline (b ∷ bs) = eqb b 10 || hasNewline bs
+hasNewline (b ∷ bs) = eqb b characters.newline || hasNewline bs
 
 -- the place of the first newline, or the length where there is none
 unfoldable pub newlineAt : List ℕ → ℕ
 newlineAt [] = 0
-newlineAt (b ∷ bs) = cond (eqb b 10) 0 (1 + newlineAt bs)
+newlineAt (b ∷ bs) = cond (eqb b characters.newline) 0 (1 + newlineAt bs)
 
 -- no line has a newline
 unfoldable pub plain : List (List ℕ) → Bool
@@ -36,7 +37,7 @@ plain (line ∷ lines) = not (hasNewline line) && plain lines
 -- "exactly a newline"
 unfoldable pub isNewline : List ℕ → Bool
 isNewline [] = false
-isNewline (b ∷ []) = eqb b 10
+isNewline (b ∷ []) = eqb b characters.newline
 isNewline (b ∷ c ∷ bs) = false
 
 abbrev pub isEmpty : List ℕ → Bool
@@ -68,7 +69,7 @@ noEmptyLinesTouch text = noneEmptyTouch (linesOf text)
 -- "lines joined by newlines"
 unfoldable pub behind : List (List ℕ) → List ℕ
 behind [] = []
-behind (line ∷ lines) = 10 ∷ (line ++ behind lines)
+behind (line ∷ lines) = characters.newline ∷ (line ++ behind lines)
 
 unfoldable pub joined : List (List ℕ) → List ℕ
 joined [] = []

@@ -1,4 +1,5 @@
 // Which bytes are blank.
+use crate::characters;
 ghost use mathlib.Core.Path.{_≡_};
 ghost use Rattle.text.specs.Ink.{blank};
 
@@ -6,7 +7,7 @@ ghost use Rattle.text.specs.Ink.{blank};
 pub fn is_blank(b: u8) -> bool
     ensures { λ r. ⌜ r ≡ blank b ⌝ }
 {
-    if b == 32 {
+    if b == characters::SPACE {
         return true;
     }
     if b < 9 {

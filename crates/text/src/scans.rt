@@ -1,5 +1,6 @@
 // Scans of a slice, or of a part of one: blanks at either end, the first newline, the first byte that is not accepted.
 use crate::blanks;
+use crate::characters;
 ghost use mathlib.Core.Path.{_≡_};
 ghost use Prim.Native.Nat.{max};
 ghost use Rattle.text.specs.Ink.{leadingBlanks, inkEnd};
@@ -40,7 +41,7 @@ pub fn newline_at(bytes: &[u8]) -> usize
 {
     let mut i = 0;
     while i < bytes.len() {
-        if bytes[i] == 10 {
+        if bytes[i] == characters::NEWLINE {
             return i;
         }
         i += 1;

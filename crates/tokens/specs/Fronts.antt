@@ -3,6 +3,7 @@ use Prim.Native.Nat.{ℕ}
 use mathlib.Core.List.{List, [], _∷_}
 use mathlib.Core.Bool.{Bool, true, false, cond}
 use lib.Dec.{eqb}
+use Rattle.tree.specs.Kinds as kinds
 use Rattle.tree.specs.Reading.{Reader, read}
 use Rattle.tree.specs.declared.grammar.Class.the-variants.{Word, Char, Colon, LocatedExpression, StringRecord, ImportArguments, IdentifierArguments}
 use Rattle.printing.specs.Events.{Events, nothing, space, _▹_}
@@ -14,7 +15,10 @@ use Rattle.events.specs.Trees.{blank, skipping, oneOf, leaf, labelled, argument
 
 -- the kinds without a block or a token inside
 abbrev pub isPlain : ℕ → Bool
-isPlain number = oneOf number (0 ∷ 1 ∷ 5 ∷ 7 ∷ 8 ∷ 9 ∷ 12 ∷ 13 ∷ 17 ∷ 18 ∷ 21 ∷ 22 ∷ 23 ∷ [])
+isPlain number =
+    oneOf number
+    (kinds.align ∷ kinds.assert ∷ kinds.«data» ∷ kinds.eof ∷ kinds.error ∷ kinds.expression ∷ kinds.file ∷ kinds.instruction
+    ∷ kinds.macroInvocation ∷ kinds.programCounterDefinition ∷ kinds.text ∷ kinds.trace ∷ kinds.variableDefinition ∷ [])
 
 -- ---- places behind the first fields
 
@@ -83,23 +87,23 @@ testEvents context reader at =
 
 abbrev pub frontEvents : Context → Reader → ℕ → ℕ → Events
 frontEvents context reader at number =
-    cond (eqb number 4) (pairEvents context reader at)
-    (cond (eqb number 6) (definitionEvents context reader at)
-    (cond (eqb number 11) (importEvents context reader at)
-    (cond (eqb number 14) (labelEvents context reader at)
-    (cond (eqb number 16) (macroEvents context reader at)
-    (cond (eqb number 20) (testEvents context reader at)
-    (cond (oneOf number (10 ∷ 15 ∷ 19 ∷ [])) (taggedEvents context reader at ▹ blank context) nothing))))))
+    cond (eqb number kinds.configPair) (pairEvents context reader at)
+    (cond (eqb number kinds.definition) (definitionEvents context reader at)
+    (cond (eqb number kinds.import) (importEvents context reader at)
+    (cond (eqb number kinds.label) (labelEvents context reader at)
+    (cond (eqb number kinds.macroDefinition) (macroEvents context reader at)
+    (cond (eqb number kinds.test) (testEvents context reader at)
+    (cond (oneOf number (kinds.if ∷ kinds.loop ∷ kinds.segment ∷ [])) (taggedEvents context reader at ▹ blank context) nothing))))))
 
 abbrev pub frontEnd : Reader → ℕ → ℕ → ℕ
 frontEnd reader at number =
-    cond (eqb number 4) (reader Char (behindTag reader at) .end)
-    (cond (eqb number 6) (behindName reader at)
-    (cond (eqb number 11) (reader StringRecord (reader Word (behindImports reader at) .end) .end)
-    (cond (eqb number 14) (reader Colon (behindTag reader at) .end)
-    (cond (eqb number 16) (reader Char (behindArguments reader at) .end)
-    (cond (eqb number 20) (reader LocatedExpression (behindTag reader at) .end)
-    (cond (oneOf number (10 ∷ 15 ∷ 19 ∷ [])) (reader LocatedExpression (behindTag reader at) .end) at))))))
+    cond (eqb number kinds.configPair) (reader Char (behindTag reader at) .end)
+    (cond (eqb number kinds.definition) (behindName reader at)
+    (cond (eqb number kinds.import) (reader StringRecord (reader Word (behindImports reader at) .end) .end)
+    (cond (eqb number kinds.label) (reader Colon (behindTag reader at) .end)
+    (cond (eqb number kinds.macroDefinition) (reader Char (behindArguments reader at) .end)
+    (cond (eqb number kinds.test) (reader LocatedExpression (behindTag reader at) .end)
+    (cond (oneOf number (kinds.if ∷ kinds.loop ∷ kinds.segment ∷ [])) (reader LocatedExpression (behindTag reader at) .end) at))))))
 
 abbrev pub PrintsFront : Printed → List ℕ → Printed → List ℕ → Context → ℕ → ℕ → List ℕ → Type 0
 PrintsFront answer left last room context number levels bytes =

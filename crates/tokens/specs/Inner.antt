@@ -7,6 +7,7 @@ use lib.Dec.{eqb}
 use Rattle.options.specs.declared.BracePosition.{BracePosition}
 use Rattle.options.specs.declared.BracePosition.the-variants.{SameLine, NewLine}
 use Rattle.tree.specs.Tree.{Tree, absent}
+use Rattle.tree.specs.Kinds as kinds
 use Rattle.tree.specs.Reading.{Reader}
 use Rattle.tree.specs.declared.grammar.Class.{Class}
 use Rattle.tree.specs.declared.grammar.Class.the-variants.{Word, DataSize, BareToken, LocatedToken, ExpressionArguments, BlockRecord, OperandRecord}
@@ -24,16 +25,16 @@ tokenClass located = cond located LocatedToken BareToken
 
 abbrev pub innerOf : ℕ → ℕ → Inner
 innerOf number bits =
-    cond (eqb number 4) (Token true true)
-    (cond (eqb number 6) (Token (bitAt 2 bits) false)
-    (cond (eqb number 10) Branches
-    (cond (eqb number 11) (Block (bitAt 4 bits))
-    (cond (oneOf number (14 ∷ 19 ∷ [])) (Block (bitAt 2 bits))
-    (cond (oneOf number (2 ∷ 3 ∷ 15 ∷ 16 ∷ 20 ∷ [])) (Block true) Nothing)))))
+    cond (eqb number kinds.configPair) (Token true true)
+    (cond (eqb number kinds.definition) (Token (bitAt 2 bits) false)
+    (cond (eqb number kinds.if) Branches
+    (cond (eqb number kinds.import) (Block (bitAt 4 bits))
+    (cond (oneOf number (kinds.label ∷ kinds.segment ∷ [])) (Block (bitAt 2 bits))
+    (cond (oneOf number (kinds.braces ∷ kinds.config ∷ kinds.loop ∷ kinds.macroDefinition ∷ kinds.test ∷ [])) (Block true) Nothing)))))
 
 -- "`tag_else` and `else_` stand together or not at all"
 abbrev pub Ends : ℕ → ℕ → Type 0
-Ends number bits = number ≡ 10 → bitAt 3 bits ≡ bitAt 4 bits
+Ends number bits = number ≡ kinds.if → bitAt 3 bits ≡ bitAt 4 bits
 
 -- a block is at most 64 further in, and at every level there is room for one more
 abbrev pub Narrow : Context → ℕ → Type 0

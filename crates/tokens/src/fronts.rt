@@ -12,6 +12,7 @@ use printing::CodeFormatter;
 use printing::Context;
 use printing::Printed;
 use tree::grammar::Class;
+use tree::kinds;
 use tree::own::Own;
 ghost use mathlib.Core.Path.{_≡_};
 ghost use mathlib.Core.Bool.{false};
@@ -19,6 +20,7 @@ ghost use Prim.Native.Nat.{ℕ, _≤_};
 ghost use lib.ListN.{length};
 ghost use Rattle.tree.specs.declared.grammar.Class.the-variants as class;
 ghost use Rattle.tree.specs.declared.own.OwnRead.the-variants.{Record};
+ghost use Rattle.tree.specs.Kinds as kinds;
 ghost use Rattle.tree.specs.Own.{readOwn};
 ghost use Rattle.tree.specs.Reading.{read};
 ghost use Rattle.printing.specs.Running.{Prints};
@@ -35,7 +37,7 @@ fn config_pair_front(
     levels: usize,
     last: Printed,
 ) -> Printed
-    ensures { λ r. ⌜ PrintsFront r (now (room .exit)) last (now (room .entry)) context 4 levels (now (tree .entry)) ⌝ }
+    ensures { λ r. ⌜ PrintsFront r (now (room .exit)) last (now (room .entry)) context kinds.configPair levels (now (tree .entry)) ⌝ }
 {
     let key = leaf::format_leaf(
         tree,
@@ -69,7 +71,7 @@ fn definition_front(
     levels: usize,
     last: Printed,
 ) -> Printed
-    ensures { λ r. ⌜ PrintsFront r (now (room .exit)) last (now (room .entry)) context 6 levels (now (tree .entry)) ⌝ }
+    ensures { λ r. ⌜ PrintsFront r (now (room .exit)) last (now (room .entry)) context kinds.definition levels (now (tree .entry)) ⌝ }
 {
     let name = tag_and_name(tree, room, context, levels, last);
     name.push(room, context, b" ")
@@ -83,7 +85,7 @@ fn import_front(
     levels: usize,
     last: Printed,
 ) -> Printed
-    ensures { λ r. ⌜ PrintsFront r (now (room .exit)) last (now (room .entry)) context 11 levels (now (tree .entry)) ⌝ }
+    ensures { λ r. ⌜ PrintsFront r (now (room .exit)) last (now (room .entry)) context kinds.import levels (now (tree .entry)) ⌝ }
 {
     let tag = leaf::format_leaf(
         tree,
@@ -162,7 +164,7 @@ fn label_front(
     levels: usize,
     last: Printed,
 ) -> Printed
-    ensures { λ r. ⌜ PrintsFront r (now (room .exit)) last (now (room .entry)) context 14 levels (now (tree .entry)) ⌝ }
+    ensures { λ r. ⌜ PrintsFront r (now (room .exit)) last (now (room .entry)) context kinds.label levels (now (tree .entry)) ⌝ }
 {
     let id = format_label(tree, room, context, levels, last);
     record::skip(tree, levels, Class::Colon, true, id)
@@ -178,7 +180,7 @@ pub(crate) fn format_listed_label(
     state: CodeFormatter,
 ) -> Printed
     requires { ⌜ (id .text ≤ id .end) × (id .end ≤ length (now tree)) ⌝ }
-    ensures { λ r. ⌜ ((at : ℕ) → readOwn (now (tree .entry)) at class.Word levels ≡ Record id → PrintsFront r (now (room .exit)) (Done state at) (now (room .entry)) context 14 levels (now (tree .entry))) ⌝ }
+    ensures { λ r. ⌜ ((at : ℕ) → readOwn (now (tree .entry)) at class.Word levels ≡ Record id → PrintsFront r (now (room .exit)) (Done state at) (now (room .entry)) context kinds.label levels (now (tree .entry))) ⌝ }
 {
     let label = push_label(tree, room, context, id, state);
     record::skip(tree, levels, Class::Colon, true, label)
@@ -225,7 +227,7 @@ fn macro_definition_front(
     levels: usize,
     last: Printed,
 ) -> Printed
-    ensures { λ r. ⌜ PrintsFront r (now (room .exit)) last (now (room .entry)) context 16 levels (now (tree .entry)) ⌝ }
+    ensures { λ r. ⌜ PrintsFront r (now (room .exit)) last (now (room .entry)) context kinds.macroDefinition levels (now (tree .entry)) ⌝ }
 {
     let id = tag_and_name(tree, room, context, levels, last);
     let lparen = leaf::format_leaf(
@@ -267,7 +269,7 @@ fn tagged_front(
     levels: usize,
     last: Printed,
 ) -> Printed
-    ensures { λ r. ⌜ PrintsFront r (now (room .exit)) last (now (room .entry)) context 15 levels (now (tree .entry)) ⌝ }
+    ensures { λ r. ⌜ PrintsFront r (now (room .exit)) last (now (room .entry)) context kinds.loop levels (now (tree .entry)) ⌝ }
 {
     let value = plain::format_tagged(tree, room, context, levels, last);
     value.push(room, context, b" ")
@@ -281,7 +283,7 @@ fn test_front(
     levels: usize,
     last: Printed,
 ) -> Printed
-    ensures { λ r. ⌜ PrintsFront r (now (room .exit)) last (now (room .entry)) context 20 levels (now (tree .entry)) ⌝ }
+    ensures { λ r. ⌜ PrintsFront r (now (room .exit)) last (now (room .entry)) context kinds.test levels (now (tree .entry)) ⌝ }
 {
     let tag = leaf::format_leaf(
         tree,
@@ -310,15 +312,15 @@ pub(crate) fn format_token_front(
     ensures { λ r. ⌜ PrintsFront r (now (room .exit)) last (now (room .entry)) context number levels (now (tree .entry)) ⌝ }
 {
     match number {
-        4 => config_pair_front(tree, room, context, levels, last),
-        6 => definition_front(tree, room, context, levels, last),
-        10 => tagged_front(tree, room, context, levels, last),
-        11 => import_front(tree, room, context, levels, last),
-        14 => label_front(tree, room, context, levels, last),
-        15 => tagged_front(tree, room, context, levels, last),
-        16 => macro_definition_front(tree, room, context, levels, last),
-        19 => tagged_front(tree, room, context, levels, last),
-        20 => test_front(tree, room, context, levels, last),
+        kinds::CONFIG_PAIR => config_pair_front(tree, room, context, levels, last),
+        kinds::DEFINITION => definition_front(tree, room, context, levels, last),
+        kinds::IF => tagged_front(tree, room, context, levels, last),
+        kinds::IMPORT => import_front(tree, room, context, levels, last),
+        kinds::LABEL => label_front(tree, room, context, levels, last),
+        kinds::LOOP => tagged_front(tree, room, context, levels, last),
+        kinds::MACRO_DEFINITION => macro_definition_front(tree, room, context, levels, last),
+        kinds::SEGMENT => tagged_front(tree, room, context, levels, last),
+        kinds::TEST => test_front(tree, room, context, levels, last),
         _ => last.settled(),
     }
 }

@@ -11,6 +11,7 @@ use printing::CodeFormatter;
 use printing::Context;
 use printing::Printed;
 use tree::grammar::Class;
+use tree::kinds;
 use tree::own::Own;
 ghost use mathlib.Core.Path.{_≡_};
 ghost use mathlib.Core.Bool.{true, false};
@@ -462,10 +463,10 @@ pub(crate) fn format_plain_token(
     ensures { λ r. ⌜ (isPlain number ≡ true → (kind : Kind) → kindOf number ≡ Known kind → PrintsKind r (now (room .exit)) last (now (room .entry)) context (Trees.leaf plain) kind class.LocatedExpression bits levels (now (tree .entry))) ⌝ }
 {
     match number {
-        0 => format_tagged(tree, room, context, levels, last),
-        1 => format_assert(tree, room, context, levels, bits, last),
-        5 => format_data(tree, room, context, levels, last),
-        8 => leaf::format_leaf(
+        kinds::ALIGN => format_tagged(tree, room, context, levels, last),
+        kinds::ASSERT => format_assert(tree, room, context, levels, bits, last),
+        kinds::DATA => format_data(tree, room, context, levels, last),
+        kinds::ERROR => leaf::format_leaf(
             tree,
             room,
             context,
@@ -475,14 +476,27 @@ pub(crate) fn format_plain_token(
             false,
             last,
         ),
-        9 => expression::format_expression(tree, room, context, levels, false, last),
-        12 => format_file(tree, room, context, levels, last),
-        13 => format_instruction(tree, room, context, levels, bits, last),
-        17 => format_macro_invocation(tree, room, context, levels, last),
-        18 => format_program_counter_definition(tree, room, context, levels, last),
-        21 => format_text(tree, room, context, levels, bits, last),
-        22 => format_trace(tree, room, context, levels, bits, last),
-        23 => format_variable_definition(tree, room, context, levels, last),
+        kinds::EXPRESSION => expression::format_expression(
+            tree,
+            room,
+            context,
+            levels,
+            false,
+            last,
+        ),
+        kinds::FILE => format_file(tree, room, context, levels, last),
+        kinds::INSTRUCTION => format_instruction(tree, room, context, levels, bits, last),
+        kinds::MACRO_INVOCATION => format_macro_invocation(tree, room, context, levels, last),
+        kinds::PROGRAM_COUNTER_DEFINITION => format_program_counter_definition(
+            tree,
+            room,
+            context,
+            levels,
+            last,
+        ),
+        kinds::TEXT => format_text(tree, room, context, levels, bits, last),
+        kinds::TRACE => format_trace(tree, room, context, levels, bits, last),
+        kinds::VARIABLE_DEFINITION => format_variable_definition(tree, room, context, levels, last),
         _ => record::skip(tree, levels, Class::Unit, true, last),
     }
 }

@@ -11,9 +11,11 @@ use options::BracePosition;
 use printing::Context;
 use printing::Printed;
 use tree::grammar::Class;
+use tree::kinds;
 ghost use mathlib.Core.Path.{_≡_};
 ghost use mathlib.Core.Bool.{true, false};
 ghost use Prim.Native.Nat.{_-_, _<_, _≤_};
+ghost use Rattle.tree.specs.Kinds as kinds;
 ghost use Rattle.tree.specs.Grammar.{kindOf};
 ghost use Rattle.tree.specs.Reading.{read};
 ghost use Rattle.tree.specs.declared.grammar.Class.the-variants as class;
@@ -42,17 +44,17 @@ fn inner_of(number: usize, bits: usize) -> Inner
     ensures { λ r. ⌜ r ≡ innerOf number bits ⌝ }
 {
     match number {
-        4 => Inner::Token(true, true),
-        6 => Inner::Token(record::stands(bits, 2), false),
-        10 => Inner::Branches,
-        11 => Inner::Block(record::stands(bits, 4)),
-        14 => Inner::Block(record::stands(bits, 2)),
-        19 => Inner::Block(record::stands(bits, 2)),
-        2 => Inner::Block(true),
-        3 => Inner::Block(true),
-        15 => Inner::Block(true),
-        16 => Inner::Block(true),
-        20 => Inner::Block(true),
+        kinds::CONFIG_PAIR => Inner::Token(true, true),
+        kinds::DEFINITION => Inner::Token(record::stands(bits, 2), false),
+        kinds::IF => Inner::Branches,
+        kinds::IMPORT => Inner::Block(record::stands(bits, 4)),
+        kinds::LABEL => Inner::Block(record::stands(bits, 2)),
+        kinds::SEGMENT => Inner::Block(record::stands(bits, 2)),
+        kinds::BRACES => Inner::Block(true),
+        kinds::CONFIG => Inner::Block(true),
+        kinds::LOOP => Inner::Block(true),
+        kinds::MACRO_DEFINITION => Inner::Block(true),
+        kinds::TEST => Inner::Block(true),
         _ => Inner::Nothing,
     }
 }
@@ -196,7 +198,7 @@ fn format_token(
 }
 
 // A token of a list, and what stands before it. What the lead-in has read is not read again: the token's own bytes, and those of its head where that is the
-// mnemonic of an `Instruction` (13), the size of a `Data` (5) or the id of a `Label` (14). A label without a block ends with what stands before one.
+// mnemonic of an `Instruction`, the size of a `Data` or the id of a `Label`. A label without a block ends with what stands before one.
 fn format_listed_token(
     tree: &[u8],
     room: &mut [u8],
@@ -219,13 +221,13 @@ fn format_listed_token(
     let number = leads::byte_at(tree, at);
     let below = levels - 1;
     let bits = own.map / 2;
-    if number == 13 {
+    if number == kinds::INSTRUCTION {
         return plain::format_listed_instruction(tree, room, context, below, bits, head, state);
     }
-    if number == 5 {
+    if number == kinds::DATA {
         return plain::format_sized(tree, room, context, below, own.end, head, state);
     }
-    if number == 14 {
+    if number == kinds::LABEL {
         let front = fronts::format_listed_label(tree, room, context, below, head, state);
         if !record::stands(bits, 2) {
             return front;
@@ -248,7 +250,7 @@ fn format_inner(
 ) -> Printed
     requires { ⌜ Narrow context levels ⌝ }
     requires { ⌜ Ends number bits ⌝ }
-    ensures { λ r. ⌜ (number ≤ 23 → (kind : Kind) → kindOf number ≡ Known kind → PrintsKind r (now (room .exit)) last (now (room .entry)) context (Trees.leaf plain) kind class.LocatedExpression bits levels (now (tree .entry))) ⌝ }
+    ensures { λ r. ⌜ (number ≤ kinds.variableDefinition → (kind : Kind) → kindOf number ≡ Known kind → PrintsKind r (now (room .exit)) last (now (room .entry)) context (Trees.leaf plain) kind class.LocatedExpression bits levels (now (tree .entry))) ⌝ }
 {
     let inner = inner_of(number, bits);
     if let Inner::Nothing = inner {

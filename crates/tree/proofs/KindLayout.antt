@@ -9,7 +9,7 @@ use lib.Dec.{eqb}
 use borrow.Author.Tests.{eqb-true}
 use Rattle.text.specs.Ink.{flat}
 use Rattle.text.proofs.Choices.{by-test, true-false, and-true-left, and-true-right}
-use Rattle.tree.specs.Grammar.{kinds, kindOf, fields}
+use Rattle.tree.specs.Grammar.{allKinds, kindOf, fields}
 use Rattle.tree.specs.Tree.{Tree, Trivium, absent, chain, built}
 use Rattle.tree.specs.Stored.{storedNode, storedLeaf, itemCount, storedWith, stored}
 use Rattle.tree.specs.declared.grammar.Kind.{Kind}
@@ -94,7 +94,7 @@ number-in-order first (here ∷ others) (suc number) kind order e =
 -- the byte of a kind is its number
 pub kind-number : (number : ℕ) (kind : Kind) → kindOf number ≡ Known kind → kindNumber kind ≡ number
 unfolding kindNumber storedWith built
-kind-number number kind e = omega (arith, number-in-order 0 kinds number kind refl e)
+kind-number number kind e = omega (arith, number-in-order 0 allKinds number kind refl e)
 
 -- the forms of trees behind the first
 forms-behind : (place count : ℕ) (tree : Tree) (trees : List Tree) → formsFrom (suc place) count (tree ∷ trees) ≡ formsFrom place count trees

@@ -4,6 +4,8 @@ use Prim.Native.Nat.{ℕ}
 use mathlib.Core.List.{List, [], _∷_, map}
 use mathlib.Core.Bool.{Bool, true, false}
 use lib.ListN.{getD}
+use Rattle.text.specs.Characters as characters
+use Rattle.tree.specs.Kinds as kinds
 use Rattle.tree.specs.declared.grammar.Kind.{Kind}
 use Rattle.tree.specs.declared.grammar.Kind.the-variants as kind
 use Rattle.tree.specs.declared.grammar.KindRead.{KindRead}
@@ -23,8 +25,8 @@ use Rattle.tree.specs.declared.grammar.Rule.{Rule}
 -- ---- the kinds by their numbers
 
 -- "Kinds 0 to 23 are the `Token` cases in declared order ...; 24 list ...; 25 leaf; 26 path item of a string; 27 `Block`; ... 42 an `ArgItem`"
-abbrev pub kinds : List Kind
-kinds =
+abbrev pub allKinds : List Kind
+allKinds =
     kind.Align ∷ kind.Assert ∷ kind.Braces ∷ kind.Config ∷ kind.ConfigPair ∷ kind.Data ∷
     kind.Definition ∷ kind.Eof ∷ kind.Error ∷ kind.Expression ∷ kind.If ∷ kind.Import ∷
     kind.File ∷ kind.Instruction ∷ kind.Label ∷ kind.Loop ∷ kind.MacroDefinition ∷ kind.MacroInvocation ∷
@@ -35,7 +37,7 @@ kinds =
     kind.ArgItem ∷ []
 
 abbrev pub kindOf : ℕ → KindRead
-kindOf byte = getD (map Known kinds) byte Unknown
+kindOf byte = getD (map Known allKinds) byte Unknown
 
 -- ---- the classes
 
@@ -47,25 +49,25 @@ abbrev pub bare : Bool
 bare = false
 
 abbrev pub leaf : Bool → TextRule → Rule
-leaf trivia text = record { first = 25; last = 25; located = trivia; text = text; items = NoList; value = LocatedExpression }
+leaf trivia text = record { first = kinds.leaf; last = kinds.leaf; located = trivia; text = text; items = NoList; value = LocatedExpression }
 
 abbrev pub nodes : ℕ → ℕ → Bool → Rule
 nodes first last trivia = record { first = first; last = last; located = trivia; text = NoText; items = NoList; value = LocatedExpression }
 
 abbrev pub listOf : Class → Rule
-listOf class = record { first = 24; last = 24; located = bare; text = NoText; items = ListOf class; value = LocatedExpression }
+listOf class = record { first = kinds.vec; last = kinds.vec; located = bare; text = NoText; items = ListOf class; value = LocatedExpression }
 
 abbrev pub argument : Class → Rule
-argument value = record { first = 42; last = 42; located = bare; text = NoText; items = NoList; value = value }
+argument value = record { first = kinds.argItem; last = kinds.argItem; located = bare; text = NoText; items = NoList; value = value }
 
 -- what may stand in a class: kinds, trivia, text ("Where the Rust type is an enum, the text is one byte, its index in declared order, within range. A `char` is
 -- one byte; both must stand. `Eof`'s leaf has no text. Braces of a block are `{` and `}`, a label's colon `:`.")
 abbrev pub rule : Class → Rule
 rule Word = leaf located Free  -- Located String, Identifier, IdentifierPath, Number
 rule Char = leaf located (Byte 0 255)  -- Located char
-rule OpenBrace = leaf located (Byte 123 123)  -- Block.lparen
-rule CloseBrace = leaf located (Byte 125 125)  -- Block.rparen
-rule Colon = leaf located (Byte 58 58)  -- Label.colon
+rule OpenBrace = leaf located (Byte characters.openingBrace characters.openingBrace)  -- Block.lparen
+rule CloseBrace = leaf located (Byte characters.closingBrace characters.closingBrace)  -- Block.rparen
+rule Colon = leaf located (Byte characters.colon characters.colon)  -- Label.colon
 rule Unit = leaf located NoText  -- Located ()
 rule Mnemonic = leaf located (Byte 0 55)  -- Located Mnemonic
 rule IndexRegister = leaf located (Byte 0 1)  -- Located IndexRegister
@@ -76,19 +78,19 @@ rule DataSize = leaf located (Byte 0 2)  -- Located DataSize
 rule BinaryOp = leaf located (Byte 0 15)  -- Located BinaryOp
 rule TextEncoding = leaf located (Byte 0 3)  -- Located TextEncoding
 rule AddressingMode = leaf bare (Byte 0 4)  -- AddressingMode
-rule StringItem = record { first = 25; last = 26; located = bare; text = Free; items = NoList; value = LocatedExpression }  -- InterpolatedStringItem
-rule LocatedExpression = nodes 28 29 located  -- Located Expression
-rule BareExpression = nodes 28 29 bare  -- Expression
-rule LocatedFactor = nodes 30 35 located  -- Located ExpressionFactor
-rule BareToken = nodes 0 23 bare  -- Token
-rule LocatedToken = nodes 0 23 located  -- Located Token
-rule BlockRecord = nodes 27 27 bare  -- Block
-rule StringRecord = nodes 36 36 bare  -- InterpolatedString
-rule OperandRecord = nodes 37 37 bare  -- Operand
-rule SuffixRecord = nodes 38 38 bare  -- RegisterSuffix
-rule AsRecord = nodes 39 39 bare  -- ImportAs
-rule ImportArguments = record { first = 40; last = 40; located = bare; text = NoText; items = ListOf ImportArgument; value = LocatedExpression }  -- ImportArgs
-rule ImportPath = nodes 41 41 located  -- Located SpecificImportArg
+rule StringItem = record { first = kinds.leaf; last = kinds.pathItem; located = bare; text = Free; items = NoList; value = LocatedExpression }  -- InterpolatedStringItem
+rule LocatedExpression = nodes kinds.binaryExpression kinds.factor located  -- Located Expression
+rule BareExpression = nodes kinds.binaryExpression kinds.factor bare  -- Expression
+rule LocatedFactor = nodes kinds.currentProgramCounter kinds.stringFactor located  -- Located ExpressionFactor
+rule BareToken = nodes kinds.align kinds.variableDefinition bare  -- Token
+rule LocatedToken = nodes kinds.align kinds.variableDefinition located  -- Located Token
+rule BlockRecord = nodes kinds.block kinds.block bare  -- Block
+rule StringRecord = nodes kinds.interpolatedString kinds.interpolatedString bare  -- InterpolatedString
+rule OperandRecord = nodes kinds.operand kinds.operand bare  -- Operand
+rule SuffixRecord = nodes kinds.registerSuffix kinds.registerSuffix bare  -- RegisterSuffix
+rule AsRecord = nodes kinds.importAs kinds.importAs bare  -- ImportAs
+rule ImportArguments = record { first = kinds.importAll; last = kinds.importAll; located = bare; text = NoText; items = ListOf ImportArgument; value = LocatedExpression }  -- ImportArgs
+rule ImportPath = nodes kinds.specificImportArg kinds.specificImportArg located  -- Located SpecificImportArg
 rule ExpressionArgument = argument LocatedExpression  -- ArgItem of a Located Expression
 rule IdentifierArgument = argument Word  -- ArgItem of a Located Identifier
 rule ImportArgument = argument ImportPath  -- ArgItem of a Located SpecificImportArg

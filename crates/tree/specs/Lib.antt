@@ -1,3 +1,5 @@
+pub mod Kinds
+pub mod Codes
 pub mod Grammar
 pub mod Tree
 pub mod Own

@@ -12,6 +12,8 @@ use Rattle.answers.specs.declared.Reason.the-variants.{TreeDepth, TreeLayout}
 use Rattle.text.specs.Numbers.{readNumber}
 use Rattle.text.specs.declared.numbers.Number.{Number}
 use Rattle.text.specs.declared.numbers.Number.the-variants.{Read, Missing}
+use Rattle.tree.specs.Kinds as kinds
+use Rattle.tree.specs.Codes as codes
 use Rattle.tree.specs.Grammar.{Slot, must, may, kindOf, rule, fields}
 use Rattle.tree.specs.declared.grammar.Kind.{Kind}
 use Rattle.tree.specs.declared.grammar.KindRead.{KindRead}
@@ -39,7 +41,7 @@ isList (ListOf class) = true
 
 -- "Which kind may stand in a field follows its Rust type."
 abbrev pub mayStand : Rule → ℕ → Bool
-mayStand rule number = cond (eqb number 24) (isList (rule .items)) (leb (rule .first) number && leb number (rule .last))
+mayStand rule number = cond (eqb number kinds.vec) (isList (rule .items)) (leb (rule .first) number && leb number (rule .last))
 
 -- ---- the map
 
@@ -57,18 +59,18 @@ textFits (Byte low high) bits = eqb bits 1
 
 -- "`tag_else` and `else_` stand together or not at all": bits 4 and 5 of an `If`
 abbrev pub elseFits : ℕ → ℕ → Bool
-elseFits number bits = not (eqb number 10) || eqb (bits / 8 % 2) (bits / 16 % 2)
+elseFits number bits = not (eqb number kinds.if) || eqb (bits / 8 % 2) (bits / 16 % 2)
 
 -- "Bit 0 may stand only where the Rust has a `Located`"; a path item always is one
 abbrev pub triviaFits : Rule → ℕ → ℕ → Bool
-triviaFits rule number map = eqb (map % 2) 0 || (rule .located || eqb number 26)
+triviaFits rule number map = eqb (map % 2) 0 || (rule .located || eqb number kinds.pathItem)
 
 -- the whole map against the kind; a list has map 0
 unfoldable pub mapFits : Rule → ℕ → Kind → ℕ → Bool
 mapFits rule number kind map =
-    cond (eqb number 24) (eqb map 0)
+    cond (eqb number kinds.vec) (eqb map 0)
     (triviaFits rule number map
-    && cond (eqb number 25 || eqb number 26) (textFits (rule .text) (map / 2))
+    && cond (eqb number kinds.leaf || eqb number kinds.pathItem) (textFits (rule .text) (map / 2))
     (elseFits number (map / 2) && fieldsFit (fields kind (rule .value)) (map / 2)))
 
 -- ---- trivia
@@ -85,8 +87,8 @@ sizedEnd bytes at = sizedOn bytes at (readNumber bytes at)
 unfoldable pub triviumEnd : List ℕ → ℕ → Span
 triviumEnd bytes at =
     cond (leb (length bytes) at) Broken
-    (cond (eqb (getD bytes at 0) 1) (Behind (at + 1))
-    (cond (ltb 3 (getD bytes at 0)) Broken (sizedEnd bytes (at + 1))))
+    (cond (eqb (getD bytes at 0) codes.newline) (Behind (at + 1))
+    (cond (ltb codes.cppStyle (getD bytes at 0)) Broken (sizedEnd bytes (at + 1))))
 
 -- what stands behind a part
 abbrev pub behind : Span → (ℕ → Span) → Span
@@ -154,8 +156,8 @@ listOn at kind map trivia Missing = Refused (layout at)
 -- behind the trivia: a list's count, a leaf's text where its bit stands, or nothing more
 unfoldable pub restOf : List ℕ → ℕ → TextRule → ℕ → Kind → ℕ → TriviaSpan → OwnRead
 restOf bytes at text number kind map trivia =
-    cond (eqb number 24) (listOn at kind map trivia (readNumber bytes (trivia .end)))
-    (cond ((eqb number 25 || eqb number 26) && leb 2 map) (leafOn at kind map trivia (textEnd bytes (trivia .end) text))
+    cond (eqb number kinds.vec) (listOn at kind map trivia (readNumber bytes (trivia .end)))
+    (cond ((eqb number kinds.leaf || eqb number kinds.pathItem) && leb 2 map) (leafOn at kind map trivia (textEnd bytes (trivia .end) text))
     (Record (ownOf kind map trivia (trivia .end) (trivia .end) 0)))
 
 abbrev pub triviaOfRecord : List ℕ → ℕ → Rule → ℕ → Kind → ℕ → TriviaRead → OwnRead

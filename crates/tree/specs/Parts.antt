@@ -8,6 +8,8 @@ use Rattle.answers.specs.Numbers.{numbersOf, numbersChecked, unlessRefused}
 use Rattle.answers.specs.declared.Refusal.{Refusal}
 use Rattle.answers.specs.declared.Checked.{Checked}
 use Rattle.answers.specs.declared.Checked.the-variants.{Passed, Failed}
+use Rattle.tree.specs.Kinds as kinds
+use Rattle.tree.specs.Codes as codes
 use Rattle.tree.specs.Grammar.{Slot, rule, fields}
 use Rattle.tree.specs.Own.{layout, triviumEnd, readOwn}
 use Rattle.tree.specs.Reading.{slotClass, read}
@@ -45,7 +47,7 @@ refusedSkip (Next place) = layout place
 
 -- the item between a place and the place behind it: its code, and the places of its text, of which a newline has none
 abbrev pub itemTo : List ℕ → ℕ → ℕ → TriviumSpan
-itemTo bytes at end = record { code = getD bytes at 0; start = cond (eqb (getD bytes at 0) 1) end (at + 3); end = end }
+itemTo bytes at end = record { code = getD bytes at 0; start = cond (eqb (getD bytes at 0) codes.newline) end (at + 3); end = end }
 
 abbrev pub triviumOn : List ℕ → ℕ → Span → TriviumRead
 triviumOn bytes at (Behind end) = Item (itemTo bytes at end)
@@ -67,11 +69,11 @@ abbrev pub secondField : ℕ → Class → Skipped → HeadRead
 secondField levels class (Next place) = Found (record { place = place; class = class; levels = levels })
 secondField levels class (NotSkipped refusal) = NoHead refusal
 
--- of a `Data` (5) `size`, behind `values`; of a binary expression (28) `lhs`, behind `op`; of any other record its first field
+-- of a `Data` `size`, behind `values`; of a binary expression `lhs`, behind `op`; of any other record its first field
 unfoldable pub fieldHead : ℕ → List ℕ → Class → ℕ → Own → HeadRead
 fieldHead levels bytes class number own =
-    cond (eqb number 5) (secondField (levels - 1) DataSize (skipped (levels - 1) bytes ExpressionArguments (own .end)))
-    (cond (eqb number 28) (secondField (levels - 1) LocatedExpression (skipped (levels - 1) bytes BinaryOp (own .end)))
+    cond (eqb number kinds.«data») (secondField (levels - 1) DataSize (skipped (levels - 1) bytes ExpressionArguments (own .end)))
+    (cond (eqb number kinds.binaryExpression) (secondField (levels - 1) LocatedExpression (skipped (levels - 1) bytes BinaryOp (own .end)))
     (Found (record { place = own .end; class = firstClass class (fields (own .kind) (rule class .value)); levels = levels - 1 })))
 
 abbrev pub innerOn : ℕ → List ℕ → Class → ℕ → OwnRead → HeadRead
@@ -81,12 +83,12 @@ innerOn levels bytes class at (Refused refusal) = NoHead refusal
 unfoldable pub innerHead : ℕ → List ℕ → Class → ℕ → HeadRead
 innerHead levels bytes class at = innerOn levels bytes class at (readOwn bytes at class levels)
 
--- of `Braces` (2) and `Config` (3) that of the block, its `{`; of an `Expression` (9) that of its expression
+-- of `Braces` and `Config` that of the block, its `{`; of an `Expression` that of its expression
 abbrev pub headOn : ℕ → List ℕ → Class → ℕ → OwnRead → HeadRead
 headOn levels bytes class at (Refused refusal) = NoHead refusal
 headOn levels bytes class at (Record own) =
-    cond (eqb (getD bytes at 0) 2 || eqb (getD bytes at 0) 3) (innerHead (levels - 1) bytes BlockRecord (own .end))
-    (cond (eqb (getD bytes at 0) 9) (innerHead (levels - 1) bytes BareExpression (own .end))
+    cond (eqb (getD bytes at 0) kinds.braces || eqb (getD bytes at 0) kinds.config) (innerHead (levels - 1) bytes BlockRecord (own .end))
+    (cond (eqb (getD bytes at 0) kinds.expression) (innerHead (levels - 1) bytes BareExpression (own .end))
     (fieldHead levels bytes class (getD bytes at 0) own))
 
 -- behind own bytes, whatever they are; there is none where no record can have been read: no level is left, or no byte stands there
@@ -117,24 +119,24 @@ abbrev pub numbersHead : HeadRead → ℕ × ℕ
 numbersHead (Found head) = (0, head .place)
 numbersHead (NoHead refusal) = numbersOf refusal
 
--- of the head among a record's fields: behind the first of a `Data` (5) and a binary expression (28), else the first
+-- of the head among a record's fields: behind the first of a `Data` and a binary expression, else the first
 abbrev pub fieldNumbers : ℕ → List ℕ → ℕ → Own → ℕ × ℕ
 fieldNumbers levels bytes number own =
-    cond (eqb number 5) (readNumbers (levels - 1) bytes ExpressionArguments (own .end))
-    (cond (eqb number 28) (readNumbers (levels - 1) bytes BinaryOp (own .end)) (0, own .end))
+    cond (eqb number kinds.«data») (readNumbers (levels - 1) bytes ExpressionArguments (own .end))
+    (cond (eqb number kinds.binaryExpression) (readNumbers (levels - 1) bytes BinaryOp (own .end)) (0, own .end))
 
 -- of one whose own bytes may be refused
 abbrev pub innerNumbers : ℕ → List ℕ → ℕ → OwnRead → ℕ × ℕ
 innerNumbers levels bytes number (Record own) = fieldNumbers levels bytes number own
 innerNumbers levels bytes number (Refused refusal) = numbersOf refusal
 
--- of the head of a token's record behind its own bytes: that of a block (2, 3), of an expression (9), or a field's
+-- of the head of a token's record behind its own bytes: that of a block, of an expression, or a field's
 abbrev pub tokenNumbers : ℕ → List ℕ → ℕ → Own → ℕ × ℕ
 tokenNumbers levels bytes number own =
     let below = levels - 1 in
     let inner = own .end in
-    cond (eqb number 2 || eqb number 3) (innerNumbers below bytes (getD bytes inner 0) (readOwn bytes inner BlockRecord below))
-    (cond (eqb number 9) (innerNumbers below bytes (getD bytes inner 0) (readOwn bytes inner BareExpression below)) (fieldNumbers levels bytes number own))
+    cond (eqb number kinds.braces || eqb number kinds.config) (innerNumbers below bytes (getD bytes inner 0) (readOwn bytes inner BlockRecord below))
+    (cond (eqb number kinds.expression) (innerNumbers below bytes (getD bytes inner 0) (readOwn bytes inner BareExpression below)) (fieldNumbers levels bytes number own))
 
 -- 5 at the place where no record can have been read
 unfoldable pub behindNumbers : ℕ → List ℕ → ℕ → Own → ℕ × ℕ

@@ -10,6 +10,7 @@ use Rattle.answers.specs.declared.Checked.{Checked}
 use Rattle.answers.specs.declared.Checked.the-variants.{Passed, Failed}
 use Rattle.text.specs.Numbers.{numberAt}
 use Rattle.answers.specs.Numbers.{andThen}
+use Rattle.tree.specs.Codes as codes
 use Rattle.tree.specs.Grammar.{Slot, must, may, rule, fields}
 use Rattle.tree.specs.Tree.{Tree, Trivium, absent, refused, node, built}
 use Rattle.tree.specs.Own.{readOwn}
@@ -24,10 +25,10 @@ use Rattle.tree.specs.declared.own.OwnRead.the-variants.{Record, Refused
 
 -- the place behind a trivia item that keeps the layout
 abbrev pub triviumBehind : List ℕ → ℕ → ℕ
-triviumBehind bytes at = cond (eqb (getD bytes at 0) 1) (at + 1) (at + 3 + numberAt bytes (at + 1))
+triviumBehind bytes at = cond (eqb (getD bytes at 0) codes.newline) (at + 1) (at + 3 + numberAt bytes (at + 1))
 
 abbrev pub triviumText : List ℕ → ℕ → List ℕ
-triviumText bytes at = cond (eqb (getD bytes at 0) 1) [] (slice (at + 3) (at + 3 + numberAt bytes (at + 1)) bytes)
+triviumText bytes at = cond (eqb (getD bytes at 0) codes.newline) [] (slice (at + 3) (at + 3 + numberAt bytes (at + 1)) bytes)
 
 -- trivia items, in stored order
 unfoldable pub triviaFrom : List ℕ → ℕ → ℕ → List Trivium

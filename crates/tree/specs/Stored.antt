@@ -6,6 +6,8 @@ use lib.ListN.{length}
 use lib.Dec.{eqb}
 use Rattle.text.specs.Numbers.{twoBytes}
 use Rattle.text.specs.Ink.{flat}
+use Rattle.tree.specs.Kinds as kinds
+use Rattle.tree.specs.Codes as codes
 use Rattle.tree.specs.Tree.{Tree, Trivium, absent, refused, node, nil, cons, Align, Assert, Braces, Config, ConfigPair, Data, Definition, Eof}
 use Rattle.tree.specs.Tree.{Error, Expression, If, Import, File, Instruction, Label, Loop, MacroDefinition, MacroInvocation}
 use Rattle.tree.specs.Tree.{ProgramCounterDefinition, Segment, Test, Text, Trace, VariableDefinition, Vec, Leaf, PathItem, Block}
@@ -14,7 +16,7 @@ use Rattle.tree.specs.Tree.{InterpolatedString, Operand, RegisterSuffix,
 
 -- "each a code (0 whitespace, 1 newline, 2 C style, 3 C++ style) and, but for newline, a two-byte length and bytes"
 abbrev pub storedTrivium : Trivium → List ℕ
-storedTrivium item = cond (eqb (item .code) 1) (1 ∷ []) (item .code ∷ (twoBytes (length (item .text)) ++ item .text))
+storedTrivium item = cond (eqb (item .code) codes.newline) (codes.newline ∷ []) (item .code ∷ (twoBytes (length (item .text)) ++ item .text))
 
 unfoldable pub storedItems : List Trivium → List ℕ
 storedItems [] = []
@@ -50,7 +52,7 @@ storedLeaf number trivia text = storedNode number trivia (storedText text ∷ []
 
 -- "24 list (map 0, two-byte count, the records)"
 abbrev pub storedVec : List Trivium → ℕ → List ℕ → List ℕ
-storedVec trivia count items = 24 ∷ triviaBit trivia ∷ (storedTrivia trivia ++ (twoBytes count ++ items))
+storedVec trivia count items = kinds.vec ∷ triviaBit trivia ∷ (storedTrivia trivia ++ (twoBytes count ++ items))
 
 -- how many items a list has
 unfoldable pub itemCount : Tree → ℕ
@@ -110,53 +112,53 @@ storedWith trivia (refused refusal) = []
 storedWith trivia (node place own tree) = storedWith own tree
 storedWith trivia nil = []
 storedWith trivia (cons item items) = storedWith [] item ++ storedWith [] items
-storedWith trivia (Align tag value) = storedNode 0 trivia (storedWith [] tag ∷ storedWith [] value ∷ [])
-storedWith trivia (Assert tag value failuremessage) = storedNode 1 trivia (storedWith [] tag ∷ storedWith [] value ∷ storedWith [] failuremessage ∷ [])
-storedWith trivia (Braces block) = storedNode 2 trivia (storedWith [] block ∷ [])
-storedWith trivia (Config block) = storedNode 3 trivia (storedWith [] block ∷ [])
-storedWith trivia (ConfigPair key eq value) = storedNode 4 trivia (storedWith [] key ∷ storedWith [] eq ∷ storedWith [] value ∷ [])
-storedWith trivia (Data values size) = storedNode 5 trivia (storedWith [] values ∷ storedWith [] size ∷ [])
-storedWith trivia (Definition tag id value) = storedNode 6 trivia (storedWith [] tag ∷ storedWith [] id ∷ storedWith [] value ∷ [])
-storedWith trivia (Eof unit) = storedNode 7 trivia (storedWith [] unit ∷ [])
-storedWith trivia (Error text) = storedNode 8 trivia (storedWith [] text ∷ [])
-storedWith trivia (Expression expression) = storedNode 9 trivia (storedWith [] expression ∷ [])
+storedWith trivia (Align tag value) = storedNode kinds.align trivia (storedWith [] tag ∷ storedWith [] value ∷ [])
+storedWith trivia (Assert tag value failuremessage) = storedNode kinds.assert trivia (storedWith [] tag ∷ storedWith [] value ∷ storedWith [] failuremessage ∷ [])
+storedWith trivia (Braces block) = storedNode kinds.braces trivia (storedWith [] block ∷ [])
+storedWith trivia (Config block) = storedNode kinds.config trivia (storedWith [] block ∷ [])
+storedWith trivia (ConfigPair key eq value) = storedNode kinds.configPair trivia (storedWith [] key ∷ storedWith [] eq ∷ storedWith [] value ∷ [])
+storedWith trivia (Data values size) = storedNode kinds.«data» trivia (storedWith [] values ∷ storedWith [] size ∷ [])
+storedWith trivia (Definition tag id value) = storedNode kinds.definition trivia (storedWith [] tag ∷ storedWith [] id ∷ storedWith [] value ∷ [])
+storedWith trivia (Eof unit) = storedNode kinds.eof trivia (storedWith [] unit ∷ [])
+storedWith trivia (Error text) = storedNode kinds.error trivia (storedWith [] text ∷ [])
+storedWith trivia (Expression expression) = storedNode kinds.expression trivia (storedWith [] expression ∷ [])
 storedWith trivia (If tagIf value then tagElse otherwise) =
-    storedNode 10 trivia (storedWith [] tagIf ∷ storedWith [] value ∷ storedWith [] then ∷ storedWith [] tagElse ∷ storedWith [] otherwise ∷ [])
-storedWith trivia (Import tag args source filename block) = storedNode 11 trivia (storedWith [] tag ∷ storedWith [] args ∷ storedWith [] source ∷ storedWith [] filename ∷ storedWith [] block ∷ [])
-storedWith trivia (File tag filename) = storedNode 12 trivia (storedWith [] tag ∷ storedWith [] filename ∷ [])
-storedWith trivia (Instruction mnemonic operand) = storedNode 13 trivia (storedWith [] mnemonic ∷ storedWith [] operand ∷ [])
-storedWith trivia (Label id colon block) = storedNode 14 trivia (storedWith [] id ∷ storedWith [] colon ∷ storedWith [] block ∷ [])
-storedWith trivia (Loop tag expr block) = storedNode 15 trivia (storedWith [] tag ∷ storedWith [] expr ∷ storedWith [] block ∷ [])
+    storedNode kinds.if trivia (storedWith [] tagIf ∷ storedWith [] value ∷ storedWith [] then ∷ storedWith [] tagElse ∷ storedWith [] otherwise ∷ [])
+storedWith trivia (Import tag args source filename block) = storedNode kinds.import trivia (storedWith [] tag ∷ storedWith [] args ∷ storedWith [] source ∷ storedWith [] filename ∷ storedWith [] block ∷ [])
+storedWith trivia (File tag filename) = storedNode kinds.file trivia (storedWith [] tag ∷ storedWith [] filename ∷ [])
+storedWith trivia (Instruction mnemonic operand) = storedNode kinds.instruction trivia (storedWith [] mnemonic ∷ storedWith [] operand ∷ [])
+storedWith trivia (Label id colon block) = storedNode kinds.label trivia (storedWith [] id ∷ storedWith [] colon ∷ storedWith [] block ∷ [])
+storedWith trivia (Loop tag expr block) = storedNode kinds.loop trivia (storedWith [] tag ∷ storedWith [] expr ∷ storedWith [] block ∷ [])
 storedWith trivia (MacroDefinition tag id lparen args rparen block) =
-    storedNode 16 trivia (storedWith [] tag ∷ storedWith [] id ∷ storedWith [] lparen ∷ storedWith [] args ∷ storedWith [] rparen
+    storedNode kinds.macroDefinition trivia (storedWith [] tag ∷ storedWith [] id ∷ storedWith [] lparen ∷ storedWith [] args ∷ storedWith [] rparen
     ∷ storedWith [] block ∷ [])
-storedWith trivia (MacroInvocation id lparen args rparen) = storedNode 17 trivia (storedWith [] id ∷ storedWith [] lparen ∷ storedWith [] args ∷ storedWith [] rparen ∷ [])
-storedWith trivia (ProgramCounterDefinition star eq value) = storedNode 18 trivia (storedWith [] star ∷ storedWith [] eq ∷ storedWith [] value ∷ [])
-storedWith trivia (Segment tag id block) = storedNode 19 trivia (storedWith [] tag ∷ storedWith [] id ∷ storedWith [] block ∷ [])
-storedWith trivia (Test tag id block) = storedNode 20 trivia (storedWith [] tag ∷ storedWith [] id ∷ storedWith [] block ∷ [])
-storedWith trivia (Text tag encoding text) = storedNode 21 trivia (storedWith [] tag ∷ storedWith [] encoding ∷ storedWith [] text ∷ [])
-storedWith trivia (Trace tag lparen args rparen) = storedNode 22 trivia (storedWith [] tag ∷ storedWith [] lparen ∷ storedWith [] args ∷ storedWith [] rparen ∷ [])
-storedWith trivia (VariableDefinition ty id eq value) = storedNode 23 trivia (storedWith [] ty ∷ storedWith [] id ∷ storedWith [] eq ∷ storedWith [] value ∷ [])
+storedWith trivia (MacroInvocation id lparen args rparen) = storedNode kinds.macroInvocation trivia (storedWith [] id ∷ storedWith [] lparen ∷ storedWith [] args ∷ storedWith [] rparen ∷ [])
+storedWith trivia (ProgramCounterDefinition star eq value) = storedNode kinds.programCounterDefinition trivia (storedWith [] star ∷ storedWith [] eq ∷ storedWith [] value ∷ [])
+storedWith trivia (Segment tag id block) = storedNode kinds.segment trivia (storedWith [] tag ∷ storedWith [] id ∷ storedWith [] block ∷ [])
+storedWith trivia (Test tag id block) = storedNode kinds.test trivia (storedWith [] tag ∷ storedWith [] id ∷ storedWith [] block ∷ [])
+storedWith trivia (Text tag encoding text) = storedNode kinds.text trivia (storedWith [] tag ∷ storedWith [] encoding ∷ storedWith [] text ∷ [])
+storedWith trivia (Trace tag lparen args rparen) = storedNode kinds.trace trivia (storedWith [] tag ∷ storedWith [] lparen ∷ storedWith [] args ∷ storedWith [] rparen ∷ [])
+storedWith trivia (VariableDefinition ty id eq value) = storedNode kinds.variableDefinition trivia (storedWith [] ty ∷ storedWith [] id ∷ storedWith [] eq ∷ storedWith [] value ∷ [])
 storedWith trivia (Vec items) = storedVec trivia (itemCount items) (storedWith [] items)
-storedWith trivia (Leaf text) = storedLeaf 25 trivia text
-storedWith trivia (PathItem text) = storedLeaf 26 trivia text
-storedWith trivia (Block lparen inner rparen) = storedNode 27 trivia (storedWith [] lparen ∷ storedWith [] inner ∷ storedWith [] rparen ∷ [])
-storedWith trivia (BinaryExpression op lhs rhs) = storedNode 28 trivia (storedWith [] op ∷ storedWith [] lhs ∷ storedWith [] rhs ∷ [])
-storedWith trivia (Factor factor tagnot tagneg) = storedNode 29 trivia (storedWith [] factor ∷ storedWith [] tagnot ∷ storedWith [] tagneg ∷ [])
-storedWith trivia (CurrentProgramCounter star) = storedNode 30 trivia (storedWith [] star ∷ [])
-storedWith trivia (ExprParens lparen inner rparen) = storedNode 31 trivia (storedWith [] lparen ∷ storedWith [] inner ∷ storedWith [] rparen ∷ [])
-storedWith trivia (FunctionCall name lparen args rparen) = storedNode 32 trivia (storedWith [] name ∷ storedWith [] lparen ∷ storedWith [] args ∷ storedWith [] rparen ∷ [])
-storedWith trivia (IdentifierValue path modifier) = storedNode 33 trivia (storedWith [] path ∷ storedWith [] modifier ∷ [])
-storedWith trivia (Number ty value) = storedNode 34 trivia (storedWith [] ty ∷ storedWith [] value ∷ [])
-storedWith trivia (StringFactor string) = storedNode 35 trivia (storedWith [] string ∷ [])
-storedWith trivia (InterpolatedString lquote items) = storedNode 36 trivia (storedWith [] lquote ∷ storedWith [] items ∷ [])
+storedWith trivia (Leaf text) = storedLeaf kinds.leaf trivia text
+storedWith trivia (PathItem text) = storedLeaf kinds.pathItem trivia text
+storedWith trivia (Block lparen inner rparen) = storedNode kinds.block trivia (storedWith [] lparen ∷ storedWith [] inner ∷ storedWith [] rparen ∷ [])
+storedWith trivia (BinaryExpression op lhs rhs) = storedNode kinds.binaryExpression trivia (storedWith [] op ∷ storedWith [] lhs ∷ storedWith [] rhs ∷ [])
+storedWith trivia (Factor factor tagnot tagneg) = storedNode kinds.factor trivia (storedWith [] factor ∷ storedWith [] tagnot ∷ storedWith [] tagneg ∷ [])
+storedWith trivia (CurrentProgramCounter star) = storedNode kinds.currentProgramCounter trivia (storedWith [] star ∷ [])
+storedWith trivia (ExprParens lparen inner rparen) = storedNode kinds.exprParens trivia (storedWith [] lparen ∷ storedWith [] inner ∷ storedWith [] rparen ∷ [])
+storedWith trivia (FunctionCall name lparen args rparen) = storedNode kinds.functionCall trivia (storedWith [] name ∷ storedWith [] lparen ∷ storedWith [] args ∷ storedWith [] rparen ∷ [])
+storedWith trivia (IdentifierValue path modifier) = storedNode kinds.identifierValue trivia (storedWith [] path ∷ storedWith [] modifier ∷ [])
+storedWith trivia (Number ty value) = storedNode kinds.number trivia (storedWith [] ty ∷ storedWith [] value ∷ [])
+storedWith trivia (StringFactor string) = storedNode kinds.stringFactor trivia (storedWith [] string ∷ [])
+storedWith trivia (InterpolatedString lquote items) = storedNode kinds.interpolatedString trivia (storedWith [] lquote ∷ storedWith [] items ∷ [])
 storedWith trivia (Operand expr lchar rchar addressingmode suffix) =
-    storedNode 37 trivia (storedWith [] expr ∷ storedWith [] lchar ∷ storedWith [] rchar ∷ storedWith [] addressingmode ∷ storedWith [] suffix ∷ [])
-storedWith trivia (RegisterSuffix comma register) = storedNode 38 trivia (storedWith [] comma ∷ storedWith [] register ∷ [])
-storedWith trivia (ImportAs tag path) = storedNode 39 trivia (storedWith [] tag ∷ storedWith [] path ∷ [])
-storedWith trivia (ImportAll star alias) = storedNode 40 trivia (storedWith [] star ∷ storedWith [] alias ∷ [])
-storedWith trivia (SpecificImportArg path alias) = storedNode 41 trivia (storedWith [] path ∷ storedWith [] alias ∷ [])
-storedWith trivia (ArgItem value comma) = storedNode 42 trivia (storedWith [] value ∷ storedWith [] comma ∷ [])
+    storedNode kinds.operand trivia (storedWith [] expr ∷ storedWith [] lchar ∷ storedWith [] rchar ∷ storedWith [] addressingmode ∷ storedWith [] suffix ∷ [])
+storedWith trivia (RegisterSuffix comma register) = storedNode kinds.registerSuffix trivia (storedWith [] comma ∷ storedWith [] register ∷ [])
+storedWith trivia (ImportAs tag path) = storedNode kinds.importAs trivia (storedWith [] tag ∷ storedWith [] path ∷ [])
+storedWith trivia (ImportAll star alias) = storedNode kinds.importAll trivia (storedWith [] star ∷ storedWith [] alias ∷ [])
+storedWith trivia (SpecificImportArg path alias) = storedNode kinds.specificImportArg trivia (storedWith [] path ∷ storedWith [] alias ∷ [])
+storedWith trivia (ArgItem value comma) = storedNode kinds.argItem trivia (storedWith [] value ∷ storedWith [] comma ∷ [])
 
 abbrev pub stored : Tree → List ℕ
 stored tree = storedWith [] tree

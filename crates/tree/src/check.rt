@@ -1,4 +1,5 @@
 // The check of a whole tree, in one pass.
+use crate::codes;
 use crate::grammar;
 use crate::grammar::Class;
 use crate::grammar::Items;
@@ -139,7 +140,7 @@ fn fault_in_trivia(tree: &[u8], at: usize, count: usize, fault: usize) -> usize
     let mut left = count;
     let mut found = fault;
     while 0 < left {
-        if tree[place] == 1 {
+        if tree[place] == codes::NEWLINE {
             place += 1;
         } else {
             let length = numbers::wide(tree[place + 1]) + 256 * numbers::wide(tree[place + 2]);

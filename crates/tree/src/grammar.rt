@@ -1,9 +1,18 @@
 // The grammar of a stored tree: the kinds of records, and what may stand in a field.
+use crate::kinds;
+use text::characters;
 ghost use mathlib.Core.Path.{_≡_};
 ghost use Prim.Native.Nat.{_<_};
 ghost use Rattle.tree.specs.Grammar;
 ghost use Rattle.tree.specs.Rows.{classNumber, classOf, rowOf};
 ghost use Rattle.tree.specs.Walk.{SetOf};
+
+// The braces of a block and the colon of a label, as wide as the bounds of a text.
+const OPENING_BRACE: usize = characters::OPENING_BRACE as usize;
+
+const CLOSING_BRACE: usize = characters::CLOSING_BRACE as usize;
+
+const COLON: usize = characters::COLON as usize;
 
 // The kinds of records, in the order of their numbers 0 to 42.
 pub enum Kind {
@@ -162,8 +171,8 @@ fn leaf(located: bool, text: TextRule) -> Rule
     ensures { λ r. ⌜ r ≡ Grammar.leaf located text ⌝ }
 {
     Rule {
-        first: 25,
-        last: 25,
+        first: kinds::LEAF,
+        last: kinds::LEAF,
         located: located,
         text: text,
         items: Items::NoList,
@@ -189,8 +198,8 @@ fn argument(value: Class) -> Rule
     ensures { λ r. ⌜ r ≡ Grammar.argument value ⌝ }
 {
     Rule {
-        first: 42,
-        last: 42,
+        first: kinds::ARG_ITEM,
+        last: kinds::ARG_ITEM,
         located: false,
         text: TextRule::NoText,
         items: Items::NoList,
@@ -203,8 +212,8 @@ fn list_of(class: Class) -> Rule
     ensures { λ r. ⌜ r ≡ Grammar.listOf class ⌝ }
 {
     Rule {
-        first: 24,
-        last: 24,
+        first: kinds::VEC,
+        last: kinds::VEC,
         located: false,
         text: TextRule::NoText,
         items: Items::ListOf(class),
@@ -219,9 +228,9 @@ pub(crate) fn rule_of(class: Class) -> Rule
     match class {
         Class::Word => leaf(true, TextRule::Free),
         Class::Char => leaf(true, TextRule::Byte(0, 255)),
-        Class::OpenBrace => leaf(true, TextRule::Byte(123, 123)),
-        Class::CloseBrace => leaf(true, TextRule::Byte(125, 125)),
-        Class::Colon => leaf(true, TextRule::Byte(58, 58)),
+        Class::OpenBrace => leaf(true, TextRule::Byte(OPENING_BRACE, OPENING_BRACE)),
+        Class::CloseBrace => leaf(true, TextRule::Byte(CLOSING_BRACE, CLOSING_BRACE)),
+        Class::Colon => leaf(true, TextRule::Byte(COLON, COLON)),
         Class::Unit => leaf(true, TextRule::NoText),
         Class::Mnemonic => leaf(true, TextRule::Byte(0, 55)),
         Class::IndexRegister => leaf(true, TextRule::Byte(0, 1)),
@@ -233,32 +242,36 @@ pub(crate) fn rule_of(class: Class) -> Rule
         Class::TextEncoding => leaf(true, TextRule::Byte(0, 3)),
         Class::AddressingMode => leaf(false, TextRule::Byte(0, 4)),
         Class::StringItem => Rule {
-            first: 25,
-            last: 26,
+            first: kinds::LEAF,
+            last: kinds::PATH_ITEM,
             located: false,
             text: TextRule::Free,
             items: Items::NoList,
             value: Class::LocatedExpression,
         },
-        Class::LocatedExpression => nodes(28, 29, true),
-        Class::BareExpression => nodes(28, 29, false),
-        Class::LocatedFactor => nodes(30, 35, true),
-        Class::BareToken => nodes(0, 23, false),
-        Class::LocatedToken => nodes(0, 23, true),
-        Class::BlockRecord => nodes(27, 27, false),
-        Class::StringRecord => nodes(36, 36, false),
-        Class::OperandRecord => nodes(37, 37, false),
-        Class::SuffixRecord => nodes(38, 38, false),
-        Class::AsRecord => nodes(39, 39, false),
+        Class::LocatedExpression => nodes(kinds::BINARY_EXPRESSION, kinds::FACTOR, true),
+        Class::BareExpression => nodes(kinds::BINARY_EXPRESSION, kinds::FACTOR, false),
+        Class::LocatedFactor => nodes(kinds::CURRENT_PROGRAM_COUNTER, kinds::STRING_FACTOR, true),
+        Class::BareToken => nodes(kinds::ALIGN, kinds::VARIABLE_DEFINITION, false),
+        Class::LocatedToken => nodes(kinds::ALIGN, kinds::VARIABLE_DEFINITION, true),
+        Class::BlockRecord => nodes(kinds::BLOCK, kinds::BLOCK, false),
+        Class::StringRecord => nodes(
+            kinds::INTERPOLATED_STRING,
+            kinds::INTERPOLATED_STRING,
+            false,
+        ),
+        Class::OperandRecord => nodes(kinds::OPERAND, kinds::OPERAND, false),
+        Class::SuffixRecord => nodes(kinds::REGISTER_SUFFIX, kinds::REGISTER_SUFFIX, false),
+        Class::AsRecord => nodes(kinds::IMPORT_AS, kinds::IMPORT_AS, false),
         Class::ImportArguments => Rule {
-            first: 40,
-            last: 40,
+            first: kinds::IMPORT_ALL,
+            last: kinds::IMPORT_ALL,
             located: false,
             text: TextRule::NoText,
             items: Items::ListOf(Class::ImportArgument),
             value: Class::LocatedExpression,
         },
-        Class::ImportPath => nodes(41, 41, true),
+        Class::ImportPath => nodes(kinds::SPECIFIC_IMPORT_ARG, kinds::SPECIFIC_IMPORT_ARG, true),
         Class::ExpressionArgument => argument(Class::LocatedExpression),
         Class::IdentifierArgument => argument(Class::Word),
         Class::ImportArgument => argument(Class::ImportPath),
@@ -274,49 +287,49 @@ pub(crate) fn kind_of(byte: usize) -> KindRead
     ensures { λ r. ⌜ r ≡ Grammar.kindOf byte ⌝ }
 {
     match byte {
-        0 => KindRead::Known(Kind::Align),
-        1 => KindRead::Known(Kind::Assert),
-        2 => KindRead::Known(Kind::Braces),
-        3 => KindRead::Known(Kind::Config),
-        4 => KindRead::Known(Kind::ConfigPair),
-        5 => KindRead::Known(Kind::Data),
-        6 => KindRead::Known(Kind::Definition),
-        7 => KindRead::Known(Kind::Eof),
-        8 => KindRead::Known(Kind::Error),
-        9 => KindRead::Known(Kind::Expression),
-        10 => KindRead::Known(Kind::If),
-        11 => KindRead::Known(Kind::Import),
-        12 => KindRead::Known(Kind::File),
-        13 => KindRead::Known(Kind::Instruction),
-        14 => KindRead::Known(Kind::Label),
-        15 => KindRead::Known(Kind::Loop),
-        16 => KindRead::Known(Kind::MacroDefinition),
-        17 => KindRead::Known(Kind::MacroInvocation),
-        18 => KindRead::Known(Kind::ProgramCounterDefinition),
-        19 => KindRead::Known(Kind::Segment),
-        20 => KindRead::Known(Kind::Test),
-        21 => KindRead::Known(Kind::Text),
-        22 => KindRead::Known(Kind::Trace),
-        23 => KindRead::Known(Kind::VariableDefinition),
-        24 => KindRead::Known(Kind::Vec),
-        25 => KindRead::Known(Kind::Leaf),
-        26 => KindRead::Known(Kind::PathItem),
-        27 => KindRead::Known(Kind::Block),
-        28 => KindRead::Known(Kind::BinaryExpression),
-        29 => KindRead::Known(Kind::Factor),
-        30 => KindRead::Known(Kind::CurrentProgramCounter),
-        31 => KindRead::Known(Kind::ExprParens),
-        32 => KindRead::Known(Kind::FunctionCall),
-        33 => KindRead::Known(Kind::IdentifierValue),
-        34 => KindRead::Known(Kind::Number),
-        35 => KindRead::Known(Kind::StringFactor),
-        36 => KindRead::Known(Kind::InterpolatedString),
-        37 => KindRead::Known(Kind::Operand),
-        38 => KindRead::Known(Kind::RegisterSuffix),
-        39 => KindRead::Known(Kind::ImportAs),
-        40 => KindRead::Known(Kind::ImportAll),
-        41 => KindRead::Known(Kind::SpecificImportArg),
-        42 => KindRead::Known(Kind::ArgItem),
+        kinds::ALIGN => KindRead::Known(Kind::Align),
+        kinds::ASSERT => KindRead::Known(Kind::Assert),
+        kinds::BRACES => KindRead::Known(Kind::Braces),
+        kinds::CONFIG => KindRead::Known(Kind::Config),
+        kinds::CONFIG_PAIR => KindRead::Known(Kind::ConfigPair),
+        kinds::DATA => KindRead::Known(Kind::Data),
+        kinds::DEFINITION => KindRead::Known(Kind::Definition),
+        kinds::EOF => KindRead::Known(Kind::Eof),
+        kinds::ERROR => KindRead::Known(Kind::Error),
+        kinds::EXPRESSION => KindRead::Known(Kind::Expression),
+        kinds::IF => KindRead::Known(Kind::If),
+        kinds::IMPORT => KindRead::Known(Kind::Import),
+        kinds::FILE => KindRead::Known(Kind::File),
+        kinds::INSTRUCTION => KindRead::Known(Kind::Instruction),
+        kinds::LABEL => KindRead::Known(Kind::Label),
+        kinds::LOOP => KindRead::Known(Kind::Loop),
+        kinds::MACRO_DEFINITION => KindRead::Known(Kind::MacroDefinition),
+        kinds::MACRO_INVOCATION => KindRead::Known(Kind::MacroInvocation),
+        kinds::PROGRAM_COUNTER_DEFINITION => KindRead::Known(Kind::ProgramCounterDefinition),
+        kinds::SEGMENT => KindRead::Known(Kind::Segment),
+        kinds::TEST => KindRead::Known(Kind::Test),
+        kinds::TEXT => KindRead::Known(Kind::Text),
+        kinds::TRACE => KindRead::Known(Kind::Trace),
+        kinds::VARIABLE_DEFINITION => KindRead::Known(Kind::VariableDefinition),
+        kinds::VEC => KindRead::Known(Kind::Vec),
+        kinds::LEAF => KindRead::Known(Kind::Leaf),
+        kinds::PATH_ITEM => KindRead::Known(Kind::PathItem),
+        kinds::BLOCK => KindRead::Known(Kind::Block),
+        kinds::BINARY_EXPRESSION => KindRead::Known(Kind::BinaryExpression),
+        kinds::FACTOR => KindRead::Known(Kind::Factor),
+        kinds::CURRENT_PROGRAM_COUNTER => KindRead::Known(Kind::CurrentProgramCounter),
+        kinds::EXPR_PARENS => KindRead::Known(Kind::ExprParens),
+        kinds::FUNCTION_CALL => KindRead::Known(Kind::FunctionCall),
+        kinds::IDENTIFIER_VALUE => KindRead::Known(Kind::IdentifierValue),
+        kinds::NUMBER => KindRead::Known(Kind::Number),
+        kinds::STRING_FACTOR => KindRead::Known(Kind::StringFactor),
+        kinds::INTERPOLATED_STRING => KindRead::Known(Kind::InterpolatedString),
+        kinds::OPERAND => KindRead::Known(Kind::Operand),
+        kinds::REGISTER_SUFFIX => KindRead::Known(Kind::RegisterSuffix),
+        kinds::IMPORT_AS => KindRead::Known(Kind::ImportAs),
+        kinds::IMPORT_ALL => KindRead::Known(Kind::ImportAll),
+        kinds::SPECIFIC_IMPORT_ARG => KindRead::Known(Kind::SpecificImportArg),
+        kinds::ARG_ITEM => KindRead::Known(Kind::ArgItem),
         _ => KindRead::Unknown,
     }
 }

@@ -1,4 +1,5 @@
 // A record's own bytes: kind, map, trivia, and a list's count or a leaf's text.
+use crate::codes;
 use crate::grammar;
 use crate::grammar::Class;
 use crate::grammar::Items;
@@ -6,6 +7,7 @@ use crate::grammar::Kind;
 use crate::grammar::KindRead;
 use crate::grammar::Rule;
 use crate::grammar::TextRule;
+use crate::kinds;
 use answers::Reason;
 use answers::Refusal;
 use text::numbers;
@@ -15,6 +17,7 @@ ghost use Prim.Native.Nat.{ℕ, _<_};
 ghost use mathlib.Core.Bool.{_&&_, _||_};
 ghost use lib.Dec.{eqb, leb};
 ghost use lib.ListN.{length};
+ghost use Rattle.tree.specs.Kinds as kinds;
 ghost use Rattle.tree.specs.Grammar.{fields};
 ghost use Rattle.tree.specs.Own.{sizedEnd, triviumEnd, triviaEnd, fieldsFit, textFits, elseFits, triviaFits, mapFits, mayStand, triviaRead, textEnd, layout, ownOf, restOf, ownAt, readOwn, Fits, refusalOf};
 ghost use Rattle.tree.specs.Own.{numbersOwn, ownNumbers};
@@ -66,10 +69,10 @@ pub(crate) fn trivium_end(tree: &[u8], at: usize) -> Span
         return Span::Broken;
     }
     let code = tree[at];
-    if code == 1 {
+    if code == codes::NEWLINE {
         return Span::Behind(at + 1);
     }
-    if 3 < code {
+    if codes::CPP_STYLE < code {
         return Span::Broken;
     }
     sized_end(tree, at + 1)
@@ -119,7 +122,7 @@ fn text_fits(rule: TextRule, bits: usize) -> bool
 fn else_fits(number: usize, bits: usize) -> bool
     ensures { λ r. ⌜ r ≡ elseFits number bits ⌝ }
 {
-    if number != 10 {
+    if number != kinds::IF {
         return true;
     }
     bits / 8 % 2 == bits / 16 % 2
@@ -135,7 +138,7 @@ fn trivia_fits(rule: Rule, number: usize, map: usize) -> bool
     if rule.located {
         return true;
     }
-    number == 26
+    number == kinds::PATH_ITEM
 }
 
 // Whether a map is right for a record.
@@ -145,16 +148,16 @@ fn map_fits(rule: Rule, number: usize, kind: Kind, map: usize) -> bool
 {
     let text = rule.text;
     let bits = map / 2;
-    if number == 24 {
+    if number == kinds::VEC {
         return map == 0;
     }
     if !trivia_fits(rule, number, map) {
         return false;
     }
-    if number == 25 {
+    if number == kinds::LEAF {
         return text_fits(text, bits);
     }
-    if number == 26 {
+    if number == kinds::PATH_ITEM {
         return text_fits(text, bits);
     }
     if !else_fits(number, bits) {
@@ -168,7 +171,7 @@ fn may_stand(rule: Rule, number: usize) -> bool
     ensures { λ r. ⌜ r ≡ mayStand rule number ⌝ }
 {
     let items = rule.items;
-    if number == 24 {
+    if number == kinds::VEC {
         if let Items::ListOf(_) = items {
             return true;
         }
@@ -272,12 +275,12 @@ fn layout(place: usize) -> OwnRead
 
 // Whether a text stands: of a leaf or a path item, where the map has its bit.
 fn has_text(number: usize, map: usize) -> bool
-    ensures { λ r. ⌜ r ≡ ((eqb number 25 || eqb number 26) && leb 2 map) ⌝ }
+    ensures { λ r. ⌜ r ≡ ((eqb number kinds.leaf || eqb number kinds.pathItem) && leb 2 map) ⌝ }
 {
-    if number == 25 {
+    if number == kinds::LEAF {
         return 2 <= map;
     }
-    if number == 26 {
+    if number == kinds::PATH_ITEM {
         return 2 <= map;
     }
     false
@@ -309,7 +312,7 @@ fn read_rest(tree: &[u8], text: TextRule, number: usize, map: usize, trivia: Tri
     ensures { λ r. ⌜ ((at : ℕ) (kind : Kind) → restOn at kind map trivia r ≡ restOf (now (tree .entry)) at text number kind map trivia) ⌝ }
 {
     let behind = trivia.end;
-    if number == 24 {
+    if number == kinds::VEC {
         let read = numbers::read_number(tree, behind);
         let Number::Read(count) = read else {
             return RestRead::BrokenRest;
@@ -360,6 +363,9 @@ pub(crate) enum OwnFound {
     NotFound,
 }
 
+// The kind byte of a leaf.
+const LEAF: u8 = kinds::LEAF as u8;
+
 // The place behind a leaf that has a text and no trivia; broken where anything else stands, or what may not stand there.
 fn bare_leaf_end(tree: &[u8], at: usize, class: Class) -> Span
     requires { ⌜ at < length (now tree) ⌝ }
@@ -368,7 +374,7 @@ fn bare_leaf_end(tree: &[u8], at: usize, class: Class) -> Span
     if tree.len() - at < 2 {
         return Span::Broken;
     }
-    if tree[at] != 25 {
+    if tree[at] != LEAF {
         return Span::Broken;
     }
     if tree[at + 1] != 2 {
@@ -376,7 +382,7 @@ fn bare_leaf_end(tree: &[u8], at: usize, class: Class) -> Span
     }
     let rule = grammar::rule_of(class);
     let text = rule.text;
-    if !may_stand(rule, 25) {
+    if !may_stand(rule, kinds::LEAF) {
         return Span::Broken;
     }
     text_end(tree, at + 2, text)

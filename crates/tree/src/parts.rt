@@ -1,9 +1,11 @@
 // What the walk over a tree reads beside the records' own bytes: the place behind a record, a trivia item, and a token's head.
 use crate::check;
 use crate::check::RecordRead;
+use crate::codes;
 use crate::grammar;
 use crate::grammar::Class;
 use crate::grammar::Kind;
+use crate::kinds;
 use crate::own;
 use crate::own::Own;
 use crate::own::OwnRead;
@@ -84,7 +86,7 @@ pub fn trivium_at(tree: &[u8], at: usize) -> TriviumRead
         return TriviumRead::BrokenItem;
     };
     let code = tree[at];
-    if code == 1 {
+    if code == codes::NEWLINE {
         return TriviumRead::Item(TriviumSpan {
             code: code,
             start: end,
@@ -132,11 +134,11 @@ fn field_head(tree: &[u8], number: usize, class: Class, own: Own, levels: usize)
 {
     let kind = own.kind;
     let place = own.end;
-    if number == 5 {
+    if number == kinds::DATA {
         let values = skip(tree, place, Class::ExpressionArguments, levels - 1);
         return second_field(values, Class::DataSize, levels - 1);
     }
-    if number == 28 {
+    if number == kinds::BINARY_EXPRESSION {
         let op = skip(tree, place, Class::BinaryOp, levels - 1);
         return second_field(op, Class::LocatedExpression, levels - 1);
     }
@@ -180,10 +182,10 @@ pub fn head_behind(tree: &[u8], at: usize, class: Class, levels: usize, own: Own
         return no_head(at);
     }
     let number = numbers::wide(tree[at]);
-    if number == 2 || number == 3 {
+    if number == kinds::BRACES || number == kinds::CONFIG {
         return inner_head(tree, own.end, Class::BlockRecord, levels - 1);
     }
-    if number == 9 {
+    if number == kinds::EXPRESSION {
         return inner_head(tree, own.end, Class::BareExpression, levels - 1);
     }
     field_head(tree, number, class, own, levels)

@@ -1,6 +1,6 @@
 -- A sample tree of every kind is stored as its bytes, its bytes are accepted, and the tree is read back from them, by computing.
 --   samples-stored : map found samples ≡ map wanted samples
---   every-kind : map (λ sample. kindOf (sample .number)) samples ≡ map Known kinds
+--   every-kind : map (λ sample. kindOf (sample .number)) samples ≡ map Known allKinds
 use mathlib.Core.Path.{_≡_, refl}
 use mathlib.Core.List.{List, map}
 use Prim.Native.Nat.{ℕ}
@@ -9,7 +9,7 @@ use Rattle.answers.specs.declared.Checked.{Checked}
 use Rattle.answers.specs.declared.Checked.the-variants.{Passed}
 use Rattle.text.specs.Accepted.{acceptedByte, acceptedText}
 use Rattle.text.specs.Ink.{flat}
-use Rattle.tree.specs.Grammar.{kinds, kindOf}
+use Rattle.tree.specs.Grammar.{allKinds, kindOf}
 use Rattle.tree.specs.Tree.{Tree, chain, built}
 use Rattle.tree.specs.Own.{fieldsFit, mapFits, sizedEnd, triviumEnd, triviaEnd, triviaRead, textEnd, restOf, ownAt, readOwn}
 use Rattle.tree.specs.Reading.{triviaFrom, triviaTexts, fieldsDue, partsDue, readParts, read}
@@ -31,5 +31,5 @@ unfolding treeChecked textsChecked read readParts partsDue fieldsDue triviaFrom 
 samples-stored = refl
 
 -- no kind is missing
-pub every-kind : map (λ sample. kindOf (sample .number)) samples ≡ map Known kinds
+pub every-kind : map (λ sample. kindOf (sample .number)) samples ≡ map Known allKinds
 every-kind = refl

@@ -12,7 +12,7 @@ use Rattle.text.specs.Numbers.{twoBytes}
 use Rattle.text.specs.Accepted.{acceptedByte, acceptedText}
 use Rattle.text.specs.Ink.{flat}
 use Rattle.text.proofs.Choices.{cond-both, and-true-left, and-true-right}
-use Rattle.tree.specs.Grammar.{Slot, kinds, kindOf, rule, fields}
+use Rattle.tree.specs.Grammar.{Slot, allKinds, kindOf, rule, fields}
 use Rattle.tree.specs.Tree.{Tree, Trivium, built}
 use Rattle.tree.specs.Reading.{slotClass}
 use Rattle.tree.specs.Stored.{storedTrivium, storedItems, storedTrivia, triviaBit, partBits, storedText, storedNode, storedLeaf, storedWith, stored}
@@ -109,7 +109,7 @@ known-kind test (here ∷ others) (suc number) kind all known =
 -- a kind has a small number and six fields at the most
 kind-small : (number : ℕ) (kind : Kind) (value : Class) → kindOf number ≡ Known kind → (length (fields kind value) ≤ 6) × (number < 256)
 kind-small number kind value known =
-    let found = known-kind (λ kind. leb (length (fields kind value)) 6) kinds number kind refl known in
+    let found = known-kind (λ kind. leb (length (fields kind value)) 6) allKinds number kind refl known in
     (leb-true _ _ (found .0), omega (arith, found .1))
 
 -- so many bits

@@ -7,6 +7,7 @@ use mathlib.Core.Bool.{Bool, true}
 use mathlib.Core.Logic.{_⊎_}
 use lib.ListN.{length, getD}
 use Rattle.text.specs.Accepted.{acceptedText}
+use Rattle.tree.specs.Codes as codes
 use Rattle.tree.specs.Grammar.{Slot, may, kindOf, rule, fields}
 use Rattle.tree.specs.Tree.{Tree, Trivium, absent, node, Vec, Leaf, PathItem, chain, built}
 use Rattle.tree.specs.Reading.{slotClass}
@@ -23,8 +24,8 @@ use Rattle.tree.specs.declared.grammar.Items.the-variants.{ListOf}
 
 -- "each a code (0 whitespace, 1 newline, 2 C style, 3 C++ style) and, but for newline, a two-byte length and bytes"; "Only texts of bytes 0 to 127 are accepted."
 pub record TriviumFits (item : Trivium) : Type 0 where
-  pub code : item .code ≤ 3
-  pub newline : item .code ≡ 1 → item .text ≡ []
+  pub code : item .code ≤ codes.cppStyle
+  pub newline : item .code ≡ codes.newline → item .text ≡ []
   pub long : length (item .text) ≤ 65535
   pub accepted : acceptedText (item .text) ≡ true
 

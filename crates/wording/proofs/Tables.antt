@@ -11,7 +11,7 @@ use Rattle.text.specs.Literals.{ascii}
 use Rattle.text.proofs.Parts.{part-slice}
 use Rattle.leaves.specs.Texts.{cuts}
 use Rattle.wording.specs.Lines.{Line, puts, say}
-use Rattle.wording.specs.Names.{reasons, tokenKinds, partKinds, codes}
+use Rattle.wording.specs.Names.{reasons, tokenKinds, partKinds, triviaNames}
 
 -- a text stands between its place and the next
 cut-between : (texts places : List ℕ) (index : ℕ) → suc index < length places → getD (cuts texts places) index [] ≡ slice (getD places index 0) (getD places (suc index) 0) texts
@@ -61,6 +61,6 @@ pub part-texts : cuts
 unfolding cuts ascii partKinds
 part-texts = refl
 
-pub code-texts : cuts (ascii "whitespacenewlinecommentline comment") (0 ∷ 10 ∷ 17 ∷ 24 ∷ 36 ∷ []) ≡ map ascii codes
-unfolding cuts ascii codes
+pub code-texts : cuts (ascii "whitespacenewlinecommentline comment") (0 ∷ 10 ∷ 17 ∷ 24 ∷ 36 ∷ []) ≡ map ascii triviaNames
+unfolding cuts ascii triviaNames
 code-texts = refl

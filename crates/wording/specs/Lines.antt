@@ -6,6 +6,7 @@ use mathlib.Core.Bool.{cond, _||_}
 use lib.ListN.{length, getD, replicate}
 use lib.Seq.{sets}
 use lib.Dec.{eqb, ltb}
+use Rattle.text.specs.Characters as characters
 use Rattle.text.specs.Stores.{fits}
 unfoldable pub use Rattle.text.specs.Literals.{ascii}
 
@@ -31,7 +32,7 @@ abbrev pub say : String → List (List ℕ)
 say text = ascii text ∷ []
 
 abbrev pub spaces : ℕ → List (List ℕ)
-spaces count = replicate count 32 ∷ []
+spaces count = replicate count characters.space ∷ []
 
 -- the last digits of a number in decimal, at most so many, a piece each
 unfoldable pub digits : ℕ → ℕ → List (List ℕ)
@@ -49,13 +50,13 @@ coded byte = 92 ∷ 120 ∷ getD (ascii "0123456789abcdef") (byte / 16) 0 ∷ ge
 -- a byte as a person reads it: a newline as `\n`, a quote and a backslash behind a backslash, and what is no visible character by its number
 unfoldable pub shown : ℕ → List ℕ
 shown byte =
-    cond (eqb byte 10) (92 ∷ 110 ∷ [])
-    (cond (eqb byte 34) (92 ∷ 34 ∷ [])
+    cond (eqb byte characters.newline) (92 ∷ 110 ∷ [])
+    (cond (eqb byte characters.quote) (92 ∷ characters.quote ∷ [])
     (cond (eqb byte 92) (92 ∷ 92 ∷ [])
     (cond (ltb byte 32 || ltb 126 byte) (coded byte) (byte ∷ []))))
 
 abbrev pub quote : List (List ℕ)
-quote = (34 ∷ []) ∷ []
+quote = (characters.quote ∷ []) ∷ []
 
 -- a text in quotes
 abbrev pub quoted : List ℕ → List (List ℕ)

@@ -5,6 +5,8 @@ use mathlib.Core.List.{List, [], _∷_, _++_}
 use mathlib.Core.Bool.{cond}
 use lib.ListN.{length}
 use lib.Dec.{eqb, ltb, leb}
+use Rattle.tree.specs.Kinds as kinds
+use Rattle.tree.specs.Codes as codes
 use Rattle.tree.specs.Tree.{Trivium}
 use Rattle.tree.specs.declared.own.Own.{Own}
 use Rattle.leaves.specs.Items.{itemsAt}
@@ -21,13 +23,20 @@ unfoldable pub letters : ℕ → ℕ → ℕ → List (List ℕ)
 letters zero place bits = []
 letters (suc left) place bits = letter place (bits % 2) ++ letters left (place + 1) (bits / 2)
 
+-- the bits of (f) and (g) among a record's letters
+abbrev pub registerLetter : ℕ
+registerLetter = 32
+
+abbrev pub expressionHead : ℕ
+expressionHead = 64
+
 -- what becomes of it: (f) alone is kept, (g) alone printed twice, all else dropped
 unfoldable pub fate : ℕ → String
-fate bits = cond (eqb bits 32) " kept" (cond (eqb bits 64) " printed twice" " dropped")
+fate bits = cond (eqb bits registerLetter) " kept" (cond (eqb bits expressionHead) " printed twice" " dropped")
 
 -- the text of a comment; whitespace and newlines have none
 unfoldable pub comment : Trivium → List (List ℕ)
-comment item = cond (ltb (item .code) 2) [] (say " " ++ quoted (item .text))
+comment item = cond (ltb (item .code) codes.cStyle) [] (say " " ++ quoted (item .text))
 
 unfoldable pub comments : List Trivium → List (List ℕ)
 comments [] = []
@@ -35,7 +44,7 @@ comments (item ∷ items) = comment item ++ comments items
 
 -- the closing character itself, for (h)
 unfoldable pub closing : List ℕ → ℕ → Own → List (List ℕ)
-closing tree bit own = cond (eqb bit 1) (content tree 25 Text own) []
+closing tree bit own = cond (eqb bit 1) (content tree kinds.leaf Text own) []
 
 -- a loss's line: its record's offset, the letters (a) to (h) of its places, the texts that stand there, and what becomes of them
 unfoldable pub lossPieces : List ℕ → ℕ → ℕ → Own → List (List ℕ)

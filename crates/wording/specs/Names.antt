@@ -5,6 +5,7 @@ use mathlib.Core.List.{List, [], _∷_}
 use mathlib.Core.Bool.{cond}
 use lib.ListN.{getD}
 use lib.Dec.{ltb}
+use Rattle.tree.specs.Kinds as kinds
 use Rattle.chunks.specs.declared.stored.ChunkType.{ChunkType}
 use Rattle.chunks.specs.declared.stored.ChunkType.the-variants.{Code, Label, Comment}
 
@@ -28,11 +29,11 @@ partKinds =
     "ImportArgs::All" ∷ "SpecificImportArg" ∷ "ArgItem" ∷ []
 
 abbrev pub kindName : ℕ → String
-kindName number = cond (ltb number 24) (getD tokenKinds number "") (getD partKinds (number - 24) "")
+kindName number = cond (ltb number kinds.vec) (getD tokenKinds number "") (getD partKinds (number - kinds.vec) "")
 
 -- trivia by their codes
-unfoldable pub codes : List String
-codes = "whitespace" ∷ "newline" ∷ "comment" ∷ "line comment" ∷ []
+unfoldable pub triviaNames : List String
+triviaNames = "whitespace" ∷ "newline" ∷ "comment" ∷ "line comment" ∷ []
 
 abbrev pub typeName : ChunkType → String
 typeName Code = "code"

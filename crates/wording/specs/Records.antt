@@ -5,13 +5,15 @@ use mathlib.Core.Bool.{cond, _&&_}
 use lib.ListN.{length, getD}
 use lib.Seq.{slice}
 use lib.Dec.{eqb, ltb, leb}
+use Rattle.tree.specs.Kinds as kinds
+use Rattle.tree.specs.Codes as codes
 use Rattle.tree.specs.Tree.{Trivium}
 use Rattle.tree.specs.declared.own.Own.{Own}
 use Rattle.tree.specs.declared.grammar.Class.{Class}
 use Rattle.chunks.specs.declared.stored.StoredChunk.{StoredChunk}
 use Rattle.leaves.specs.Items.{itemsAt}
 use Rattle.wording.specs.Lines.{say, spaces, decimal, quoted}
-use Rattle.wording.specs.Names.{kindName, codes, typeName}
+use Rattle.wording.specs.Names.{kindName, triviaNames, typeName}
 use Rattle.wording.specs.Entries.{indexed, formOf}
 use Rattle.wording.specs.declared.entries.Form.{Form}
 use Rattle.wording.specs.declared.entries.Form.the-variants.{Text, Entry}
@@ -30,8 +32,8 @@ deep depth = decimal depth ++ (spaces depth ++ spaces depth)
 -- a trivia item in brackets: what it is, and its text, of which a newline has none
 unfoldable pub trivium : Trivium → List (List ℕ)
 trivium item =
-    say " [" ++ (say (getD codes (item .code) "")
-    ++ cond (eqb (item .code) 1) (say "]") (say " " ++ (quoted (item .text) ++ say "]")))
+    say " [" ++ (say (getD triviaNames (item .code) "")
+    ++ cond (eqb (item .code) codes.newline) (say "]") (say " " ++ (quoted (item .text) ++ say "]")))
 
 unfoldable pub trivia : List Trivium → List (List ℕ)
 trivia [] = []
@@ -45,7 +47,7 @@ leafShown tree (Entry table) own = indexed table (getD tree (own .text) 0)
 -- what stands in a record beside its parts: how many a list has, or what a leaf shows
 unfoldable pub content : List ℕ → ℕ → Form → Own → List (List ℕ)
 content tree number form own =
-    cond (eqb number 24) (say " of " ++ decimal (own .count))
+    cond (eqb number kinds.vec) (say " of " ++ decimal (own .count))
     (cond (leb (own .end) (own .text)) [] (say " " ++ leafShown tree form own))
 
 -- a record's line: its offset, its depth, its kind by name, a list's count or what a leaf shows, and its trivia

@@ -1,4 +1,5 @@
 // A line in a lent buffer, put together from pieces: the buffer and how much of it is used. A piece that does not fit is left out.
+use text::characters;
 use text::numbers;
 use text::stores;
 use text::stores::Stored;
@@ -24,7 +25,7 @@ pub fn put(line: &mut [u8], at: usize, bytes: &[u8]) -> usize
 pub(crate) fn put_spaces(line: &mut [u8], at: usize, count: usize) -> usize
     ensures { λ r. ⌜ lineIn (now (line .exit)) r ≡ puts (spaces count) (lineIn (now (line .entry)) at) ⌝ }
 {
-    let stored = stores::fill(line, at, count, 32);
+    let stored = stores::fill(line, at, count, characters::SPACE);
     match stored {
         Stored::End(end) => end,
         Stored::NoRoom => at,
@@ -95,10 +96,10 @@ fn put_coded(line: &mut [u8], at: usize, byte: u8) -> usize
 fn put_shown(line: &mut [u8], at: usize, byte: u8) -> usize
     ensures { λ r. ⌜ lineIn (now (line .exit)) r ≡ puts (shown byte ∷ []) (lineIn (now (line .entry)) at) ⌝ }
 {
-    if byte == 10 {
+    if byte == characters::NEWLINE {
         return put(line, at, b"\\n");
     }
-    if byte == 34 {
+    if byte == characters::QUOTE {
         return put(line, at, b"\\\"");
     }
     if byte == 92 {

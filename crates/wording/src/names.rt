@@ -2,11 +2,12 @@
 use crate::lines;
 use answers::Reason;
 use chunks::stored::ChunkType;
+use tree::kinds;
 ghost use mathlib.Core.Path.{_≡_};
 ghost use lib.ListN.{getD};
 ghost use Rattle.answers.specs.Numbers.{number};
 ghost use Rattle.wording.specs.Lines.{lineIn, puts, say};
-ghost use Rattle.wording.specs.Names.{reasons, tokenKinds, partKinds, kindName, codes, typeName};
+ghost use Rattle.wording.specs.Names.{reasons, tokenKinds, partKinds, kindName, triviaNames, typeName};
 
 pub(crate) fn put_reason(line: &mut [u8], at: usize, reason: Reason) -> usize
     ensures { λ r. ⌜ lineIn (now (line .exit)) r ≡ puts (say (getD reasons (number reason) "")) (lineIn (now (line .entry)) at) ⌝ }
@@ -17,7 +18,7 @@ pub(crate) fn put_reason(line: &mut [u8], at: usize, reason: Reason) -> usize
     lines::put_entry(line, at, names, &places, reason.number())
 }
 
-// The kinds that are tokens, by their numbers 0 to 23.
+// The kinds that are tokens, by their numbers.
 fn put_token(line: &mut [u8], at: usize, number: usize) -> usize
     ensures { λ r. ⌜ lineIn (now (line .exit)) r ≡ puts (say (getD tokenKinds number "")) (lineIn (now (line .entry)) at) ⌝ }
 {
@@ -53,7 +54,7 @@ fn put_token(line: &mut [u8], at: usize, number: usize) -> usize
     lines::put_entry(line, at, names, &places, number)
 }
 
-// The others, from kind 24 on.
+// The others, from a list on.
 fn put_part(line: &mut [u8], at: usize, number: usize) -> usize
     ensures { λ r. ⌜ lineIn (now (line .exit)) r ≡ puts (say (getD partKinds number "")) (lineIn (now (line .entry)) at) ⌝ }
 {
@@ -88,15 +89,15 @@ fn put_part(line: &mut [u8], at: usize, number: usize) -> usize
 pub(crate) fn put_kind(line: &mut [u8], at: usize, number: usize) -> usize
     ensures { λ r. ⌜ lineIn (now (line .exit)) r ≡ puts (say (kindName number)) (lineIn (now (line .entry)) at) ⌝ }
 {
-    if number < 24 {
+    if number < kinds::VEC {
         return put_token(line, at, number);
     }
-    put_part(line, at, number - 24)
+    put_part(line, at, number - kinds::VEC)
 }
 
 // What a trivia item is, by its code.
 pub(crate) fn put_code(line: &mut [u8], at: usize, code: usize) -> usize
-    ensures { λ r. ⌜ lineIn (now (line .exit)) r ≡ puts (say (getD codes code "")) (lineIn (now (line .entry)) at) ⌝ }
+    ensures { λ r. ⌜ lineIn (now (line .exit)) r ≡ puts (say (getD triviaNames code "")) (lineIn (now (line .entry)) at) ⌝ }
 {
     let places = [0usize, 10, 17, 24, 36];
     lines::put_entry(

@@ -2,6 +2,8 @@
 use crate::entries::Form;
 use crate::lines;
 use crate::records;
+use tree::codes;
+use tree::kinds;
 use tree::own::Own;
 use tree::parts;
 use tree::parts::TriviumRead;
@@ -13,6 +15,11 @@ ghost use lib.ListN.{length};
 ghost use Rattle.leaves.specs.Items.{itemOf, itemsAt};
 ghost use Rattle.wording.specs.Lines.{lineIn, puts, say};
 ghost use Rattle.wording.specs.Losses.{letter, letters, fate, comment, comments, closing, lossPieces, lossLine};
+
+// Two of the eight places as bits of a record's letters: (f) and (g).
+pub const REGISTER_LETTER: usize = 32;
+
+const EXPRESSION_HEAD: usize = 64;
 
 // A letter in parentheses, where a bit stands.
 fn put_letter(line: &mut [u8], at: usize, place: u8, bit: usize) -> usize
@@ -45,10 +52,10 @@ fn put_letters(line: &mut [u8], at: usize, bits: usize) -> usize
 fn put_fate(line: &mut [u8], at: usize, bits: usize) -> usize
     ensures { λ r. ⌜ lineIn (now (line .exit)) r ≡ puts (say (fate bits)) (lineIn (now (line .entry)) at) ⌝ }
 {
-    if bits == 32 {
+    if bits == REGISTER_LETTER {
         return lines::put(line, at, b" kept");
     }
-    if bits == 64 {
+    if bits == EXPRESSION_HEAD {
         return lines::put(line, at, b" printed twice");
     }
     lines::put(line, at, b" dropped")
@@ -61,7 +68,7 @@ fn put_comment(line: &mut [u8], at: usize, tree: &[u8], item: TriviumSpan) -> us
 {
     let start = item.start;
     let end = item.end;
-    if item.code < 2 {
+    if item.code < codes::C_STYLE {
         return at;
     }
     let first = lines::put(line, at, b" ");
@@ -93,7 +100,7 @@ fn put_closing(line: &mut [u8], at: usize, tree: &[u8], bit: usize, own: Own) ->
     ensures { λ r. ⌜ lineIn (now (line .exit)) r ≡ puts (closing (now (tree .entry)) bit own) (lineIn (now (line .entry)) at) ⌝ }
 {
     if bit == 1 {
-        return records::put_content(line, at, tree, 25, Form::Text, own);
+        return records::put_content(line, at, tree, kinds::LEAF, Form::Text, own);
     }
     at
 }

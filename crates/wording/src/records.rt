@@ -5,7 +5,9 @@ use crate::lines;
 use crate::names;
 use chunks::stored::StoredChunk;
 use text::numbers;
+use tree::codes;
 use tree::grammar::Class;
+use tree::kinds;
 use tree::own::Own;
 use tree::parts;
 use tree::parts::TriviumRead;
@@ -64,7 +66,7 @@ fn put_trivium(line: &mut [u8], at: usize, tree: &[u8], item: TriviumSpan) -> us
     let code = numbers::wide(item.code);
     let first = lines::put(line, at, b" [");
     let second = names::put_code(line, first, code);
-    if code == 1 {
+    if item.code == codes::NEWLINE {
         return lines::put(line, second, b"]");
     }
     let third = lines::put(line, second, b" ");
@@ -116,7 +118,7 @@ pub(crate) fn put_content(
     requires { ⌜ own .end ≤ length (now tree) ⌝ }
     ensures { λ r. ⌜ lineIn (now (line .exit)) r ≡ puts (content (now (tree .entry)) number form own) (lineIn (now (line .entry)) at) ⌝ }
 {
-    if number == 24 {
+    if number == kinds::VEC {
         let first = lines::put(line, at, b" of ");
         return lines::put_number(line, first, own.count);
     }

@@ -2,7 +2,7 @@
 use mathlib.Core.Path.{refl, sym}
 use mathlib.Core.List.{map}
 use lib.ListN.{List·getD-eq-default}
-use Rattle.tree.specs.Grammar.{kinds}
+use Rattle.tree.specs.Grammar.{allKinds}
 use Rattle.tree.specs.declared.grammar.KindRead.the-variants.{Known, Unknown}
 use Rattle.tree.proofs.Tables.{none-below}
 use Rattle.tree.proofs.grammar.kind_of.Statement.{statement}
@@ -138,7 +138,7 @@ returns-43 : tie.Need-returns-43
 returns-43 c = rw (c .match .keys43) refl
 
 returns-44 : tie.Need-returns-44
-returns-44 c = sym (List·getD-eq-default (map Known kinds) Unknown (none-below _ 43 (c .match .rest)))
+returns-44 c = sym (List·getD-eq-default (map Known allKinds) Unknown (none-below _ 43 (c .match .rest)))
 
 pub kind-of-spec : {M : Type 1} → statement M
 kind-of-spec =

@@ -3,7 +3,7 @@ use mathlib.Core.Path.{refl}
 use borrow.Author.Needs.{needs}
 use Rattle.text.specs.Literals.{ascii}
 use Rattle.leaves.specs.Texts.{inOrder}
-use Rattle.wording.specs.Names.{codes}
+use Rattle.wording.specs.Names.{triviaNames}
 use Rattle.wording.proofs.Tables.{put-name, code-texts}
 use Rattle.wording.proofs.names.put_code.Statement.{statement}
 use Rattle.wording.proofs.names.put_code.Tie as tie
@@ -23,7 +23,7 @@ same-length c = search needs
 
 returns : tie.Need-returns
 unfolding ascii
-returns c = put-name codes _ _ _ _ code-texts (c .before .before .put-entry .ensures)
+returns c = put-name triviaNames _ _ _ _ code-texts (c .before .before .put-entry .ensures)
 
 pub put-code-spec : {M : Type 1} → statement M
 put-code-spec =

@@ -34,10 +34,10 @@ unfolding trivium ascii
 returns c =
     let third = c .before .before in
     let tried = third .before .before .before in
-    let second = tried .before .before .before in
+    let second = tried .before .before .before .before in
     let first = second .before .before .before .before in
     let coded = first .before .before .before in
-    rw (← (coded .wide .ensures .0), eq-eqb _ _ (tried .if1 .taken)) (after _ _ _ (first .put .ensures) (after _ _ _ (second .put-code .ensures) (third .put2 .ensures)))
+    rw (eq-eqb _ _ (tried .if1 .taken), ← (coded .wide .ensures .0)) (after _ _ _ (first .put .ensures) (after _ _ _ (second .put-code .ensures) (third .put2 .ensures)))
 
 slice-aggregate-put-3 : tie.Need-slice-aggregate-put-3
 slice-aggregate-put-3 c = search needs
@@ -73,10 +73,10 @@ returns-2 c =
     let fourth = fifth .before .before .before .before .before in
     let third = fourth .before .before .before .before .before in
     let tried = third .before .before .before in
-    let second = tried .before .before .before in
+    let second = tried .before .before .before .before in
     let first = second .before .before .before .before in
     let coded = first .before .before .before in
-    rw (← (coded .wide .ensures .0), ne-eqb _ _ (tried .if1 .left)) (after _ _ _ (first .put .ensures)
+    rw (ne-eqb _ _ (tried .if1 .left), ← (coded .wide .ensures .0)) (after _ _ _ (first .put .ensures)
     (after _ _ _ (second .put-code .ensures)
     (after _ _ _ (third .put3 .ensures) (after _ _ _ (rw part-slice at (fourth .put-quoted .ensures)) (fifth .put4 .ensures)))))
 
