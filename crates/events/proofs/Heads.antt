@@ -43,7 +43,7 @@ use Rattle.tree.specs.declared.parts.HeadRead.{HeadRead}
 use Rattle.tree.specs.declared.parts.HeadRead.the-variants.{Found, NoHead}
 use Rattle.tree.proofs.OwnBytes.{leafNumber}
 use Rattle.tree.proofs.Readings.{no-record}
-use Rattle.events.specs.Views.{ownTrivia, headOf, headTrivia, tokenNumber, stands, hasBlock, bitAt, blockBit}
+use Rattle.events.specs.Views.{view, ownTrivia, headOf, headTrivia, tokenNumber, stands, hasBlock, bitAt, blockBit}
 use Rattle.events.specs.Refusals.{firstRefusal, ownRefusal, headRefusal}
 use Rattle.events.proofs.OwnParts.{Fielded, token-number, both-stand, record-headed, record-fields}
 use Rattle.events.proofs.Refusals.{skip-passed, skip-refused}
@@ -65,7 +65,7 @@ HeadSays bytes refusal head (NoHead why) = refusal ≡ Failed why
 -- the tree of a record that was read, or not
 on-says : (reader : Reader) (bytes : List ℕ) (class : Class) (at : ℕ) (own : OwnRead)
     → OwnSays bytes (ownRefusal (readOn reader bytes class at own .tree)) (ownTrivia (readOn reader bytes class at own .tree)) own
-unfolding ownRefusal ownTrivia
+unfolding ownRefusal view
 on-says reader bytes class at (Record own) = (refl, refl)
 on-says reader bytes class at (Refused why) = refl
 
@@ -135,7 +135,7 @@ first-head : (kind : Kind) (class value : Class) (text : List ℕ) (trees : List
     → (headRefusal (built kind text trees) ≡ ownRefusal (getD trees 0 absent))
     × (headOf (built kind text trees) ≡ getD trees 0 absent)
     × (fields kind value ≡ must (firstClass class (fields kind value)) ∷ behindFirst (fields kind value))
-unfolding headRefusal headOf built tokenNumber
+unfolding headRefusal built view
 first-head variant.Align class value text trees head five binary = (refl, refl, refl)
 first-head variant.Assert class value text trees head five binary = (refl, refl, refl)
 first-head variant.Braces class value text trees head five binary = true-false (sym head)
@@ -251,7 +251,7 @@ module _ (levels : ℕ) (bytes : List ℕ) (class : Class) (at : ℕ) (own : Own
     -- `Data`
     data-says : eqb (getD bytes at 0) 5 ≡ true
         → HeadSays bytes (headRefusal recordTree) (headOf recordTree) (secondField levels DataSize (skipped levels bytes ExpressionArguments (own .end)))
-    unfolding built headRefusal headOf
+    unfolding built headRefusal view
     data-says five =
         let kind : kindOf 5 ≡ Known (own .kind) = rw (eqb-true (getD bytes at 0) 5 five) at known-kind in
         let same : own .kind ≡ variant.Data = cc in
@@ -260,7 +260,7 @@ module _ (levels : ℕ) (bytes : List ℕ) (class : Class) (at : ℕ) (own : Own
     -- a binary expression
     binary-says : eqb (getD bytes at 0) 28 ≡ true
         → HeadSays bytes (headRefusal recordTree) (headOf recordTree) (secondField levels LocatedExpression (skipped levels bytes BinaryOp (own .end)))
-    unfolding built headRefusal headOf
+    unfolding built headRefusal view
     binary-says binary =
         let kind : kindOf 28 ≡ Known (own .kind) = rw (eqb-true (getD bytes at 0) 28 binary) at known-kind in
         let same : own .kind ≡ variant.BinaryExpression = cc in
@@ -293,7 +293,7 @@ module _ (levels : ℕ) (bytes : List ℕ) (class : Class) (at : ℕ) (own : Own
 -- of a class whose kinds have their head in a field
 inner-says : (levels : ℕ) (bytes : List ℕ) (class : Class) (at : ℕ) → ((number : ℕ) → mayStand (rule class) number ≡ true → heads number ≡ true)
     → HeadSays bytes (headRefusal (read levels bytes class at .tree)) (headOf (read levels bytes class at .tree)) (innerHead levels bytes class at)
-unfolding innerHead read headRefusal headOf
+unfolding innerHead read headRefusal view
 inner-says zero bytes class at nodal = go (readOwn bytes at class zero) refl
   where
     go : (found : OwnRead) → readOwn bytes at class zero ≡ found
@@ -367,7 +367,7 @@ module _ (bytes : List ℕ) (class : Class) (located : Bool) (tokens : rule clas
 
     -- that of `Braces` and of `Config` is the block's
     block-says : (eqb (getD bytes at 0) 2 || eqb (getD bytes at 0) 3) ≡ true → HeadSays bytes (headRefusal token) (headOf token) (innerHead levels bytes BlockRecord (own .end))
-    unfolding built headRefusal headOf
+    unfolding built headRefusal view
     block-says block =
         by-test (eqb (getD bytes at 0) 2)
         (λ two.
@@ -383,7 +383,7 @@ module _ (bytes : List ℕ) (class : Class) (located : Bool) (tokens : rule clas
 
     -- that of an `Expression` the expression's
     expression-says : eqb (getD bytes at 0) 9 ≡ true → HeadSays bytes (headRefusal token) (headOf token) (innerHead levels bytes BareExpression (own .end))
-    unfolding built headRefusal headOf
+    unfolding built headRefusal view
     expression-says nine =
         let byte : getD bytes at 0 ≡ 9 = eqb-true (getD bytes at 0) 9 nine in
         let kind : kindOf 9 ≡ Known (own .kind) = rw byte at (known-kind levels bytes class at own is) in
@@ -403,7 +403,7 @@ module _ (bytes : List ℕ) (class : Class) (located : Bool) (tokens : rule clas
   -- and where it is refused
   token-says : (levels : ℕ) (at : ℕ)
       → HeadSays bytes (headRefusal (read levels bytes class at .tree)) (headOf (read levels bytes class at .tree)) (headAt levels bytes class at)
-  unfolding headAt read headRefusal headOf
+  unfolding headAt read headRefusal view
   token-says zero at = go (readOwn bytes at class zero) refl
     where
       go : (found : OwnRead) → readOwn bytes at class zero ≡ found
@@ -449,7 +449,7 @@ module _ (bytes : List ℕ) (class : Class) (located : Bool) (tokens : rule clas
 
 -- a tree that was read stands
 stands-on : (reader : Reader) (bytes : List ℕ) (class : Class) (at : ℕ) (own : OwnRead) → stands (readOn reader bytes class at own .tree) ≡ true
-unfolding stands
+unfolding view
 stands-on reader bytes class at (Record own) = refl
 stands-on reader bytes class at (Refused why) = refl
 
@@ -462,7 +462,7 @@ read-stands (suc levels) bytes class at = stands-on (read levels bytes) bytes cl
 -- so a field stands where its bit does
 field-stands : (reader : Reader) → ((class : Class) (at : ℕ) → stands (reader class at .tree) ≡ true) → (slots : List Slot) (bits at place : ℕ) → place < length slots
     → stands (getD (readParts reader (fieldsDue slots bits) at .trees) place absent) ≡ bitAt place bits
-unfolding stands fieldsDue readParts bitAt
+unfolding fieldsDue readParts bitAt view
 field-stands reader stand [] bits at place inside = absurd (omega (arith, inside))
 field-stands reader stand (slot ∷ slots) bits at zero inside = by-test (eqb (bits % 2) 1) (λ q. rw q (stand (slotClass slot) at)) (λ q. rw q)
 field-stands reader stand (slot ∷ slots) bits at (suc place) inside =
@@ -474,7 +474,7 @@ field-stands reader stand (slot ∷ slots) bits at (suc place) inside =
 block-built : (kind : Kind) (text : List ℕ) (trees : List Tree)
     → hasBlock (built kind text trees) ≡ cond (eqb (tokenNumber (built kind text trees)) 11) (stands (getD trees 4 absent))
     (cond (eqb (tokenNumber (built kind text trees)) 14) (stands (getD trees 2 absent)) false)
-unfolding hasBlock built tokenNumber
+unfolding built view
 block-built variant.Align text trees = refl
 block-built variant.Assert text trees = refl
 block-built variant.Braces text trees = refl
@@ -532,7 +532,7 @@ module _ (levels : ℕ) (bytes : List ℕ) (class : Class) (at : ℕ) (own : Own
   pub else-stands : own .kind ≡ variant.If
       → stands (getD (readParts (read levels bytes) (partsDue class own) (own .end) .trees) 3 absent)
       ≡ stands (getD (readParts (read levels bytes) (partsDue class own) (own .end) .trees) 4 absent)
-  unfolding tokenNumber built
+  unfolding built view
   else-stands same =
       let ten : 10 ≡ getD bytes at 0 = token-number (getD bytes at 0) variant.If [] [] (known-kind levels bytes class at own is ∙ ap Known same) in
       let list : eqb (getD bytes at 0) 24 ≡ false = rw (← ten) refl in
@@ -561,13 +561,13 @@ module _ (levels : ℕ) (bytes : List ℕ) (class : Class) (at : ℕ) (own : Own
 -- a token's number is its first byte
 pub number-read : (levels : ℕ) (bytes : List ℕ) (class : Class) (at : ℕ) (own : Own) → readOwn bytes at class levels ≡ Record own
     → tokenNumber (read levels bytes class at .tree) ≡ getD bytes at 0
-unfolding tokenNumber
+unfolding view
 number-read zero bytes class at own is = no-record bytes at class own is
 number-read (suc levels) bytes class at own is = rw (read-record levels bytes class at own is) (own-number levels bytes class at own is)
 
 -- it has a block where that bit of its map stands
 pub block-read : (levels : ℕ) (bytes : List ℕ) (class : Class) (at : ℕ) (own : Own) → readOwn bytes at class levels ≡ Record own
     → hasBlock (read levels bytes class at .tree) ≡ blockBit (getD bytes at 0) (own .map / 2)
-unfolding hasBlock
+unfolding view
 block-read zero bytes class at own is = no-record bytes at class own is
 block-read (suc levels) bytes class at own is = rw (read-record levels bytes class at own is) (block-record levels bytes class at own is)

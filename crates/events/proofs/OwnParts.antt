@@ -27,13 +27,13 @@ use Rattle.tree.specs.declared.own.TriviaSpan.{TriviaSpan}
 use Rattle.tree.proofs.KindLayout.{kindNumber, kind-number}
 use Rattle.tree.proofs.OwnBytes.{Headed, leafNumber, own-cases}
 use Rattle.tree.proofs.RoundTrip.{no-items, node-fits}
-use Rattle.events.specs.Views.{tokenNumber, bitAt}
+use Rattle.events.specs.Views.{view, tokenNumber, bitAt}
 
 -- ---- numbers
 
 -- a tree of a kind has its number
 number-built : (kind : Kind) (text : List ℕ) (trees : List Tree) → tokenNumber (built kind text trees) ≡ kindNumber kind
-unfolding tokenNumber built kindNumber storedWith
+unfolding built kindNumber storedWith view
 number-built variant.Align text trees = refl
 number-built variant.Assert text trees = refl
 number-built variant.Braces text trees = refl
@@ -145,7 +145,7 @@ module _ (bytes : List ℕ) (at : ℕ) (class : Class) where
 
   -- so one that is no list has its fields
   pub record-fields : (levels : ℕ) (own : Own) → readOwn bytes at class levels ≡ Record own → eqb (getD bytes at 0) 24 ≡ false → Fielded bytes at class own
-  unfolding built tokenNumber
+  unfolding built view
   record-fields levels own is other =
       ⊎-elim
       (λ list.

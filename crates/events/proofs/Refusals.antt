@@ -28,7 +28,7 @@ use Rattle.tree.specs.declared.own.OwnRead.the-variants.{Record}
 use Rattle.tree.specs.declared.parts.Skipped.the-variants.{Next, NotSkipped}
 use Rattle.tree.proofs.Readings.{every-reading}
 use Rattle.tree.proofs.RoundTrip.{trees-counted, fields-counted}
-use Rattle.events.specs.Views.{tokenNumber}
+use Rattle.events.specs.Views.{view, tokenNumber}
 use Rattle.events.specs.Refusals.{firstRefusal}
 use Rattle.events.proofs.OwnParts.{Fielded, token-number, record-headed, record-parts}
 
@@ -48,7 +48,7 @@ refusalFrom place (suc (suc count)) trees = andThen (firstRefusal (getD trees pl
 -- a tree of a kind with fields has that of its fields
 fields-refusal : (kind : Kind) (value : Class) (text : List ℕ) (trees : List Tree) → eqb (tokenNumber (built kind text trees)) 24 ≡ false
     → firstRefusal (built kind text trees) ≡ refusalFrom 0 (length (fields kind value)) trees
-unfolding firstRefusal built tokenNumber
+unfolding firstRefusal built view
 fields-refusal variant.Align value text trees other = refl
 fields-refusal variant.Assert value text trees other = refl
 fields-refusal variant.Braces value text trees other = refl

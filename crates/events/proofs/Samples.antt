@@ -21,7 +21,7 @@ use Rattle.tree.specs.Reading.{triviaFrom, fieldsDue, partsDue, readParts, read
 use Rattle.tree.specs.Checking.{readFile}
 use Rattle.printing.specs.Holding.{Held, held, refused, heldLength, withoutNewlines, hold}
 use Rattle.events.specs.Printed.{ascii, mnemonics, registers, operators, dataSizes, encodings, variableTypes, numberTypes, modifiers, printed}
-use Rattle.events.specs.Views.{ownTrivia, headOf, tokenNumber, stands, hasBlock, indexOf}
+use Rattle.events.specs.Views.{view}
 use Rattle.events.specs.Refusals.{firstRefusal, ownRefusal, headRefusal}
 use Rattle.events.specs.Trees.{triviaEvents, leadEvents, oneOf, breaks, eventsIn, eventsOf}
 
@@ -324,8 +324,8 @@ wanted sample = (Passed, sample .chunks)
 pub rows-held : map found rows ≡ map wanted rows
 unfolding cased isNewline storedIndent storedHead storedChunk built chain fieldsFit mapFits sizedEnd triviumEnd triviaEnd triviaRead textEnd restOf
     ownAt readOwn triviaFrom fieldsDue partsDue readParts read heldLength withoutNewlines hold ascii mnemonics registers operators dataSizes encodings
-    variableTypes numberTypes modifiers printed ownTrivia headOf tokenNumber stands hasBlock indexOf firstRefusal ownRefusal headRefusal triviaEvents
-    leadEvents oneOf eventsIn
+    variableTypes numberTypes modifiers printed firstRefusal ownRefusal headRefusal triviaEvents
+    leadEvents oneOf eventsIn view
 rows-held = refl
 
 -- ---- newlines between tokens

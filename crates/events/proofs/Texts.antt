@@ -14,7 +14,7 @@ use Rattle.tree.specs.declared.grammar.Kind.{Kind}
 use Rattle.tree.specs.declared.grammar.Kind.the-variants as variant
 use Rattle.tree.specs.declared.grammar.Class.{Class}
 use Rattle.tree.proofs.Readings.{every-reading}
-use Rattle.events.specs.Views.{ownTrivia, headOf, headTrivia}
+use Rattle.events.specs.Views.{view, ownTrivia, headTrivia}
 
 -- every text of trivia
 unfoldable pub EveryTrivia : (List ℕ → Type 0) → List Trivium → Type 0
@@ -77,7 +77,7 @@ module _ (P : List ℕ → Type 0) where
 
   -- its own
   pub own-trivia : (tree : Tree) → EveryText P tree → EveryTrivia P (ownTrivia tree)
-  unfolding EveryTrivia EveryText ownTrivia
+  unfolding EveryTrivia EveryText view
   own-trivia absent texts = tt
   own-trivia (refused refusal) texts = tt
   own-trivia (node place trivia tree) texts = texts .0
@@ -129,7 +129,7 @@ module _ (P : List ℕ → Type 0) where
 
   -- its head's
   pub head-trivia : (tree : Tree) → EveryText P tree → EveryTrivia P (headTrivia tree)
-  unfolding EveryTrivia EveryText headOf ownTrivia
+  unfolding EveryTrivia EveryText view
   head-trivia absent texts = tt
   head-trivia (refused refusal) texts = tt
   head-trivia (node place trivia tree) texts = head-trivia tree (texts .1)

@@ -38,7 +38,7 @@ use Rattle.printing.specs.declared.Printed.the-variants.{Done, Refused}
 use Rattle.printing.proofs.Running.{alike, refused-before, _thence_}
 use Rattle.events.specs.Printed.{plain, operator}
 use Rattle.events.specs.Trees.{oneOf, leaf, blank, skipping, eventsIn}
-use Rattle.events.specs.Views.{stands, bitAt}
+use Rattle.events.specs.Views.{view, bitAt}
 use Rattle.events.proofs.OwnParts.{record-headed}
 use Rattle.leaves.specs.Lists.{itemTrees, itemsEnd}
 use Rattle.leaves.specs.Records.{fieldTrees, fieldsEnd, Opens}
@@ -292,7 +292,7 @@ module _ (context : Context) (levels : ℕ) (bytes : List ℕ) (bits at : ℕ) {
       → Shown answer left
       (eventsIn context (leaf plain) true (built variant.Factor [] (fieldTrees (read levels bytes) (fields variant.Factor class.LocatedExpression) bits at))) before
       (fieldsEnd (read levels bytes) (fields variant.Factor class.LocatedExpression) bits at)
-  unfolding built fieldTrees fieldsEnd eventsIn bitAt stands run
+  unfolding built fieldTrees fieldsEnd eventsIn bitAt run view
   unsigned-shown none shown =
       let both = neither (eqb ((bits / 2) % 2) 1) (eqb (((bits / 2) / 2) % 2) 1) none in
       rw (both .0, both .1) (alike (λ x. refl) shown)

@@ -27,7 +27,7 @@ use Rattle.printing.specs.declared.Printed.{Printed}
 use Rattle.printing.specs.declared.Printed.the-variants.{Refused}
 use Rattle.printing.proofs.Running.{Ran, told, alike, handed-on, stopped-there, _then_}
 use Rattle.events.specs.Printed.{plain, modifier}
-use Rattle.events.specs.Views.{stands, bitAt, indexOf}
+use Rattle.events.specs.Views.{view, bitAt}
 use Rattle.events.specs.Refusals.{firstRefusal}
 use Rattle.events.specs.Trees.{leaf, skipping, operandEvents, eventsIn}
 use Rattle.leaves.specs.Records.{fieldTrees, fieldsEnd}
@@ -66,7 +66,7 @@ module _ (context : Context) (levels : ℕ) (bytes : List ℕ) (bits at : ℕ) {
   pub path-bare : bit ≡ false → Shown answer room (eventsIn context (leaf plain) true (read levels bytes Word at .tree)) before (read levels bytes Word at .end)
       → Shown answer room (eventsIn context (leaf plain) true (built variant.IdentifierValue [] (fieldTrees (read levels bytes) (fields variant.IdentifierValue LocatedExpression) bits at))) before
       (fieldsEnd (read levels bytes) (fields variant.IdentifierValue LocatedExpression) bits at)
-  unfolding built fieldTrees fieldsEnd eventsIn bitAt stands run
+  unfolding built fieldTrees fieldsEnd eventsIn bitAt run view
   path-bare none done = rw (← same, none) (alike (λ x. refl) done)
 
   -- where there is one, the path is skipped on the way to it
@@ -149,7 +149,7 @@ module _ (context : Context) (levels : ℕ) (bytes : List ℕ) (at : ℕ) (rchar
       → Shown answer room (skipping (cond rchar (read levels bytes Char at .tree) absent) ▹ endEvents context index rchar at suffix (read levels bytes) (own .end)) before
       (cond suffix (read levels bytes SuffixRecord (own .end) .end) (own .end))
       → Shown answer room (tailEvents context rchar suffix (read levels bytes) at) before (tailEnd rchar suffix (read levels bytes) at)
-  unfolding firstRefusal indexOf run
+  unfolding firstRefusal run view
   tail-shown {own = own} is read-as done =
       let mode-is = mode-read bytes mode levels own (sym same ∙ is) in
       rw (← there, mode-is .0, mode-is .1) (alike (λ x. refl) (rw read-as at done))

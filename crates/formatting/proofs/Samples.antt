@@ -27,7 +27,7 @@ use Rattle.tree.specs.Reading.{triviaFrom, triviaTexts, fieldsDue, partsDue, re
 use Rattle.tree.specs.Checking.{textsChecked, treeChecked}
 use Rattle.printing.specs.Holding.{heldLength, withoutNewlines, hold}
 use Rattle.events.specs.Printed.{mnemonics, printed}
-use Rattle.events.specs.Views.{ownTrivia, headOf, tokenNumber, stands, hasBlock, indexOf}
+use Rattle.events.specs.Views.{view}
 use Rattle.events.specs.Refusals.{firstRefusal, ownRefusal, headRefusal}
 use Rattle.events.specs.Trees.{triviaEvents, leadEvents, oneOf, eventsIn}
 use Rattle.tokens.specs.Chunks.{chunksHeld}
@@ -80,6 +80,6 @@ unfolding ascii storedIndent storedHead storedChunk storedList textAt chunkAt ch
     judging.textsChecked chunksChecked acceptedByte acceptedText standing valuesChecked storedOptions readOptions cut isNewline piecesOf pieces
     ignored added add ends standalone setLine keeps after keptLines linesKept textOf joinOutcome blank allBlank trimEnd hasNewline behind joined cased
     built chain fieldsFit mapFits sizedEnd triviumEnd triviaEnd triviaRead textEnd restOf ownAt readOwn triviaFrom triviaTexts fieldsDue partsDue
-    readParts read textsChecked treeChecked heldLength withoutNewlines hold mnemonics printed ownTrivia headOf tokenNumber stands hasBlock indexOf
-    firstRefusal ownRefusal headRefusal triviaEvents leadEvents oneOf eventsIn chunksHeld formatted
+    readParts read textsChecked treeChecked heldLength withoutNewlines hold mnemonics printed
+    firstRefusal ownRefusal headRefusal triviaEvents leadEvents oneOf eventsIn chunksHeld formatted view
 samples-answered = refl

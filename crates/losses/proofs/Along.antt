@@ -15,8 +15,7 @@ use Rattle.tree.specs.Walk.{standing}
 use Rattle.tree.specs.declared.grammar.Class.{Class}
 use Rattle.tree.specs.declared.grammar.Items.{Items}
 use Rattle.tree.specs.declared.grammar.Items.the-variants.{NoList, ListOf}
-use Rattle.events.specs.Views.{ownTrivia, tokenNumber}
-use Rattle.events.specs.Views.{headOf, standsAt}
+use Rattle.events.specs.Views.{view}
 use Rattle.reading.specs.Places.{Use, hasComment, placesIn}
 use Rattle.losses.specs.Visits.{classUses, seenIn, usesAlong, endAlong, checkedAlong}
 use Rattle.losses.proofs.Table.{Unlisted, untold, slotsSeen}
@@ -28,7 +27,7 @@ either-way true value = refl
 either-way false value = refl
 
 absent-unused : (class : Class) (listed : Bool) → seenIn class listed absent ≡ []
-unfolding placesIn hasComment ownTrivia headOf tokenNumber standsAt
+unfolding placesIn hasComment view
 absent-unused class true = simp either-way
 absent-unused class false = simp either-way
 

@@ -17,7 +17,7 @@ use Rattle.tree.specs.declared.parts.Head.{Head}
 use Rattle.tree.specs.declared.parts.HeadRead.{HeadRead}
 use Rattle.tree.specs.declared.parts.HeadRead.the-variants.{Found, NoHead}
 use Rattle.tree.proofs.Cases.{failed-passed}
-use Rattle.events.specs.Views.{ownTrivia, headOf, standsAt}
+use Rattle.events.specs.Views.{view}
 use Rattle.events.specs.Refusals.{headRefusal}
 use Rattle.events.proofs.Heads.{head-is, head-missing, head-refused}
 use Rattle.events.proofs.Refusals.{read-refusal}
@@ -51,7 +51,7 @@ module _ (levels : ℕ) (bytes : List ℕ) (class : Class) (at : ℕ) {place : H
     pub head-taken : {after before : Firsts} {from spot : ℕ} (own : Own) → Fits bytes (head .place) found → found ≡ Record own
         → TakesIf after before from (head .place) spot (hasComment (itemsAt bytes (own .trivia) (own .«trivia_count»)))
         → TakesHead (Shown after) before from levels bytes class at spot
-    unfolding ownTrivia standsAt
+    unfolding view
     head-taken own fits held takes passed token =
         let head-tree = head-is bytes class (token .0) (token .1) levels at head (sym same ∙ is)
         ∙ node-read (head .levels) bytes (head .class) (head .place) own (sym read-own ∙ held) in

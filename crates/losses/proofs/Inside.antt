@@ -28,7 +28,7 @@ use Rattle.tree.specs.declared.parts.HeadRead.{HeadRead}
 use Rattle.tree.specs.declared.parts.HeadRead.the-variants.{Found, NoHead}
 use Rattle.tree.proofs.Cases.{both-passed}
 use Rattle.tree.proofs.Readings.{every-reading, no-record, file-passed}
-use Rattle.events.specs.Views.{ownTrivia, headOf, standsAt, tokenNumber, indexOf}
+use Rattle.events.specs.Views.{view, ownTrivia, headOf, standsAt, tokenNumber, indexOf}
 use Rattle.events.proofs.Accepted.{length-passed}
 use Rattle.events.proofs.OwnParts.{record-headed}
 use Rattle.events.proofs.Heads.{head-is}
@@ -101,14 +101,14 @@ module _ (bytes : List ℕ) (some : 0 < length bytes) where
   -- ---- a record stands within the bytes; what is no record stands nowhere, which counts as 0
 
   read-stands : (levels : ℕ) (class : Class) (at : ℕ) → standsAt (read levels bytes class at .tree) < length bytes
-  unfolding standsAt
+  unfolding view
   read-stands =
       every-reading bytes (λ levels class at reading. standsAt (reading .tree) < length bytes) (λ levels class at reader why. some)
       (λ levels class at own is below. omega (arith, record-headed bytes at class (suc levels) own is .1 .room))
 
   -- so does a part of one
   parts-stand : (levels : ℕ) (parts : List Due) (at place : ℕ) → standsAt (getD (readParts (read levels bytes) parts at .trees) place absent) < length bytes
-  unfolding standsAt readParts
+  unfolding readParts view
   parts-stand levels [] at place = some
   parts-stand levels (nothing ∷ parts) at zero = some
   parts-stand levels (nothing ∷ parts) at (suc place) = parts-stand levels parts at place

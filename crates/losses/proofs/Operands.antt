@@ -30,7 +30,7 @@ use Rattle.tree.specs.declared.parts.Skipped.{Skipped}
 use Rattle.tree.specs.declared.parts.Skipped.the-variants.{Next, NotSkipped}
 use Rattle.tree.proofs.OwnBytes.{own-fits}
 use Rattle.tree.proofs.Cases.{both-passed}
-use Rattle.events.specs.Views.{tokenNumber, standsAt, stands, indexOf, bitAt}
+use Rattle.events.specs.Views.{view, tokenNumber, standsAt, stands, indexOf, bitAt}
 use Rattle.events.proofs.Heads.{read-stands}
 use Rattle.events.proofs.OwnParts.{Fielded, record-parts, record-headed}
 use Rattle.leaves.proofs.Records.{read-record}
@@ -143,7 +143,7 @@ slice-first bytes start end part inside =
 
 index-read : (levels : ℕ) (bytes : List ℕ) (at : ℕ) (own : Own) → readOwn bytes at AddressingMode levels ≡ Record own
     → getD (indexOf (read levels bytes AddressingMode at .tree)) 0 0 ≡ indexIn bytes own
-unfolding indexOf built
+unfolding built view
 index-read levels bytes at own is =
     let headed = record-headed bytes at AddressingMode levels own is .1 in
     let within = standing-range (rule AddressingMode) (getD bytes at 0) refl (headed .standing) in
@@ -175,7 +175,7 @@ module _ (levels : ℕ) (bytes : List ℕ) {bits at : ℕ} {trees : List Tree} (
 
   -- it does not stand
   closing-absent : bitAt 2 bits ≡ false → atClosingCharacter (indexOf (getD trees 3 absent)) (getD trees 2 absent) ≡ false
-  unfolding stands
+  unfolding view
   closing-absent none =
       let mode : List ℕ = indexOf (getD trees 3 absent) in
       rw (held .rchar, none) (and-false (not (eqb (getD mode 0 0) 3 || eqb (getD mode 0 0) 4)))
@@ -217,7 +217,7 @@ module _ (levels : ℕ) (bytes : List ℕ) (class : Class) (at : ℕ) (own : Own
 
   -- its number
   operand-number : 37 ≡ getD bytes at 0
-  unfolding built tokenNumber
+  unfolding built view
   operand-number = sym (ap (λ (kind : Kind). tokenNumber (built kind (textOf bytes own) trees)) operand) ∙ inner-number levels bytes class at own is
 
   parts-held : OperandRead reader bits (own .end) trees

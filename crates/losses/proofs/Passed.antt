@@ -16,7 +16,7 @@ use Rattle.tree.specs.declared.own.OwnRead.{OwnRead}
 use Rattle.tree.specs.declared.own.OwnRead.the-variants.{Record, Refused}
 use Rattle.tree.specs.declared.parts.Skipped.the-variants.{Next, NotSkipped}
 use Rattle.tree.proofs.Cases.{failed-passed}
-use Rattle.events.specs.Views.{standsAt}
+use Rattle.events.specs.Views.{view, standsAt}
 use Rattle.events.proofs.Heads.{own-refused}
 use Rattle.events.proofs.Passed.{own-passed}
 use Rattle.events.proofs.Refusals.{read-refusal}
@@ -54,7 +54,7 @@ module _ (levels : ℕ) (bytes : List ℕ) (class : Class) (at : ℕ) (passed : 
 
   -- it stands at its place
   pub passed-at : standsAt (read levels bytes class at .tree) ≡ at
-  unfolding standsAt
+  unfolding view
   passed-at = ap standsAt (node-read levels bytes class at (own-there .0) (own-there .1))
 
   -- it is skipped

@@ -25,7 +25,7 @@ use Rattle.tree.specs.declared.own.Own.{Own}
 use Rattle.tree.specs.declared.own.OwnRead.the-variants.{Record}
 use Rattle.tree.specs.declared.grammar.Items.the-variants.{NoList}
 use Rattle.tree.proofs.Rows.{class-back}
-use Rattle.events.specs.Views.{ownTrivia, headOf, standsAt, tokenNumber}
+use Rattle.events.specs.Views.{view, ownTrivia, headOf, standsAt, tokenNumber}
 use Rattle.events.proofs.OwnParts.{Fielded, record-parts, record-headed, token-number}
 use Rattle.leaves.proofs.Records.{read-record}
 use Rattle.leaves.proofs.Fielded.{standing-range}
@@ -108,7 +108,7 @@ module _ (levels : ℕ) (bytes : List ℕ) (class : Class) (at : ℕ) (own : Own
 
   -- the uses below it are what its kind tells, and those of its parts: a list
   list-uses : own .kind ≡ variant.Vec → (listed : Bool) → placesIn listed inner ≡ kindUses listed (getD bytes at 0) parts ++ below listed
-  unfolding placesIn built partsDue fieldsDue tokenNumber
+  unfolding placesIn built partsDue fieldsDue view
   list-uses vec listed =
       let number : 24 ≡ getD bytes at 0 = sym (ap (λ (kind : Kind). tokenNumber (built kind (textOf bytes own) parts)) vec) ∙ inner-number in
       rw (sym number) (rw vec (items-along (read (levels - 1) bytes) listed class (own .count) (own .end)))
@@ -196,7 +196,7 @@ module _ (class : Class) (number at : ℕ) (stands : mayStand (rule class) numbe
 module _ (levels : ℕ) (bytes : List ℕ) (class : Class) (at : ℕ) (own : Own) (is : readOwn bytes at class levels ≡ Record own) where
   -- the head of an `Expression` is its expression's
   nine-head : getD bytes at 0 ≡ 9 → headOf (read levels bytes class at .tree) ≡ headOf (getD (partTrees levels bytes class own) 0 absent)
-  unfolding headOf built
+  unfolding built view
   nine-head number =
       let known : kindOf 9 ≡ Known (own .kind) = rw number at (record-headed bytes at class levels own is .1 .kindIs) in
       let same : own .kind ≡ variant.Expression = cc in
@@ -205,7 +205,7 @@ module _ (levels : ℕ) (bytes : List ℕ) (class : Class) (at : ℕ) (own : Own
   -- all uses of a record are those that it shows by itself, and those of its parts
   pub record-uses : (listed : Bool) → seenIn class listed (read levels bytes class at .tree)
       ≡ ownUses class listed (read levels bytes class at .tree) at (partTrees levels bytes class own) ++ below levels bytes class at own is listed
-  unfolding placesIn ownTrivia standsAt tokenNumber
+  unfolding placesIn view
   record-uses listed =
       let same = same-uses class (getD bytes at 0) at (record-headed bytes at class levels own is .1 .standing) listed
       (hasComment (triviaOf bytes own)) (headOf (read levels bytes class at .tree)) (partTrees levels bytes class own) (below levels bytes class at own is listed) nine-head in

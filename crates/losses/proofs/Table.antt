@@ -15,7 +15,7 @@ use Rattle.tree.specs.declared.grammar.Class.{Class}
 use Rattle.tree.specs.declared.grammar.Class.the-variants as class
 use Rattle.tree.specs.declared.grammar.Items.{Items}
 use Rattle.tree.specs.declared.grammar.Items.the-variants.{NoList, ListOf}
-use Rattle.events.specs.Views.{tokenNumber}
+use Rattle.events.specs.Views.{view, tokenNumber}
 use Rattle.events.specs.Views.{standsAt}
 use Rattle.reading.specs.Places.{Use, openingBrace, mark, atOpeningBrace, placesIn}
 use Rattle.losses.specs.Visits.{classUses, seenIn, listedBelow, kindUses}
@@ -75,7 +75,7 @@ pub kind-uses : (kind : Kind) (class : Class) (listed : Bool) (text : List ℕ) 
     → placesIn listed (built kind text trees)
     ≡ kindUses listed (tokenNumber (built kind text trees)) trees
     ++ slotsSeen (listedBelow (tokenNumber (built kind text trees)) listed) (fields kind (rule class .value)) 0 trees
-unfolding placesIn built tokenNumber slotsSeen
+unfolding placesIn built slotsSeen view
 kind-uses variant.Align class listed text trees other = simp (append-assoc, append-nil)
 kind-uses variant.Assert class listed text trees other = simp (append-assoc, append-nil)
 kind-uses variant.Braces class listed text trees other = simp (append-assoc, append-nil)

@@ -22,7 +22,7 @@ use Rattle.tree.specs.declared.grammar.Class.{Class}
 use Rattle.tree.specs.declared.grammar.Class.the-variants.{BlockRecord, BareToken, ImportPath}
 use Rattle.printing.specs.Holding.{inkOf}
 use Rattle.printing.specs.declared.Context.{Context}
-use Rattle.events.specs.Views.{ownTrivia, headOf, headTrivia, standsAt, tokenNumber}
+use Rattle.events.specs.Views.{view, ownTrivia, headOf, headTrivia, standsAt, tokenNumber}
 use Rattle.events.specs.Trees.{oneOf, Place, eventsIn}
 use Rattle.reading.specs.Order.{comments}
 use Rattle.reading.specs.Places.{Spot, Use, openingBrace, importPath, pathItem, expressionHead, mark, placesIn, spotNumber}
@@ -85,7 +85,7 @@ unmarked place spot false other e = refl
 -- a record that prints without its trivia, behind them, is the record with them
 pub own-before : (context : Context) (place : Place) (tree : Tree)
     → inks (comments (ownTrivia tree)) ++ inkOf (eventsIn context place false tree) ≡ inkOf (eventsIn context place true tree)
-unfolding eventsIn inkOf ownTrivia comments inks
+unfolding eventsIn inkOf comments inks view
 own-before context place absent = refl
 own-before context place (refused refusal) = refl
 own-before context place (node offset trivia tree) = rw (ink-trivia context trivia)
@@ -139,7 +139,7 @@ own-before context place (ArgItem value comma) = refl
 
 -- a tree of a class has a kind that may stand there, or is the items of a list
 numbered : (class : Class) (tree : Tree) → Shaped class tree → Allowed class (tokenNumber tree) ⊎ (Listed class × (tokenNumber tree ≡ 43))
-unfolding Shaped tokenNumber
+unfolding Shaped view
 numbered class absent shaped = absurd shaped
 numbered class (refused refusal) shaped = absurd shaped
 numbered class (node place trivia tree) shaped = numbered class tree (shaped .1)
@@ -210,7 +210,7 @@ stem tree = cond (oneOf (tokenNumber tree) (9 ∷ 28 ∷ 29 ∷ [])) [] (headTri
 
 -- only tokens and blocks leave any
 pub stem-none : (tree : Tree) → 24 ≤ tokenNumber tree → (tokenNumber tree ≡ 27 → ⊥) → stem tree ≡ []
-unfolding stem oneOf tokenNumber headOf ownTrivia
+unfolding stem oneOf view
 stem-none absent above other = refl
 stem-none (refused refusal) above other = refl
 stem-none (node place trivia tree) above other = stem-none tree above other
@@ -292,7 +292,7 @@ headless-clear class tree none shaped =
 
 -- a block whose brace is not place (a) has no comment there
 brace-clear : (tree : Tree) → tokenNumber tree ≡ 27 → harmless (placesIn false tree) ≡ true → comments (headTrivia tree) ≡ []
-unfolding placesIn tokenNumber headOf ownTrivia
+unfolding placesIn view
 brace-clear absent is free = absurd (omega (arith, is))
 brace-clear (refused refusal) is free = absurd (omega (arith, is))
 brace-clear (node place trivia tree) is free =
@@ -362,7 +362,7 @@ block-clear tree shaped free = rw (block-stem tree shaped) (brace-clear tree (bl
 
 -- an `Expression` in a list whose head is not place (g) has no comment there
 expression-clear : (tree : Tree) → tokenNumber tree ≡ 9 → harmless (placesIn true tree) ≡ true → comments (headTrivia tree) ≡ []
-unfolding placesIn tokenNumber headOf ownTrivia
+unfolding placesIn view
 expression-clear absent is free = absurd (omega (arith, is))
 expression-clear (refused refusal) is free = absurd (omega (arith, is))
 expression-clear (node place trivia tree) is free =
@@ -453,7 +453,7 @@ import-of place trivia tree shaped free =
 -- a tree that has no `Located` has no comments of its own, unless it is place (e)
 pub own-clear : (class : Class) (listed : Bool) (tree : Tree) → rule class .located ≡ false → Shaped class tree → harmless (placesIn listed tree) ≡ true
     → comments (ownTrivia tree) ≡ []
-unfolding placesIn ownTrivia Shaped comments
+unfolding placesIn Shaped comments view
 own-clear class listed absent bare shaped free = refl
 own-clear class listed (refused refusal) bare shaped free = refl
 own-clear class listed (node place trivia tree) bare shaped free =
@@ -507,7 +507,7 @@ own-clear class listed (ArgItem value comma) bare shaped free = refl
 
 -- a path of an import has none, unless it is place (d)
 pub import-clear : (listed : Bool) (tree : Tree) → Shaped ImportPath tree → harmless (placesIn listed tree) ≡ true → comments (ownTrivia tree) ≡ []
-unfolding placesIn ownTrivia Shaped comments
+unfolding placesIn Shaped comments view
 import-clear listed absent shaped free = refl
 import-clear listed (refused refusal) shaped free = refl
 import-clear listed (node place trivia tree) shaped free = import-of place trivia tree (shaped .1) (harmless-parts (mark place importPath (atImportPath trivia tree)) _ free .0)

@@ -20,7 +20,7 @@ use Rattle.tree.specs.declared.grammar.Class.the-variants.{StringItems}
 use Rattle.printing.specs.Holding.{inkOf}
 use Rattle.printing.specs.declared.Context.{Context}
 use Rattle.events.specs.Printed.{plain, mnemonic, register, operator, dataSize, encoding, variableType, numberType, modifier}
-use Rattle.events.specs.Views.{ownTrivia, headOf, standsAt, tokenNumber, indexOf}
+use Rattle.events.specs.Views.{view, ownTrivia, headOf, standsAt, indexOf}
 use Rattle.events.specs.Trees.{oneOf, first, fileEnd, blockEnd, Place, leaf, arguments, imports, inString, tokens, deeper, eventsIn, eventsOf}
 use Rattle.reading.specs.Order.{comments, orderIn, order}
 use Rattle.reading.specs.Places.{Spot, Use, atOpeningBrace, atLabelColon, atValueHead, atImportPath, atPathItem, atRegisterLetter, atExpressionHead}
@@ -45,7 +45,7 @@ use Rattle.reading.proofs.Records.{ink-SpecificImportArg}
 -- the claim holds of every tree
 ink-in : (c : Context) (place : Place) (class : Class) (listed : Bool) (tree : Tree) → Suits place class → Shaped class tree
     → harmless (placesIn listed tree) ≡ true → Led class tree → Inked c place tree
-unfolding eventsIn orderIn inkOf inks comments placesIn Shaped stem oneOf tokenNumber headOf ownTrivia
+unfolding eventsIn orderIn inkOf inks comments placesIn Shaped stem oneOf view
 ink-in c place class listed absent suits shaped free led = absurd shaped
 ink-in c place class listed (refused refusal) suits shaped free led = absurd shaped
 ink-in c place class listed (node offset trivia tree) suits shaped free led =

@@ -28,7 +28,7 @@ use Rattle.printing.specs.Events.{Events, nothing}
 use Rattle.printing.specs.Holding.{inkOf}
 use Rattle.printing.specs.declared.Context.{Context}
 use Rattle.events.specs.Printed.{Style, plain, mnemonic, register, operator, dataSize, encoding, variableType, numberType, modifier, printed}
-use Rattle.events.specs.Views.{ownTrivia, headTrivia, tokenNumber, stands}
+use Rattle.events.specs.Views.{view, ownTrivia, headTrivia, tokenNumber, stands}
 use Rattle.events.specs.Trees.{triviaEvents, Before, first, behind, Closing, fileEnd, blockEnd, Place, leaf, labelled, arguments, imports, inString}
 use Rattle.events.specs.Trees.{tokens, endEvents, itemEvents, leafEvents, deeper, opening, elseEvents, operandEvents, eventsIn}
 use Rattle.reading.specs.Order.{comments, shownAs, closingOrder, orderIn}
@@ -363,7 +363,7 @@ ink-label context (ArgItem value comma) shaped = true-false (sym (shaped .0))
 
 -- a tree that does not stand is none
 gone : (tree : Tree) → stands tree ≡ false → tree ≡ absent
-unfolding stands
+unfolding view
 gone absent none = refl
 gone (refused refusal) none = true-false none
 gone (node place trivia tree) none = true-false none

@@ -24,7 +24,7 @@ use Rattle.tree.specs.Reading.{triviaFrom, triviaTexts, fieldsDue, partsDue, re
 use Rattle.tree.specs.Checking.{readFile, textsChecked, treeChecked, batchChecked}
 use Rattle.events.specs.Printed.{mnemonics, registers, operators, dataSizes, encodings, variableTypes, numberTypes}
 use Rattle.events.specs.Printed.{modifiers, printed}
-use Rattle.events.specs.Views.{ownTrivia, headOf, standsAt, tokenNumber, stands, indexOf}
+use Rattle.events.specs.Views.{view}
 use Rattle.reading.specs.Order.{comments, shownAs, orderIn, order}
 use Rattle.reading.specs.Places.{Spot, openingBrace, labelColon, valueHead, importPath, pathItem, registerLetter}
 use Rattle.reading.specs.Places.{expressionHead, closingCharacter, hasComment, Use, placesIn, spotNumber}
@@ -499,8 +499,7 @@ wanted sample = map (wantedAt sample) (sample .notes)
 
 -- every row holds
 pub places-held : map found rows ≡ map wanted rows
-unfolding flat acceptedByte acceptedText faultAt ascii cased built chain fieldsFit mapFits sizedEnd triviumEnd triviaEnd
-    triviaRead textEnd restOf ownAt readOwn triviaFrom triviaTexts fieldsDue partsDue readParts read textsChecked
-    treeChecked mnemonics registers operators dataSizes encodings variableTypes numberTypes modifiers printed
-    ownTrivia headOf standsAt tokenNumber stands indexOf comments shownAs orderIn hasComment placesIn
+unfolding flat acceptedByte acceptedText faultAt ascii cased built chain fieldsFit mapFits sizedEnd triviumEnd triviaEnd triviaRead textEnd restOf
+    ownAt readOwn triviaFrom triviaTexts fieldsDue partsDue readParts read textsChecked treeChecked mnemonics registers operators dataSizes encodings
+    variableTypes numberTypes modifiers printed comments shownAs orderIn hasComment placesIn view
 places-held = refl

@@ -30,7 +30,7 @@ use Rattle.tree.proofs.KindLayout.{leaf-stored}
 use Rattle.tree.proofs.OwnBytes.{Headed, leafNumber, trivia-cases, own-cases}
 use Rattle.tree.proofs.RoundTrip.{no-items, node-fits}
 use Rattle.tree.proofs.Readings.{every-reading}
-use Rattle.events.specs.Views.{tokenNumber, stands, bitAt}
+use Rattle.events.specs.Views.{view, tokenNumber, stands, bitAt}
 use Rattle.events.proofs.OwnParts.{token-number, leaf-other, both-stand}
 use Rattle.reading.proofs.Shape.{Allowed, TriviaAllowed, noTrivia, itemIn, Given, Shaped}
 
@@ -59,7 +59,7 @@ else-together bits tag block fits tags blocks = tags ∙ both-stand bits fits �
 built-shaped : (kind : Kind) (class : Class) (text : List ℕ) (bits : ℕ) (trees : List Tree) → Allowed class (tokenNumber (built kind text trees))
     → elseFits (tokenNumber (built kind text trees)) bits ≡ true → eqb (tokenNumber (built kind text trees)) 24 ≡ false
     → FieldsShaped (fields kind (rule class .value)) bits 0 trees → Shaped class (built kind text trees)
-unfolding Shaped tokenNumber built
+unfolding Shaped built view
 built-shaped variant.Align class text bits trees allowed fits other parts = (allowed, parts .0 .0, parts .1 .0 .0)
 built-shaped variant.Assert class text bits trees allowed fits other parts = (allowed, parts .0 .0, parts .1 .0 .0, parts .1 .1 .0 .0)
 built-shaped variant.Braces class text bits trees allowed fits other parts = (allowed, parts .0 .0)
@@ -149,7 +149,7 @@ module _ (reader : Reader) (below : (class : Class) (at : ℕ) → Reads class (
   -- fields whose bits fit keep the grammar
   fields-shaped : (slots : List Slot) (bits at : ℕ) → fieldsFit slots bits ≡ true → readParts reader (fieldsDue slots bits) at .checked ≡ Passed
       → FieldsShaped slots bits 0 (readParts reader (fieldsDue slots bits) at .trees)
-  unfolding fieldsFit fieldsDue readParts stands
+  unfolding fieldsFit fieldsDue readParts view
   fields-shaped [] bits at fits e = tt
   fields-shaped (must class ∷ slots) bits at fits e =
       let q : eqb (bits % 2) 1 ≡ true = and-true-left (eqb (bits % 2) 1) (fieldsFit slots (bits / 2)) fits in
@@ -198,7 +198,7 @@ module _ (bytes : List ℕ) (reader : Reader) (below : (class : Class) (at : ℕ
   -- a list
   list-reads : (kind : Kind) (trivia : TriviaSpan) → Headed bytes at class kind trivia → getD bytes at 0 ≡ 24 → trivia .end + 2 ≤ length bytes
       → OwnReads (ownOf kind (getD bytes (at + 1) 0) trivia (trivia .end + 2) (trivia .end + 2) (numberAt bytes (trivia .end)))
-  unfolding built partsDue fieldsDue Shaped stands tokenNumber
+  unfolding built partsDue fieldsDue Shaped view
   list-reads kind trivia headed is room =
       let known : kindOf 24 ≡ Known kind = rw is at (headed .kindIs) in
       let same : kind ≡ variant.Vec = cc in
@@ -210,7 +210,7 @@ module _ (bytes : List ℕ) (reader : Reader) (below : (class : Class) (at : ℕ
   -- any other record
   other-reads : (kind : Kind) (trivia : TriviaSpan) (text end : ℕ) → Headed bytes at class kind trivia → eqb (getD bytes at 0) 24 ≡ false
       → OwnReads (ownOf kind (getD bytes (at + 1) 0) trivia text end 0)
-  unfolding partsDue Shaped stands
+  unfolding partsDue Shaped view
   other-reads kind trivia text end headed list =
       let number : ℕ = getD bytes at 0 in
       let flags : ℕ = getD bytes (at + 1) 0 in
