@@ -80,8 +80,8 @@ impl Answer {
 impl Checked {
     // The same judgement as an answer with no text.
     pub fn answer(self) -> Answer
-        ensures { λ r. ⌜ r ≡ answerOf self ⌝ }
-        ensures { λ r. ⌜ numbers r ≡ numbersChecked self ⌝ }
+        ensures answer { λ r. ⌜ r ≡ answerOf self ⌝ }
+        ensures numbers { λ r. ⌜ numbers r ≡ numbersChecked self ⌝ }
     {
         match self {
             Checked::Passed => Answer::Accepted(0),

@@ -8,7 +8,7 @@ ghost use mathlib.Core.Bool.{cond};
 ghost use Prim.Native.Nat.{_+_, _≤_};
 ghost use lib.ListN.{length};
 ghost use lib.Seq.{sets};
-ghost use Rattle.chunks.specs.Stored.{typeBits, indentBit, storedIndent, storedHead};
+ghost use Rattle.chunks.specs.Stored.{Chunk, typeBits, indentBit, storedIndent, storedHead};
 ghost use Rattle.chunks.specs.Appending.{withSpace, withColon, capacity, appended, roomAfter};
 ghost use Rattle.chunks.specs.Steps.{byteIf};
 
@@ -49,8 +49,8 @@ fn map_byte(ty: ChunkType, indent: usize) -> u8
 // An indent, which is stored only where it is not 0; the place behind it.
 fn store_indent(room: &mut [u8], at: usize, indent: usize) -> usize
     requires { ⌜ (indent ≤ 4096) × (at + length (storedIndent indent) ≤ length (now room)) ⌝ }
-    ensures { λ r. ⌜ r ≡ at + length (storedIndent indent) ⌝ }
-    ensures { λ _. ⌜ now (room .exit) ≡ sets (now (room .entry)) at (storedIndent indent) ⌝ }
+    ensures answer { λ r. ⌜ r ≡ at + length (storedIndent indent) ⌝ }
+    ensures room { λ _. ⌜ now (room .exit) ≡ sets (now (room .entry)) at (storedIndent indent) ⌝ }
 {
     if indent == 0 {
         return at;
@@ -62,8 +62,8 @@ fn store_indent(room: &mut [u8], at: usize, indent: usize) -> usize
 // What stands before a chunk's text; the place behind it.
 fn store_head(room: &mut [u8], at: usize, ty: ChunkType, indent: usize, count: usize) -> usize
     requires { ⌜ (indent ≤ 4096) × (count ≤ 65535) × (at + length (storedHead ty indent count) ≤ length (now room)) ⌝ }
-    ensures { λ r. ⌜ r ≡ at + length (storedHead ty indent count) ⌝ }
-    ensures { λ _. ⌜ now (room .exit) ≡ sets (now (room .entry)) at (storedHead ty indent count) ⌝ }
+    ensures answer { λ r. ⌜ r ≡ at + length (storedHead ty indent count) ⌝ }
+    ensures room { λ _. ⌜ now (room .exit) ≡ sets (now (room .entry)) at (storedHead ty indent count) ⌝ }
 {
     room[at] = map_byte(ty, indent);
     let behind = store_indent(room, at + 1, indent);
@@ -104,8 +104,8 @@ fn text_length(spaced: bool, text: &[u8], colon: bool) -> usize
 // A byte, which is stored only where a flag is set; the place behind it.
 fn store_if(room: &mut [u8], at: usize, flag: bool, byte: u8) -> usize
     requires { ⌜ at + length (byteIf flag byte) ≤ length (now room) ⌝ }
-    ensures { λ r. ⌜ r ≡ at + length (byteIf flag byte) ⌝ }
-    ensures { λ _. ⌜ now (room .exit) ≡ sets (now (room .entry)) at (byteIf flag byte) ⌝ }
+    ensures answer { λ r. ⌜ r ≡ at + length (byteIf flag byte) ⌝ }
+    ensures room { λ _. ⌜ now (room .exit) ≡ sets (now (room .entry)) at (byteIf flag byte) ⌝ }
 {
     if flag {
         room[at] = byte;
@@ -117,7 +117,8 @@ fn store_if(room: &mut [u8], at: usize, flag: bool, byte: u8) -> usize
 // A text with its space and its colon. These are written as single bytes: most texts have neither, and a copy of nothing has to be set up all the same.
 fn store_text(room: &mut [u8], at: usize, spaced: bool, text: &[u8], colon: bool)
     requires { ⌜ at + length (withSpace spaced (withColon colon (now text))) ≤ length (now room) ⌝ }
-    ensures { λ _. ⌜ now (room .exit) ≡ sets (now (room .entry)) at (withSpace spaced (withColon colon (now (text .entry)))) ⌝ }
+    ensures { λ _.
+        ⌜ now (room .exit) ≡ sets (now (room .entry)) at (withSpace spaced (withColon colon (now (text .entry)))) ⌝ }
 {
     let start = store_if(room, at, spaced, characters::SPACE);
     stores::copy(text, room, start);
@@ -135,8 +136,14 @@ pub fn append_chunk(
     text: &[u8],
     colon: bool,
 ) -> Appended
-    ensures { λ r. ⌜ r ≡ appended (length (now (room .entry))) used (record { ty = ty; indent = indent; text = withSpace spaced (withColon colon (now (text .entry))) }) ⌝ }
-    ensures { λ _. ⌜ now (room .exit) ≡ roomAfter (now (room .entry)) used (record { ty = ty; indent = indent; text = withSpace spaced (withColon colon (now (text .entry))) }) ⌝ }
+    ensures answer { λ r.
+        let stored = withSpace spaced (withColon colon (now (text .entry))) in
+        let chunk : Chunk = record { ty = ty; indent = indent; text = stored } in
+        ⌜ r ≡ appended (length (now (room .entry))) used chunk ⌝ }
+    ensures room { λ _.
+        let stored = withSpace spaced (withColon colon (now (text .entry))) in
+        let chunk : Chunk = record { ty = ty; indent = indent; text = stored } in
+        ⌜ now (room .exit) ≡ roomAfter (now (room .entry)) used chunk ⌝ }
 {
     if 4096 < indent {
         return Appended::NoChunk;

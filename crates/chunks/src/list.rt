@@ -107,8 +107,8 @@ fn fault_in(list: &[u8], start: usize, end: usize, fault: usize) -> usize
 
 // Whether a list keeps the layout and its texts hold only accepted bytes: refusal 6 of the first bad chunk, else 7 of the first bad byte.
 pub fn check_chunks(list: &[u8]) -> Checked
-    ensures { λ r. ⌜ r ≡ chunksChecked (now (list .entry)) ⌝ }
-    ensures { λ r. ⌜ numbersChecked r ≡ chunksNumbers (now (list .entry)) ⌝ }
+    ensures answer { λ r. ⌜ r ≡ chunksChecked (now (list .entry)) ⌝ }
+    ensures numbers { λ r. ⌜ numbersChecked r ≡ chunksNumbers (now (list .entry)) ⌝ }
 {
     let length = list.len();
     if 1048576 < length {

@@ -64,8 +64,8 @@ fn text_at(list: &[u8], at: usize, ty: ChunkType, indent: usize) -> ChunkAt
 
 // The chunk at a place of a list.
 pub fn chunk_at(list: &[u8], at: usize) -> ChunkAt
-    ensures { λ r. ⌜ r ≡ chunkAt (now (list .entry)) at ⌝ }
-    ensures { λ r. ⌜ Fits (now (list .entry)) at r ⌝ }
+    ensures answer { λ r. ⌜ r ≡ chunkAt (now (list .entry)) at ⌝ }
+    ensures fits { λ r. ⌜ Fits (now (list .entry)) at r ⌝ }
 {
     if list.len() <= at {
         return ChunkAt::NoChunk;

@@ -30,10 +30,18 @@ fn packed(answer: Answer) -> u64
 // `join::join_chunks`: the text of a stored chunk list, or refusal 1, 2, 6, 7 or 9.
 #[no_mangle]
 pub extern "C" fn felgutrosa_join_chunks(chunks: &[u8], options: &[u8], text: &mut [u8]) -> u64
-    ensures { λ r. ⌜ r ≡ packedOf (answerIn (joinOutcome (now (chunks .entry)) (now (options .entry))) (length (now (text .entry)))) ⌝ }
-    ensures { λ _. ⌜ Small (answerIn (joinOutcome (now (chunks .entry)) (now (options .entry))) (length (now (text .entry)))) ⌝ }
-    ensures { λ _. ⌜ now (text .exit) ≡ bufferAfter (joinOutcome (now (chunks .entry)) (now (options .entry))) (now (text .entry)) ⌝ }
-    ensures { λ _. ⌜ Promised (chunksOf (now (chunks .entry))) (joinOutcome (now (chunks .entry)) (now (options .entry))) ⌝ }
+    ensures answer { λ r.
+        let outcome = joinOutcome (now (chunks .entry)) (now (options .entry)) in
+        ⌜ r ≡ packedOf (answerIn outcome (length (now (text .entry)))) ⌝ }
+    ensures small { λ _.
+        let outcome = joinOutcome (now (chunks .entry)) (now (options .entry)) in
+        ⌜ Small (answerIn outcome (length (now (text .entry)))) ⌝ }
+    ensures buffer { λ _.
+        let outcome = joinOutcome (now (chunks .entry)) (now (options .entry)) in
+        ⌜ now (text .exit) ≡ bufferAfter outcome (now (text .entry)) ⌝ }
+    ensures demands { λ _.
+        let outcome = joinOutcome (now (chunks .entry)) (now (options .entry)) in
+        ⌜ Promised (chunksOf (now (chunks .entry))) outcome ⌝ }
 {
     packed(join::join_chunks(chunks, options, text))
 }
@@ -41,8 +49,8 @@ pub extern "C" fn felgutrosa_join_chunks(chunks: &[u8], options: &[u8], text: &m
 // `tree::check_tree`: whether bytes are a stored tree; 0, or refusal 3, 4, 5 or 7.
 #[no_mangle]
 pub extern "C" fn felgutrosa_check_tree(tree: &[u8]) -> u64
-    ensures { λ r. ⌜ r ≡ packedOf (answerOf (batchChecked (now (tree .entry)))) ⌝ }
-    ensures { λ _. ⌜ Small (answerOf (batchChecked (now (tree .entry)))) ⌝ }
+    ensures answer { λ r. ⌜ r ≡ packedOf (answerOf (batchChecked (now (tree .entry)))) ⌝ }
+    ensures small { λ _. ⌜ Small (answerOf (batchChecked (now (tree .entry)))) ⌝ }
 {
     let checked = tree::check_tree(tree);
     packed(checked.answer())
@@ -51,10 +59,17 @@ pub extern "C" fn felgutrosa_check_tree(tree: &[u8]) -> u64
 // `tokens::chunks`: the chunks of a stored tree, stored at the start of the work room; or refusal 1, 2, 3, 4, 5, 7 or 8.
 #[no_mangle]
 pub extern "C" fn felgutrosa_chunks(tree: &[u8], options: &[u8], room: &mut [u8]) -> u64
-    ensures { λ r. ⌜ r ≡ packedOf (chunksAnswer (chunksHeld (now (tree .entry)) (now (options .entry)) (length (now (room .entry))))) ⌝ }
-    ensures { λ _. ⌜ Small (chunksAnswer (chunksHeld (now (tree .entry)) (now (options .entry)) (length (now (room .entry))))) ⌝ }
-    ensures { λ _. ⌜ RoomHolds (chunksHeld (now (tree .entry)) (now (options .entry)) (length (now (room .entry)))) (now (room .exit)) ⌝ }
-    ensures { λ _. ⌜ now (room .exit) ≡ chunksRoom (now (tree .entry)) (now (options .entry)) (now (room .entry)) ⌝ }
+    ensures answer { λ r.
+        let held = chunksHeld (now (tree .entry)) (now (options .entry)) (length (now (room .entry))) in
+        ⌜ r ≡ packedOf (chunksAnswer held) ⌝ }
+    ensures small { λ _.
+        let held = chunksHeld (now (tree .entry)) (now (options .entry)) (length (now (room .entry))) in
+        ⌜ Small (chunksAnswer held) ⌝ }
+    ensures stored { λ _.
+        let held = chunksHeld (now (tree .entry)) (now (options .entry)) (length (now (room .entry))) in
+        ⌜ RoomHolds held (now (room .exit)) ⌝ }
+    ensures room { λ _.
+        ⌜ now (room .exit) ≡ chunksRoom (now (tree .entry)) (now (options .entry)) (now (room .entry)) ⌝ }
 {
     packed(tokens::chunks(tree, options, room))
 }
@@ -67,11 +82,19 @@ pub extern "C" fn felgutrosa_format(
     work: &mut [u8],
     text: &mut [u8],
 ) -> u64
-    ensures { λ r. ⌜ r ≡ packedOf (answerIn (formatted (now (tree .entry)) (now (options .entry)) (length (now (work .entry)))) (length (now (text .entry)))) ⌝ }
-    ensures { λ _. ⌜ Small (answerIn (formatted (now (tree .entry)) (now (options .entry)) (length (now (work .entry)))) (length (now (text .entry)))) ⌝ }
-    ensures { λ _. ⌜ now (text .exit) ≡ bufferAfter (formatted (now (tree .entry)) (now (options .entry)) (length (now (work .entry)))) (now (text .entry)) ⌝ }
-    ensures { λ _. ⌜ now (work .exit) ≡ zeros (length (now (work .entry))) ⌝ }
-    ensures { λ _. ⌜ Lesson (now (tree .entry)) (now (options .entry)) (formatted (now (tree .entry)) (now (options .entry)) (length (now (work .entry)))) ⌝ }
+    ensures answer { λ r.
+        let lesson = formatted (now (tree .entry)) (now (options .entry)) (length (now (work .entry))) in
+        ⌜ r ≡ packedOf (answerIn lesson (length (now (text .entry)))) ⌝ }
+    ensures small { λ _.
+        let lesson = formatted (now (tree .entry)) (now (options .entry)) (length (now (work .entry))) in
+        ⌜ Small (answerIn lesson (length (now (text .entry)))) ⌝ }
+    ensures buffer { λ _.
+        let lesson = formatted (now (tree .entry)) (now (options .entry)) (length (now (work .entry))) in
+        ⌜ now (text .exit) ≡ bufferAfter lesson (now (text .entry)) ⌝ }
+    ensures work { λ _. ⌜ now (work .exit) ≡ zeros (length (now (work .entry))) ⌝ }
+    ensures demands { λ _.
+        let lesson = formatted (now (tree .entry)) (now (options .entry)) (length (now (work .entry))) in
+        ⌜ Lesson (now (tree .entry)) (now (options .entry)) lesson ⌝ }
 {
     packed(formatting::format(tree, options, work, text))
 }
@@ -91,9 +114,9 @@ fn loss_answer(loss: Loss) -> Answer
 // `losses::lost`: the first record at or after an offset that uses one of the eight places; or refusal 3, 4, 5 or 7.
 #[no_mangle]
 pub extern "C" fn felgutrosa_lost(tree: &[u8], from: usize) -> u64
-    ensures { λ r. ⌜ r ≡ packedOf (lossAnswer (lostFrom from (now (tree .entry)))) ⌝ }
-    ensures { λ _. ⌜ Small (lossAnswer (lostFrom from (now (tree .entry)))) ⌝ }
-    ensures { λ _. ⌜ Narrow (lostFrom from (now (tree .entry))) ⌝ }
+    ensures answer { λ r. ⌜ r ≡ packedOf (lossAnswer (lostFrom from (now (tree .entry)))) ⌝ }
+    ensures small { λ _. ⌜ Small (lossAnswer (lostFrom from (now (tree .entry)))) ⌝ }
+    ensures narrow { λ _. ⌜ Narrow (lostFrom from (now (tree .entry))) ⌝ }
 {
     let loss = losses::lost(tree, from);
     packed(loss_answer(loss))

@@ -10,17 +10,16 @@ use printing::Printed;
 use tree::grammar::Class;
 use tree::grammar::Kind;
 ghost use mathlib.Core.Path.{_≡_};
-ghost use mathlib.Core.Bool.{true, cond};
+ghost use mathlib.Core.Bool.{true};
 ghost use Rattle.tree.specs.Reading.{read};
 ghost use Rattle.tree.specs.Tree.{chain};
 ghost use Rattle.tree.specs.declared.grammar.Class.the-variants as class;
 ghost use Rattle.tree.specs.declared.grammar.Kind.the-variants as kind;
-ghost use Rattle.printing.specs.Events.{_▹_};
 ghost use Rattle.printing.specs.Running.{Prints};
 ghost use Rattle.events.specs.Printed.{plain};
 ghost use Rattle.events.specs.Trees as Trees;
-ghost use Rattle.events.specs.Trees.{eventsIn, skipping};
-ghost use Rattle.leaves.specs.Records.{PrintsRecord, PrintsKind};
+ghost use Rattle.events.specs.Trees.{eventsIn};
+ghost use Rattle.leaves.specs.Records.{PrintsRecord, PrintsNode};
 ghost use Rattle.leaves.specs.Lists.{itemTrees, itemsEnd};
 ghost use Rattle.expressions.specs.Expressions.{expressionClass, listClass, itemClass, valueClass, listPlace, tagEvents, tagsEnd};
 
@@ -69,7 +68,9 @@ pub fn format_expression(
     located: bool,
     last: Printed,
 ) -> Printed
-    ensures { λ r. ⌜ PrintsRecord r (now (room .exit)) last (now (room .entry)) context (Trees.leaf plain) true levels (now (tree .entry)) (expressionClass located) ⌝ }
+    ensures { λ r.
+        ⌜ PrintsRecord r (now (room .exit)) last (now (room .entry)) context (Trees.leaf plain) true levels
+        (now (tree .entry)) (expressionClass located) ⌝ }
 {
     // Taken apart first: handed on whole, an answer is copied with what is left free in it, and what follows waits for that.
     let Printed::Done(before, place) = last else {
@@ -105,7 +106,9 @@ fn format_binary_expression(
     levels: usize,
     last: Printed,
 ) -> Printed
-    ensures { λ r. ⌜ PrintsKind r (now (room .exit)) last (now (room .entry)) context (Trees.leaf plain) kind.BinaryExpression class.LocatedExpression 0 levels (now (tree .entry)) ⌝ }
+    ensures { λ r.
+        ⌜ PrintsNode r (now (room .exit)) last (now (room .entry)) context kind.BinaryExpression 0 levels
+        (now (tree .entry)) ⌝ }
 {
     let Printed::Done(_, op) = last else {
         return last;
@@ -139,7 +142,11 @@ fn format_tags(
     bits: usize,
     last: Printed,
 ) -> Printed
-    ensures { λ r. ⌜ Prints r (now (room .exit)) last (now (room .entry)) (λ at. tagEvents context bits (read levels (now (tree .entry))) at) (λ at. tagsEnd bits (read levels (now (tree .entry))) at) ⌝ }
+    ensures { λ r.
+        let reader = read levels (now (tree .entry)) in
+        ⌜ Prints r (now (room .exit)) last (now (room .entry))
+        (λ at. tagEvents context bits reader at)
+        (λ at. tagsEnd bits reader at) ⌝ }
 {
     let tag_not = record::stands(bits, 1);
     let tag_neg = record::stands(bits, 2);
@@ -175,7 +182,9 @@ fn format_factor(
     bits: usize,
     last: Printed,
 ) -> Printed
-    ensures { λ r. ⌜ PrintsKind r (now (room .exit)) last (now (room .entry)) context (Trees.leaf plain) kind.Factor class.LocatedExpression bits levels (now (tree .entry)) ⌝ }
+    ensures { λ r.
+        ⌜ PrintsNode r (now (room .exit)) last (now (room .entry)) context kind.Factor bits levels
+        (now (tree .entry)) ⌝ }
 {
     let Printed::Done(_, factor) = last else {
         return last;
@@ -201,7 +210,9 @@ fn format_expression_factor(
     levels: usize,
     last: Printed,
 ) -> Printed
-    ensures { λ r. ⌜ PrintsRecord r (now (room .exit)) last (now (room .entry)) context (Trees.leaf plain) true levels (now (tree .entry)) class.LocatedFactor ⌝ }
+    ensures { λ r.
+        ⌜ PrintsRecord r (now (room .exit)) last (now (room .entry)) context (Trees.leaf plain) true levels
+        (now (tree .entry)) class.LocatedFactor ⌝ }
 {
     let Printed::Done(before, place) = last else {
         return last;
@@ -251,7 +262,9 @@ fn format_parens(
     levels: usize,
     last: Printed,
 ) -> Printed
-    ensures { λ r. ⌜ PrintsKind r (now (room .exit)) last (now (room .entry)) context (Trees.leaf plain) kind.ExprParens class.LocatedExpression 0 levels (now (tree .entry)) ⌝ }
+    ensures { λ r.
+        ⌜ PrintsNode r (now (room .exit)) last (now (room .entry)) context kind.ExprParens 0 levels
+        (now (tree .entry)) ⌝ }
 {
     let lparen = leaf::format_leaf(
         tree,
@@ -284,7 +297,9 @@ fn format_call(
     levels: usize,
     last: Printed,
 ) -> Printed
-    ensures { λ r. ⌜ PrintsKind r (now (room .exit)) last (now (room .entry)) context (Trees.leaf plain) kind.FunctionCall class.LocatedExpression 0 levels (now (tree .entry)) ⌝ }
+    ensures { λ r.
+        ⌜ PrintsNode r (now (room .exit)) last (now (room .entry)) context kind.FunctionCall 0 levels
+        (now (tree .entry)) ⌝ }
 {
     let name = leaf::format_leaf(
         tree,
@@ -328,7 +343,9 @@ fn format_identifier_value(
     bits: usize,
     last: Printed,
 ) -> Printed
-    ensures { λ r. ⌜ PrintsKind r (now (room .exit)) last (now (room .entry)) context (Trees.leaf plain) kind.IdentifierValue class.LocatedExpression bits levels (now (tree .entry)) ⌝ }
+    ensures { λ r.
+        ⌜ PrintsNode r (now (room .exit)) last (now (room .entry)) context kind.IdentifierValue bits levels
+        (now (tree .entry)) ⌝ }
 {
     let Printed::Done(_, path) = last else {
         return last;
@@ -380,7 +397,8 @@ fn format_number(
     levels: usize,
     last: Printed,
 ) -> Printed
-    ensures { λ r. ⌜ PrintsKind r (now (room .exit)) last (now (room .entry)) context (Trees.leaf plain) kind.Number class.LocatedExpression 0 levels (now (tree .entry)) ⌝ }
+    ensures { λ r.
+        ⌜ PrintsNode r (now (room .exit)) last (now (room .entry)) context kind.Number 0 levels (now (tree .entry)) ⌝ }
 {
     let ty = leaf::format_leaf(
         tree,
@@ -413,7 +431,9 @@ pub fn format_arguments(
     of: Arguments,
     last: Printed,
 ) -> Printed
-    ensures { λ r. ⌜ PrintsRecord r (now (room .exit)) last (now (room .entry)) context (listPlace of) true levels (now (tree .entry)) (listClass of) ⌝ }
+    ensures { λ r.
+        ⌜ PrintsRecord r (now (room .exit)) last (now (room .entry)) context (listPlace of) true levels
+        (now (tree .entry)) (listClass of) ⌝ }
 {
     let Printed::Done(before, place) = last else {
         return last;
@@ -452,7 +472,11 @@ fn format_each_argument(
     count: usize,
     last: Printed,
 ) -> Printed
-    ensures { λ r. ⌜ Prints r (now (room .exit)) last (now (room .entry)) (λ at. eventsIn context (listPlace of) true (chain (itemTrees (read levels (now (tree .entry))) (itemClass of) count at))) (λ at. itemsEnd (read levels (now (tree .entry))) (itemClass of) count at) ⌝ }
+    ensures { λ r.
+        let reader = read levels (now (tree .entry)) in
+        ⌜ Prints r (now (room .exit)) last (now (room .entry))
+        (λ at. eventsIn context (listPlace of) true (chain (itemTrees reader (itemClass of) count at)))
+        (λ at. itemsEnd reader (itemClass of) count at) ⌝ }
 {
     let mut answer = last;
     let mut left = count;
@@ -475,7 +499,9 @@ fn format_argument(
     of: Arguments,
     last: Printed,
 ) -> Printed
-    ensures { λ r. ⌜ PrintsRecord r (now (room .exit)) last (now (room .entry)) context (listPlace of) true levels (now (tree .entry)) (itemClass of) ⌝ }
+    ensures { λ r.
+        ⌜ PrintsRecord r (now (room .exit)) last (now (room .entry)) context (listPlace of) true levels
+        (now (tree .entry)) (itemClass of) ⌝ }
 {
     let Printed::Done(before, place) = last else {
         return last;
@@ -520,7 +546,9 @@ fn format_value(
     of: Arguments,
     last: Printed,
 ) -> Printed
-    ensures { λ r. ⌜ PrintsRecord r (now (room .exit)) last (now (room .entry)) context (Trees.leaf plain) (Trees.valueShown (listPlace of)) levels (now (tree .entry)) (valueClass of) ⌝ }
+    ensures { λ r.
+        ⌜ PrintsRecord r (now (room .exit)) last (now (room .entry)) context (Trees.leaf plain)
+        (Trees.valueShown (listPlace of)) levels (now (tree .entry)) (valueClass of) ⌝ }
 {
     match of {
         Arguments::Expressions => format_expression(tree, room, context, levels, true, last),

@@ -11,7 +11,7 @@ ghost use Rattle.tree.specs.declared.grammar.Class.the-variants as class;
 ghost use Rattle.tree.specs.declared.grammar.Kind.the-variants as kind;
 ghost use Rattle.events.specs.Printed.{plain};
 ghost use Rattle.events.specs.Trees as Trees;
-ghost use Rattle.leaves.specs.Records.{PrintsRecord, PrintsField, PrintsKind};
+ghost use Rattle.leaves.specs.Records.{PrintsRecord, PrintsField, PrintsNode};
 
 // `as` with a path, which may stand or not.
 fn format_import_as(
@@ -22,7 +22,9 @@ fn format_import_as(
     stands: bool,
     last: Printed,
 ) -> Printed
-    ensures { λ r. ⌜ PrintsField r (now (room .exit)) last (now (room .entry)) context (Trees.leaf plain) true levels (now (tree .entry)) class.AsRecord stands ⌝ }
+    ensures { λ r.
+        ⌜ PrintsField r (now (room .exit)) last (now (room .entry)) context (Trees.leaf plain) true levels
+        (now (tree .entry)) class.AsRecord stands ⌝ }
 {
     let opened = record::open(
         tree,
@@ -71,7 +73,9 @@ pub(crate) fn format_import_all(
     bits: usize,
     last: Printed,
 ) -> Printed
-    ensures { λ r. ⌜ PrintsKind r (now (room .exit)) last (now (room .entry)) context (Trees.leaf plain) kind.ImportAll class.LocatedExpression bits levels (now (tree .entry)) ⌝ }
+    ensures { λ r.
+        ⌜ PrintsNode r (now (room .exit)) last (now (room .entry)) context kind.ImportAll bits levels
+        (now (tree .entry)) ⌝ }
 {
     let star = leaf::format_leaf(
         tree,
@@ -96,7 +100,9 @@ pub(crate) fn format_import_path(
     levels: usize,
     last: Printed,
 ) -> Printed
-    ensures { λ r. ⌜ PrintsRecord r (now (room .exit)) last (now (room .entry)) context (Trees.leaf plain) false levels (now (tree .entry)) class.ImportPath ⌝ }
+    ensures { λ r.
+        ⌜ PrintsRecord r (now (room .exit)) last (now (room .entry)) context (Trees.leaf plain) false levels
+        (now (tree .entry)) class.ImportPath ⌝ }
 {
     let opened = record::open(
         tree,

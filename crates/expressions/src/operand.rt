@@ -34,7 +34,9 @@ fn format_register_suffix(
     stands: bool,
     last: Printed,
 ) -> Printed
-    ensures { λ r. ⌜ PrintsField r (now (room .exit)) last (now (room .entry)) context (Trees.leaf plain) true levels (now (tree .entry)) class.SuffixRecord stands ⌝ }
+    ensures { λ r.
+        ⌜ PrintsField r (now (room .exit)) last (now (room .entry)) context (Trees.leaf plain) true levels
+        (now (tree .entry)) class.SuffixRecord stands ⌝ }
 {
     let opened = record::open(
         tree,
@@ -84,7 +86,9 @@ fn format_closing(
     stands: bool,
     last: Printed,
 ) -> Printed
-    ensures { λ r. ⌜ PrintsField r (now (room .exit)) last (now (room .entry)) context (Trees.leaf plain) true levels (now (tree .entry)) class.Char stands ⌝ }
+    ensures { λ r.
+        ⌜ PrintsField r (now (room .exit)) last (now (room .entry)) context (Trees.leaf plain) true levels
+        (now (tree .entry)) class.Char stands ⌝ }
 {
     leaf::format_optional_leaf(
         tree,
@@ -119,7 +123,11 @@ fn format_front(
     lchar: bool,
     last: Printed,
 ) -> Printed
-    ensures { λ r. ⌜ Prints r (now (room .exit)) last (now (room .entry)) (λ at. frontEvents context lchar (read levels (now (tree .entry))) at) (λ at. frontEnd lchar (read levels (now (tree .entry))) at) ⌝ }
+    ensures { λ r.
+        let reader = read levels (now (tree .entry)) in
+        ⌜ Prints r (now (room .exit)) last (now (room .entry))
+        (λ at. frontEvents context lchar reader at)
+        (λ at. frontEnd lchar reader at) ⌝ }
 {
     let Printed::Done(_, expr) = last else {
         return last;
@@ -164,7 +172,11 @@ fn format_end(
     suffix: bool,
     last: Printed,
 ) -> Printed
-    ensures { λ r. ⌜ Prints r (now (room .exit)) last (now (room .entry)) (λ at. endEvents context mode rchar place suffix (read levels (now (tree .entry))) at) (λ at. cond suffix (read levels (now (tree .entry)) class.SuffixRecord at .end) at) ⌝ }
+    ensures { λ r.
+        let reader = read levels (now (tree .entry)) in
+        ⌜ Prints r (now (room .exit)) last (now (room .entry))
+        (λ at. endEvents context mode rchar place suffix reader at)
+        (λ at. cond suffix (reader class.SuffixRecord at .end) at) ⌝ }
 {
     let Printed::Done(_, behind) = last else {
         return last;
@@ -202,7 +214,11 @@ fn format_tail(
     suffix: bool,
     last: Printed,
 ) -> Printed
-    ensures { λ r. ⌜ Prints r (now (room .exit)) last (now (room .entry)) (λ at. tailEvents context rchar suffix (read levels (now (tree .entry))) at) (λ at. tailEnd rchar suffix (read levels (now (tree .entry))) at) ⌝ }
+    ensures { λ r.
+        let reader = read levels (now (tree .entry)) in
+        ⌜ Prints r (now (room .exit)) last (now (room .entry))
+        (λ at. tailEvents context rchar suffix reader at)
+        (λ at. tailEnd rchar suffix reader at) ⌝ }
 {
     let Printed::Done(_, place) = last else {
         return last;
@@ -237,7 +253,9 @@ pub fn format_operand(
     stands: bool,
     last: Printed,
 ) -> Printed
-    ensures { λ r. ⌜ PrintsField r (now (room .exit)) last (now (room .entry)) context (Trees.leaf plain) true levels (now (tree .entry)) class.OperandRecord stands ⌝ }
+    ensures { λ r.
+        ⌜ PrintsField r (now (room .exit)) last (now (room .entry)) context (Trees.leaf plain) true levels
+        (now (tree .entry)) class.OperandRecord stands ⌝ }
 {
     let opened = record::open(
         tree,

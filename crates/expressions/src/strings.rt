@@ -27,7 +27,9 @@ pub fn format_string(
     stands: bool,
     last: Printed,
 ) -> Printed
-    ensures { λ r. ⌜ PrintsField r (now (room .exit)) last (now (room .entry)) context (Trees.leaf plain) true levels (now (tree .entry)) class.StringRecord stands ⌝ }
+    ensures { λ r.
+        ⌜ PrintsField r (now (room .exit)) last (now (room .entry)) context (Trees.leaf plain) true levels
+        (now (tree .entry)) class.StringRecord stands ⌝ }
 {
     let opened = record::open(
         tree,
@@ -66,7 +68,9 @@ fn format_string_items(
     levels: usize,
     last: Printed,
 ) -> Printed
-    ensures { λ r. ⌜ PrintsRecord r (now (room .exit)) last (now (room .entry)) context Trees.inString true levels (now (tree .entry)) class.StringItems ⌝ }
+    ensures { λ r.
+        ⌜ PrintsRecord r (now (room .exit)) last (now (room .entry)) context Trees.inString true levels
+        (now (tree .entry)) class.StringItems ⌝ }
 {
     let opened = record::open(
         tree,
@@ -94,7 +98,11 @@ fn format_each_item(
     count: usize,
     last: Printed,
 ) -> Printed
-    ensures { λ r. ⌜ Prints r (now (room .exit)) last (now (room .entry)) (λ at. eventsIn context Trees.inString true (chain (itemTrees (read levels (now (tree .entry))) class.StringItem count at))) (λ at. itemsEnd (read levels (now (tree .entry))) class.StringItem count at) ⌝ }
+    ensures { λ r.
+        let reader = read levels (now (tree .entry)) in
+        ⌜ Prints r (now (room .exit)) last (now (room .entry))
+        (λ at. eventsIn context Trees.inString true (chain (itemTrees reader class.StringItem count at)))
+        (λ at. itemsEnd reader class.StringItem count at) ⌝ }
 {
     let mut answer = last;
     let mut left = count;
@@ -116,7 +124,9 @@ fn format_string_item(
     levels: usize,
     last: Printed,
 ) -> Printed
-    ensures { λ r. ⌜ PrintsRecord r (now (room .exit)) last (now (room .entry)) context (Trees.leaf plain) false levels (now (tree .entry)) class.StringItem ⌝ }
+    ensures { λ r.
+        ⌜ PrintsRecord r (now (room .exit)) last (now (room .entry)) context (Trees.leaf plain) false levels
+        (now (tree .entry)) class.StringItem ⌝ }
 {
     let opened = record::open(
         tree,

@@ -27,8 +27,8 @@ pub struct Measure {
 // `count` spaces more.
 pub(crate) fn add_blanks(measure: Measure, count: usize) -> Measure
     requires { ⌜ Fits measure count ⌝ }
-    ensures { λ r. ⌜ ((bytes : List ℕ) → Measured measure bytes → Measured r (bytes ++ spaces count)) ⌝ }
-    ensures { λ r. ⌜ (r .length ≡ measure .length + count) × (r .leading ≤ r .length) ⌝ }
+    ensures measured { λ r. ⌜ ((bytes : List ℕ) → Measured measure bytes → Measured r (bytes ++ spaces count)) ⌝ }
+    ensures length { λ r. ⌜ (r .length ≡ measure .length + count) × (r .leading ≤ r .length) ⌝ }
 {
     if measure.ink_end == 0 {
         return Measure {
@@ -47,8 +47,8 @@ pub(crate) fn add_blanks(measure: Measure, count: usize) -> Measure
 // The bytes of a text more.
 pub(crate) fn add_text(measure: Measure, bytes: &[u8]) -> Measure
     requires { ⌜ Fits measure (length (now bytes)) ⌝ }
-    ensures { λ r. ⌜ ((line : List ℕ) → Measured measure line → Measured r (line ++ now (bytes .entry))) ⌝ }
-    ensures { λ r. ⌜ (r .length ≡ measure .length + length (now (bytes .entry))) × (r .leading ≤ r .length) ⌝ }
+    ensures measured { λ r. ⌜ ((line : List ℕ) → Measured measure line → Measured r (line ++ now (bytes .entry))) ⌝ }
+    ensures length { λ r. ⌜ (r .length ≡ measure .length + length (now (bytes .entry))) × (r .leading ≤ r .length) ⌝ }
 {
     let ink_end = scans::ink_end(bytes);
     if ink_end == 0 {
@@ -72,8 +72,13 @@ pub(crate) fn add_text(measure: Measure, bytes: &[u8]) -> Measure
 pub(crate) fn add_inked(measure: Measure, list: &[u8], step: Step) -> Measure
     requires { ⌜ (step .from ≤ step .to) × (step .to ≤ length (now list)) × (measure .«ink_end» ≡ 0 → ⊥) ⌝ }
     requires { ⌜ Fits measure (step .before + (step .to - step .from) + step .behind) ⌝ }
-    ensures { λ r. ⌜ ((bytes : List ℕ) → Measured measure bytes → Measured r (bytes ++ (spaces (step .before) ++ (slice (step .from) (step .to) (now (list .entry)) ++ spaces (step .behind))))) ⌝ }
-    ensures { λ r. ⌜ (r .length ≡ measure .length + (step .before + (step .to - step .from) + step .behind)) × (r .leading ≤ r .length) ⌝ }
+    ensures measured { λ r.
+        let text = slice (step .from) (step .to) (now (list .entry)) in
+        let laid = spaces (step .before) ++ (text ++ spaces (step .behind)) in
+        ⌜ ((bytes : List ℕ) → Measured measure bytes → Measured r (bytes ++ laid)) ⌝ }
+    ensures length { λ r.
+        ⌜ (r .length ≡ measure .length + (step .before + (step .to - step .from) + step .behind))
+        × (r .leading ≤ r .length) ⌝ }
 {
     let from = step.from;
     let to = step.to;
@@ -97,8 +102,13 @@ pub(crate) fn add_inked(measure: Measure, list: &[u8], step: Step) -> Measure
 pub(crate) fn add_step(measure: Measure, list: &[u8], step: Step) -> Measure
     requires { ⌜ (step .from ≤ step .to) × (step .to ≤ length (now list)) ⌝ }
     requires { ⌜ Fits measure (step .before + (step .to - step .from) + step .behind) ⌝ }
-    ensures { λ r. ⌜ ((bytes : List ℕ) → Measured measure bytes → Measured r (bytes ++ (spaces (step .before) ++ (slice (step .from) (step .to) (now (list .entry)) ++ spaces (step .behind))))) ⌝ }
-    ensures { λ r. ⌜ (r .length ≡ measure .length + (step .before + (step .to - step .from) + step .behind)) × (r .leading ≤ r .length) ⌝ }
+    ensures measured { λ r.
+        let text = slice (step .from) (step .to) (now (list .entry)) in
+        let laid = spaces (step .before) ++ (text ++ spaces (step .behind)) in
+        ⌜ ((bytes : List ℕ) → Measured measure bytes → Measured r (bytes ++ laid)) ⌝ }
+    ensures length { λ r.
+        ⌜ (r .length ≡ measure .length + (step .before + (step .to - step .from) + step .behind))
+        × (r .leading ≤ r .length) ⌝ }
 {
     if measure.ink_end != 0 {
         return add_inked(measure, list, step);
@@ -127,8 +137,13 @@ pub(crate) fn is_empty(step: Step) -> bool
 pub(crate) fn add_some(measure: Measure, list: &[u8], step: Step) -> Measure
     requires { ⌜ (step .from ≤ step .to) × (step .to ≤ length (now list)) ⌝ }
     requires { ⌜ Fits measure (step .before + (step .to - step .from) + step .behind) ⌝ }
-    ensures { λ r. ⌜ ((bytes : List ℕ) → Measured measure bytes → Measured r (bytes ++ (spaces (step .before) ++ (slice (step .from) (step .to) (now (list .entry)) ++ spaces (step .behind))))) ⌝ }
-    ensures { λ r. ⌜ (r .length ≡ measure .length + (step .before + (step .to - step .from) + step .behind)) × (r .leading ≤ r .length) ⌝ }
+    ensures measured { λ r.
+        let text = slice (step .from) (step .to) (now (list .entry)) in
+        let laid = spaces (step .before) ++ (text ++ spaces (step .behind)) in
+        ⌜ ((bytes : List ℕ) → Measured measure bytes → Measured r (bytes ++ laid)) ⌝ }
+    ensures length { λ r.
+        ⌜ (r .length ≡ measure .length + (step .before + (step .to - step .from) + step .behind))
+        × (r .leading ≤ r .length) ⌝ }
 {
     if is_empty(step) {
         return measure;
@@ -169,7 +184,8 @@ pub struct Run {
 
 // Passes over the chunks that cannot end a line. They are most of all chunks, so this loop has nothing else in it.
 pub(crate) fn measure_run(list: &[u8], margins: Margins, measure: Measure, spot: Spot) -> Run
-    requires { ⌜ Narrow margins × Standing (now list) spot × (spot .at < length (now list)) × (length (now list) ≤ 1048576) ⌝ }
+    requires { ⌜ Narrow margins × Standing (now list) spot × (spot .at < length (now list))
+        × (length (now list) ≤ 1048576) ⌝ }
     requires { ⌜ (measure .leading ≤ measure .length) × (measure .length ≤ 512 * spot .at) ⌝ }
     ensures { λ r. ⌜ ((n : ℕ) → Ran margins (now (list .entry)) spot measure (Set n) (r .measure) (r .spot)) ⌝ }
 {
@@ -194,7 +210,8 @@ pub(crate) fn measure_on(
     indent: Indent,
     spot: Spot,
 ) -> Run
-    requires { ⌜ Narrow margins × Standing (now list) spot × (spot .at < length (now list)) × (length (now list) ≤ 1048576) ⌝ }
+    requires { ⌜ Narrow margins × Standing (now list) spot × (spot .at < length (now list))
+        × (length (now list) ≤ 1048576) ⌝ }
     requires { ⌜ (measure .leading ≤ measure .length) × (measure .length ≤ 512 * spot .at) ⌝ }
     ensures { λ r. ⌜ Ran margins (now (list .entry)) spot measure indent (r .measure) (r .spot) ⌝ }
 {
@@ -216,7 +233,8 @@ pub struct Walked {
 
 // The line that starts at a spot, to its end.
 pub(crate) fn measure_line(list: &[u8], margins: Margins, spot: Spot) -> Walked
-    requires { ⌜ Narrow margins × Standing (now list) spot × (spot .at < length (now list)) × (length (now list) ≤ 1048576) ⌝ }
+    requires { ⌜ Narrow margins × Standing (now list) spot × (spot .at < length (now list))
+        × (length (now list) ≤ 1048576) ⌝ }
     ensures { λ r. ⌜ LineWalked margins (now (list .entry)) spot r ⌝ }
 {
     let mut measure = Measure {
@@ -301,8 +319,11 @@ pub(crate) fn put_bytes(text: &mut [u8], window: Window, at: usize, bytes: &[u8]
 pub(crate) fn put_step(text: &mut [u8], window: Window, at: usize, list: &[u8], step: Step) -> usize
     requires { ⌜ Room window (length (now text)) × (step .from ≤ step .to) × (step .to ≤ length (now list)) ⌝ }
     requires { ⌜ at + (step .before + (step .to - step .from) + step .behind) < 4294967296 ⌝ }
-    ensures { λ r. ⌜ r ≡ at + (step .before + (step .to - step .from) + step .behind) ⌝ }
-    ensures { λ _. ⌜ now (text .exit) ≡ puts (now (text .entry)) window at (spaces (step .before) ++ (slice (step .from) (step .to) (now (list .entry)) ++ spaces (step .behind))) ⌝ }
+    ensures answer { λ r. ⌜ r ≡ at + (step .before + (step .to - step .from) + step .behind) ⌝ }
+    ensures buffer { λ _.
+        let piece = slice (step .from) (step .to) (now (list .entry)) in
+        let laid = spaces (step .before) ++ (piece ++ spaces (step .behind)) in
+        ⌜ now (text .exit) ≡ puts (now (text .entry)) window at laid ⌝ }
 {
     let from = step.from;
     let to = step.to;
@@ -318,7 +339,10 @@ pub(crate) fn put_step(text: &mut [u8], window: Window, at: usize, list: &[u8], 
 pub(crate) fn put_some(text: &mut [u8], window: Window, at: usize, list: &[u8], step: Step)
     requires { ⌜ Room window (length (now text)) × (step .from ≤ step .to) × (step .to ≤ length (now list)) ⌝ }
     requires { ⌜ at + (step .before + (step .to - step .from) + step .behind) < 4294967296 ⌝ }
-    ensures { λ _. ⌜ now (text .exit) ≡ puts (now (text .entry)) window at (spaces (step .before) ++ (slice (step .from) (step .to) (now (list .entry)) ++ spaces (step .behind))) ⌝ }
+    ensures { λ _.
+        let piece = slice (step .from) (step .to) (now (list .entry)) in
+        let laid = spaces (step .before) ++ (piece ++ spaces (step .behind)) in
+        ⌜ now (text .exit) ≡ puts (now (text .entry)) window at laid ⌝ }
 {
     if is_empty(step) {
         return;
@@ -328,9 +352,12 @@ pub(crate) fn put_some(text: &mut [u8], window: Window, at: usize, list: &[u8], 
 
 // Writes what the window shows of the line that starts at a spot.
 pub(crate) fn write_line(text: &mut [u8], window: Window, list: &[u8], margins: Margins, spot: Spot)
-    requires { ⌜ Narrow margins × Standing (now list) spot × (spot .at < length (now list)) × (length (now list) ≤ 1048576) ⌝ }
+    requires { ⌜ Narrow margins × Standing (now list) spot × (spot .at < length (now list))
+        × (length (now list) ≤ 1048576) ⌝ }
     requires { ⌜ Room window (length (now text)) ⌝ }
-    ensures { λ _. ⌜ Showing window (now (text .entry)) (now (text .exit)) (lineAt margins (now (list .entry)) spot .line .bytes) true ⌝ }
+    ensures { λ _.
+        let line = lineAt margins (now (list .entry)) spot .line .bytes in
+        ⌜ Showing window (now (text .entry)) (now (text .exit)) line true ⌝ }
 {
     let mut length = 0;
     let mut here = spot;
@@ -347,7 +374,10 @@ pub(crate) fn write_line(text: &mut [u8], window: Window, list: &[u8], margins: 
 pub(crate) fn put_shown(text: &mut [u8], window: Window, at: usize, list: &[u8], step: Step)
     requires { ⌜ Room window (length (now text)) × (step .from ≤ step .to) × (step .to ≤ length (now list)) ⌝ }
     requires { ⌜ at + (step .before + (step .to - step .from) + step .behind) < 4294967296 ⌝ }
-    ensures { λ _. ⌜ now (text .exit) ≡ puts (now (text .entry)) window at (spaces (step .before) ++ (slice (step .from) (step .to) (now (list .entry)) ++ spaces (step .behind))) ⌝ }
+    ensures { λ _.
+        let piece = slice (step .from) (step .to) (now (list .entry)) in
+        let laid = spaces (step .before) ++ (piece ++ spaces (step .behind)) in
+        ⌜ now (text .exit) ≡ puts (now (text .entry)) window at laid ⌝ }
 {
     let end = at + step.before + (step.to - step.from) + step.behind;
     if window.low <= at {
@@ -368,10 +398,14 @@ pub(crate) fn write_run(
     measure: Measure,
     spot: Spot,
 ) -> Run
-    requires { ⌜ Narrow margins × Standing (now list) spot × (spot .at < length (now list)) × (length (now list) ≤ 1048576) ⌝ }
+    requires { ⌜ Narrow margins × Standing (now list) spot × (spot .at < length (now list))
+        × (length (now list) ≤ 1048576) ⌝ }
     requires { ⌜ (measure .leading ≤ measure .length) × (measure .length ≤ 512 * spot .at) ⌝ }
     requires { ⌜ Room window (length (now text)) ⌝ }
-    ensures { λ r. ⌜ ((n : ℕ) → RanShown margins (now (list .entry)) spot window (now (text .entry)) (now (text .exit)) measure (Set n) (r .measure) (r .spot)) ⌝ }
+    ensures { λ r.
+        ⌜ ((n : ℕ)
+        → RanShown margins (now (list .entry)) spot window (now (text .entry)) (now (text .exit)) measure
+        (Set n) (r .measure) (r .spot)) ⌝ }
 {
     let mut reached = measure;
     let mut here = spot;
@@ -397,10 +431,13 @@ pub(crate) fn write_on(
     indent: Indent,
     spot: Spot,
 ) -> Run
-    requires { ⌜ Narrow margins × Standing (now list) spot × (spot .at < length (now list)) × (length (now list) ≤ 1048576) ⌝ }
+    requires { ⌜ Narrow margins × Standing (now list) spot × (spot .at < length (now list))
+        × (length (now list) ≤ 1048576) ⌝ }
     requires { ⌜ (measure .leading ≤ measure .length) × (measure .length ≤ 512 * spot .at) ⌝ }
     requires { ⌜ Room window (length (now text)) ⌝ }
-    ensures { λ r. ⌜ RanShown margins (now (list .entry)) spot window (now (text .entry)) (now (text .exit)) measure indent (r .measure) (r .spot) ⌝ }
+    ensures { λ r.
+        ⌜ RanShown margins (now (list .entry)) spot window (now (text .entry)) (now (text .exit)) measure indent
+        (r .measure) (r .spot) ⌝ }
 {
     match indent {
         Indent::Set(_) => write_run(text, window, list, margins, measure, spot),
@@ -419,10 +456,13 @@ pub(crate) fn walk_line(
     margins: Margins,
     spot: Spot,
 ) -> Walked
-    requires { ⌜ Narrow margins × Standing (now list) spot × (spot .at < length (now list)) × (length (now list) ≤ 1048576) ⌝ }
+    requires { ⌜ Narrow margins × Standing (now list) spot × (spot .at < length (now list))
+        × (length (now list) ≤ 1048576) ⌝ }
     requires { ⌜ Room window (length (now text)) ⌝ }
-    ensures { λ r. ⌜ LineWalked margins (now (list .entry)) spot r ⌝ }
-    ensures { λ _. ⌜ Showing window (now (text .entry)) (now (text .exit)) (lineAt margins (now (list .entry)) spot .line .bytes) true ⌝ }
+    ensures walked { λ r. ⌜ LineWalked margins (now (list .entry)) spot r ⌝ }
+    ensures showing { λ _.
+        let line = lineAt margins (now (list .entry)) spot .line .bytes in
+        ⌜ Showing window (now (text .entry)) (now (text .exit)) line true ⌝ }
 {
     let mut measure = Measure {
         length: 0,

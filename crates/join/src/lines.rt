@@ -118,10 +118,14 @@ pub(crate) fn write_cut(
     past: Past,
     cut: Cut,
 )
-    requires { ⌜ Narrow margins × Standing (now list) spot × (spot .at < length (now list)) × (length (now list) ≤ 1048576) ⌝ }
+    requires { ⌜ Narrow margins × Standing (now list) spot × (spot .at < length (now list))
+        × (length (now list) ≤ 1048576) ⌝ }
     requires { ⌜ CutFits cut (inkEnd (lineAt margins (now list) spot .line .bytes)) ⌝ }
-    requires { ⌜ past .length + length (cutBytes past cut (lineAt margins (now list) spot .line .bytes)) ≤ length (now text) ⌝ }
-    ensures { λ _. ⌜ now (text .exit) ≡ sets (now (text .entry)) (past .length) (cutBytes past cut (lineAt margins (now (list .entry)) spot .line .bytes)) ⌝ }
+    requires { let line = lineAt margins (now list) spot .line .bytes in
+        ⌜ past .length + length (cutBytes past cut line) ≤ length (now text) ⌝ }
+    ensures { λ _.
+        let line = lineAt margins (now (list .entry)) spot .line .bytes in
+        ⌜ now (text .exit) ≡ sets (now (text .entry)) (past .length) (cutBytes past cut line) ⌝ }
 {
     let start = line_start(past);
     let base = start + cut.lead;
@@ -178,8 +182,8 @@ pub(crate) fn guess_of(margins: Margins, spot: Spot) -> Guess
 // The window from `base` of a text to its end; where there is none it shows nothing.
 pub(crate) fn window_of(room: usize, base: usize, low: usize) -> Window
     requires { ⌜ (room < 4503599627370496) × (low ≤ 510) ⌝ }
-    ensures { λ r. ⌜ r ≡ windowTo room base low ⌝ }
-    ensures { λ r. ⌜ Room r room ⌝ }
+    ensures answer { λ r. ⌜ r ≡ windowTo room base low ⌝ }
+    ensures within { λ r. ⌜ Room r room ⌝ }
 {
     if base <= room {
         return Window {
@@ -204,10 +208,14 @@ pub(crate) fn try_line(
     past: Past,
     guess: Guess,
 ) -> Walked
-    requires { ⌜ Narrow margins × Standing (now list) spot × (spot .at < length (now list)) × (length (now list) ≤ 1048576) ⌝ }
-    requires { ⌜ (past .length < 4503599627370496) × (length (now text) < 4503599627370496) × (guess .lead ≤ 4351) × (guess .low ≤ 510) ⌝ }
-    ensures { λ r. ⌜ LineWalked margins (now (list .entry)) spot r ⌝ }
-    ensures { λ _. ⌜ Tried past guess (lineAt margins (now (list .entry)) spot .line .bytes) (now (text .entry)) (now (text .exit)) ⌝ }
+    requires { ⌜ Narrow margins × Standing (now list) spot × (spot .at < length (now list))
+        × (length (now list) ≤ 1048576) ⌝ }
+    requires { ⌜ (past .length < 4503599627370496) × (length (now text) < 4503599627370496) × (guess .lead ≤ 4351)
+        × (guess .low ≤ 510) ⌝ }
+    ensures walked { λ r. ⌜ LineWalked margins (now (list .entry)) spot r ⌝ }
+    ensures tried { λ _.
+        let line = lineAt margins (now (list .entry)) spot .line .bytes in
+        ⌜ Tried past guess line (now (text .entry)) (now (text .exit)) ⌝ }
 {
     let start = line_start(past);
     let base = start + guess.lead;
@@ -240,10 +248,15 @@ pub(crate) fn mend(
     cut: Cut,
     guess: Guess,
 )
-    requires { ⌜ Narrow margins × Standing (now list) spot × (spot .at < length (now list)) × (length (now list) ≤ 1048576) ⌝ }
+    requires { ⌜ Narrow margins × Standing (now list) spot × (spot .at < length (now list))
+        × (length (now list) ≤ 1048576) ⌝ }
     requires { ⌜ CutFits cut (inkEnd (lineAt margins (now list) spot .line .bytes)) ⌝ }
-    requires { ⌜ (astray cut guess ≡ true → past .length + length (cutBytes past cut (lineAt margins (now list) spot .line .bytes)) ≤ length (now text)) ⌝ }
-    ensures { λ _. ⌜ now (text .exit) ≡ cond (astray cut guess) (sets (now (text .entry)) (past .length) (cutBytes past cut (lineAt margins (now (list .entry)) spot .line .bytes))) (now (text .entry)) ⌝ }
+    requires { let line = lineAt margins (now list) spot .line .bytes in
+        ⌜ (astray cut guess ≡ true → past .length + length (cutBytes past cut line) ≤ length (now text)) ⌝ }
+    ensures { λ _.
+        let line = lineAt margins (now (list .entry)) spot .line .bytes in
+        ⌜ now (text .exit) ≡ cond (astray cut guess)
+        (sets (now (text .entry)) (past .length) (cutBytes past cut line)) (now (text .entry)) ⌝ }
 {
     if is_astray(cut, guess) {
         write_cut(text, list, margins, spot, past, cut);
@@ -275,7 +288,8 @@ pub(crate) fn measure_lines(list: &[u8], margins: Margins) -> usize
 // Writes the text to a buffer of its length.
 pub(crate) fn write_lines(text: &mut [u8], list: &[u8], margins: Margins)
     requires { ⌜ Narrow margins × Laid (now list) 0 × (length (now list) ≤ 1048576) ⌝ }
-    requires { ⌜ (length (now text) ≡ length (textOf margins (chunksOf (now list)))) × (length (now text) < 4503599627370496) ⌝ }
+    requires { ⌜ (length (now text) ≡ length (textOf margins (chunksOf (now list))))
+        × (length (now text) < 4503599627370496) ⌝ }
     ensures { λ _. ⌜ now (text .exit) ≡ textOf margins (chunksOf (now (list .entry))) ⌝ }
 {
     let mut past = Past {

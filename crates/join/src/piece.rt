@@ -53,8 +53,8 @@ fn type_of(bits: usize) -> ChunkType
 // The chunk at a place of a list that was judged: it is not judged again. Most chunks are code without indent, so that is asked first.
 pub(crate) fn chunk_in(list: &[u8], place: usize) -> StoredChunk
     requires { ⌜ Laid (now list) place × (place < length (now list)) ⌝ }
-    ensures { λ r. ⌜ chunkAt (now (list .entry)) place ≡ Found r ⌝ }
-    ensures { λ r. ⌜ ChunkFits (now (list .entry)) place r ⌝ }
+    ensures found { λ r. ⌜ chunkAt (now (list .entry)) place ≡ Found r ⌝ }
+    ensures fits { λ r. ⌜ ChunkFits (now (list .entry)) place r ⌝ }
 {
     let map = numbers::wide(list[place]);
     if map == 0 {
@@ -118,7 +118,9 @@ pub struct PieceEnd {
 // The piece that starts list[at..end].
 pub(crate) fn piece_end(list: &[u8], at: usize, end: usize) -> PieceEnd
     requires { ⌜ (at ≤ end) × (end ≤ length (now list)) ⌝ }
-    ensures { λ r. ⌜ (r .end ≡ at + pieceLength (slice at end (now (list .entry)))) × (r .newline ≡ ltb (newlineAt (slice at end (now (list .entry)))) (end - at)) ⌝ }
+    ensures { λ r.
+        ⌜ (r .end ≡ at + pieceLength (slice at end (now (list .entry))))
+        × (r .newline ≡ ltb (newlineAt (slice at end (now (list .entry)))) (end - at)) ⌝ }
 {
     let count = scans::newline_at(&list[at..end]);
     if count < end - at {
@@ -265,8 +267,11 @@ pub(crate) fn lay_piece(
     column: usize,
     piece: PieceEnd,
 ) -> Lay
-    requires { ⌜ Narrow margins × Standing (now list) spot × (spot .at < piece .end) × (piece .end ≤ spot .end) × (length (now list) ≤ 1048576) ⌝ }
-    ensures { λ r. ⌜ r ≡ layOf margins (spot .ty) column (piece .end - spot .at) (piece .newline) (following (chunksAt (now (list .entry)) (spot .end))) ⌝ }
+    requires { ⌜ Narrow margins × Standing (now list) spot × (spot .at < piece .end) × (piece .end ≤ spot .end)
+        × (length (now list) ≤ 1048576) ⌝ }
+    ensures { λ r.
+        ⌜ r ≡ layOf margins (spot .ty) column (piece .end - spot .at) (piece .newline)
+        (following (chunksAt (now (list .entry)) (spot .end))) ⌝ }
 {
     let count = piece.end - spot.at;
     let ty = spot.ty;
@@ -328,7 +333,8 @@ pub(crate) fn is_newline(list: &[u8], spot: Spot) -> bool
 
 // One piece: `column` is the length of the line so far. Most lines end in a newline of their own, which adds only blanks that are cut; where it is ignored it adds nothing: so nothing is laid for it.
 pub(crate) fn step_over(list: &[u8], margins: Margins, spot: Spot, column: usize) -> Step
-    requires { ⌜ Narrow margins × Standing (now list) spot × (spot .at < length (now list)) × (length (now list) ≤ 1048576) ⌝ }
+    requires { ⌜ Narrow margins × Standing (now list) spot × (spot .at < length (now list))
+        × (length (now list) ≤ 1048576) ⌝ }
     ensures { λ r. ⌜ Stepped margins (now (list .entry)) spot column r ⌝ }
 {
     let at = spot.at;
@@ -382,7 +388,8 @@ pub(crate) fn is_whole(list: &[u8], spot: Spot) -> bool
 
 // The step over such a rest.
 pub(crate) fn step_whole(list: &[u8], margins: Margins, spot: Spot, column: usize) -> Step
-    requires { ⌜ Narrow margins × Standing (now list) spot × (spot .at < length (now list)) × (length (now list) ≤ 1048576) ⌝ }
+    requires { ⌜ Narrow margins × Standing (now list) spot × (spot .at < length (now list))
+        × (length (now list) ≤ 1048576) ⌝ }
     requires { ⌜ Whole (now list) spot ⌝ }
     ensures { λ r. ⌜ Stepped margins (now (list .entry)) spot column r × (r .ends ≡ false) ⌝ }
 {

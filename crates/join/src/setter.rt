@@ -20,9 +20,18 @@ ghost use Rattle.join.specs.Walk.{Narrow};
 // The setter at given margins: refusals 6, 7 and 9.
 pub(crate) fn join_with(chunks: &[u8], margins: Margins, text: &mut [u8]) -> Answer
     requires { ⌜ Narrow margins ⌝ }
-    ensures { λ r. ⌜ r ≡ answerIn (unlessFailed (chunksChecked (now (chunks .entry))) (textOf margins (chunksOf (now (chunks .entry))))) (length (now (text .entry))) ⌝ }
-    ensures { λ _. ⌜ now (text .exit) ≡ bufferAfter (unlessFailed (chunksChecked (now (chunks .entry))) (textOf margins (chunksOf (now (chunks .entry))))) (now (text .entry)) ⌝ }
-    ensures { λ _. ⌜ Promised (chunksOf (now (chunks .entry))) (unlessFailed (chunksChecked (now (chunks .entry))) (textOf margins (chunksOf (now (chunks .entry))))) ⌝ }
+    ensures answer { λ r.
+        let list = now (chunks .entry) in
+        let outcome = unlessFailed (chunksChecked list) (textOf margins (chunksOf list)) in
+        ⌜ r ≡ answerIn outcome (length (now (text .entry))) ⌝ }
+    ensures buffer { λ _.
+        let list = now (chunks .entry) in
+        let outcome = unlessFailed (chunksChecked list) (textOf margins (chunksOf list)) in
+        ⌜ now (text .exit) ≡ bufferAfter outcome (now (text .entry)) ⌝ }
+    ensures demands { λ _.
+        let list = now (chunks .entry) in
+        let outcome = unlessFailed (chunksChecked list) (textOf margins (chunksOf list)) in
+        ⌜ Promised (chunksOf list) outcome ⌝ }
 {
     let checked = list::check_chunks(chunks);
     if let Checked::Failed(refusal) = checked {
@@ -41,12 +50,18 @@ pub(crate) fn join_with(chunks: &[u8], margins: Margins, text: &mut [u8]) -> Ans
 
 // The text of a stored chunk list under stored options, at the buffer's start; or refusal 1, 2, 6, 7 or 9.
 pub fn join_chunks(chunks: &[u8], options: &[u8], text: &mut [u8]) -> Answer
-    ensures { λ r. ⌜ r ≡ answerIn (joinOutcome (now (chunks .entry)) (now (options .entry))) (length (now (text .entry))) ⌝ }
-    ensures { λ _. ⌜ now (text .exit) ≡ bufferAfter (joinOutcome (now (chunks .entry)) (now (options .entry))) (now (text .entry)) ⌝ }
-    ensures { λ _. ⌜ Promised (chunksOf (now (chunks .entry))) (joinOutcome (now (chunks .entry)) (now (options .entry))) ⌝ }
-    ensures { λ r. ⌜ numbers r ≡ numbersIn
-        (joinOutcome (now (chunks .entry)) (now (options .entry)))
-        (length (now (text .entry))) ⌝ }
+    ensures answer { λ r.
+        let outcome = joinOutcome (now (chunks .entry)) (now (options .entry)) in
+        ⌜ r ≡ answerIn outcome (length (now (text .entry))) ⌝ }
+    ensures buffer { λ _.
+        let outcome = joinOutcome (now (chunks .entry)) (now (options .entry)) in
+        ⌜ now (text .exit) ≡ bufferAfter outcome (now (text .entry)) ⌝ }
+    ensures demands { λ _.
+        let outcome = joinOutcome (now (chunks .entry)) (now (options .entry)) in
+        ⌜ Promised (chunksOf (now (chunks .entry))) outcome ⌝ }
+    ensures numbers { λ r.
+        let outcome = joinOutcome (now (chunks .entry)) (now (options .entry)) in
+        ⌜ numbers r ≡ numbersIn outcome (length (now (text .entry))) ⌝ }
 {
     let read = options::read_options(options);
     match read {

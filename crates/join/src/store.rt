@@ -26,7 +26,8 @@ pub(crate) fn store_spaces(text: &mut [u8], place: usize, count: usize)
 
 // One to three bytes: the first, the middle and the last.
 fn store_few(text: &mut [u8], place: usize, bytes: &[u8])
-    requires { ⌜ (0 < length (now bytes)) × (length (now bytes) < 4) × (place + length (now bytes) ≤ length (now text)) ⌝ }
+    requires { ⌜ (0 < length (now bytes)) × (length (now bytes) < 4)
+        × (place + length (now bytes) ≤ length (now text)) ⌝ }
     ensures { λ _. ⌜ now (text .exit) ≡ sets (now (text .entry)) place (now (bytes .entry)) ⌝ }
 {
     let middle = bytes.len() / 2;
@@ -117,7 +118,10 @@ pub(crate) fn store_bytes(text: &mut [u8], place: usize, bytes: &[u8])
 pub(crate) fn store_step(text: &mut [u8], place: usize, list: &[u8], step: Step)
     requires { ⌜ (step .from ≤ step .to) × (step .to ≤ length (now list)) ⌝ }
     requires { ⌜ place + (step .before + (step .to - step .from) + step .behind) ≤ length (now text) ⌝ }
-    ensures { λ _. ⌜ now (text .exit) ≡ sets (now (text .entry)) place (spaces (step .before) ++ (slice (step .from) (step .to) (now (list .entry)) ++ spaces (step .behind))) ⌝ }
+    ensures { λ _.
+        let piece = slice (step .from) (step .to) (now (list .entry)) in
+        let laid = spaces (step .before) ++ (piece ++ spaces (step .behind)) in
+        ⌜ now (text .exit) ≡ sets (now (text .entry)) place laid ⌝ }
 {
     let from = step.from;
     let to = step.to;

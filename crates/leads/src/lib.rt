@@ -115,7 +115,9 @@ fn break_before(
     block: bool,
     state: CodeFormatter,
 ) -> CodeFormatter
-    ensures { λ r. ⌜ run (breakBefore context (beforeOf stood) number block) (going (now (room .entry)) state) ≡ going (now (room .exit)) r ⌝ }
+    ensures { λ r.
+        ⌜ run (breakBefore context (beforeOf stood) number block) (going (now (room .entry)) state)
+        ≡ going (now (room .exit)) r ⌝ }
 {
     if stood.first {
         return state;
@@ -148,7 +150,10 @@ fn list_trivia(
     drops: bool,
     state: CodeFormatter,
 ) -> CodeFormatter
-    ensures { λ r. ⌜ run (listTrivia context drops (itemsAt (now (tree .entry)) (own .trivia) (own .«trivia_count»))) (going (now (room .entry)) state) ≡ going (now (room .exit)) r ⌝ }
+    ensures { λ r.
+        ⌜ run (listTrivia context drops (itemsAt (now (tree .entry)) (own .trivia) (own .«trivia_count»)))
+        (going (now (room .entry)) state)
+        ≡ going (now (room .exit)) r ⌝ }
 {
     if drops {
         return trivia::format_lead(tree, own.trivia, own.trivia_count, context, room, state);
@@ -176,11 +181,15 @@ pub fn format_lead_in(
     stood: Before,
     last: Printed,
 ) -> Lead
-    ensures { λ r. ⌜ LeadsIn r (now (room .exit)) last (now (room .entry)) context drops (beforeOf stood) levels (now (tree .entry)) ⌝ }
-    ensures { λ r. ⌜ r ≡ leadBy last (now (room .entry)) context drops (beforeOf stood) levels (now (tree .entry)) ⌝ }
-    ensures { λ _. ⌜ now (room .exit)
-        ≡ leadRoom last (now (room .entry)) context drops (beforeOf stood) levels (now (tree .entry)) ⌝ }
-    ensures { λ r. ⌜ numbersLead r ≡ leadNumbers last levels (now (tree .entry)) ⌝ }
+    ensures leads { λ r.
+        ⌜ LeadsIn r (now (room .exit)) last (now (room .entry)) context drops (beforeOf stood) levels
+        (now (tree .entry)) ⌝ }
+    ensures answer { λ r.
+        ⌜ r ≡ leadBy last (now (room .entry)) context drops (beforeOf stood) levels (now (tree .entry)) ⌝ }
+    ensures room { λ _.
+        ⌜ now (room .exit) ≡ leadRoom last (now (room .entry)) context drops (beforeOf stood) levels
+        (now (tree .entry)) ⌝ }
+    ensures numbers { λ r. ⌜ numbersLead r ≡ leadNumbers last levels (now (tree .entry)) ⌝ }
 {
     let Printed::Done(state, at) = last else {
         return Lead::Over(last);
@@ -210,8 +219,8 @@ pub fn format_lead_in(
 
 // The answer where a token was not ready.
 pub fn over(lead: Lead) -> Printed
-    ensures { λ r. ⌜ r ≡ overBy lead ⌝ }
-    ensures { λ r. ⌜ numbersPrinted r ≡ overNumbers lead ⌝ }
+    ensures answer { λ r. ⌜ r ≡ overBy lead ⌝ }
+    ensures numbers { λ r. ⌜ numbersPrinted r ≡ overNumbers lead ⌝ }
 {
     match lead {
         Lead::Over(answer) => answer,
@@ -229,7 +238,12 @@ pub fn format_lead_out(
     stood: Before,
     last: Printed,
 ) -> Printed
-    ensures { λ r. ⌜ Prints r (now (room .exit)) last (now (room .entry)) (λ at. Trees.closingEvents context drops (beforeOf stood) (Trees.blockEnd (read levels (now (tree .entry)) class.CloseBrace at .tree))) (λ at. at) ⌝ }
+    ensures { λ r.
+        let reader = read levels (now (tree .entry)) in
+        ⌜ Prints r (now (room .exit)) last (now (room .entry))
+        (λ at. Trees.closingEvents context drops (beforeOf stood)
+        (Trees.blockEnd (reader class.CloseBrace at .tree)))
+        (λ at. at) ⌝ }
 {
     let Printed::Done(state, at) = last else {
         return last;

@@ -10,6 +10,7 @@ use Rattle.tree.specs.Grammar.{Slot, must, may, fields}
 use Rattle.tree.specs.Own.{readOwn, OwnFits, ownNumbers}
 use Rattle.tree.specs.Reading.{Reader, triviaOf, read}
 use Rattle.tree.specs.declared.grammar.Class.{Class}
+use Rattle.tree.specs.declared.grammar.Class.the-variants.{LocatedExpression}
 use Rattle.tree.specs.declared.grammar.Kind.{Kind}
 use Rattle.tree.specs.declared.own.Own.{Own}
 use Rattle.tree.specs.declared.own.OwnRead.{OwnRead}
@@ -21,8 +22,9 @@ use Rattle.printing.specs.declared.CodeFormatter.{CodeFormatter}
 use Rattle.printing.specs.declared.Context.{Context}
 use Rattle.printing.specs.declared.Printed.{Printed}
 use Rattle.printing.specs.declared.Printed.the-variants as answer-is
+use Rattle.events.specs.Printed.{plain}
 use Rattle.events.specs.Views.{bitAt}
-use Rattle.events.specs.Trees.{triviaEvents, skipping, Place, eventsIn}
+use Rattle.events.specs.Trees.{triviaEvents, skipping, Place, leaf, eventsIn}
 use Rattle.leaves.specs.declared.record.Opened.{Opened}
 use Rattle.leaves.specs.declared.record.Opened.the-variants.{Record, Closed}
 
@@ -55,6 +57,10 @@ abbrev pub PrintsKind : Printed → List ℕ → Printed → List ℕ → Contex
 PrintsKind answer left before room context place kind value bits levels bytes =
     Prints answer left before room (λ at. eventsIn context place true (built kind [] (fieldTrees (read levels bytes) (fields kind value) bits at)))
     (λ at. fieldsEnd (read levels bytes) (fields kind value) bits at)
+
+-- the same of a kind that prints alike wherever it stands, and that is no argument
+abbrev pub PrintsNode : Printed → List ℕ → Printed → List ℕ → Context → Kind → ℕ → ℕ → List ℕ → Type 0
+PrintsNode answer left before room context kind bits levels bytes = PrintsKind answer left before room context (leaf plain) kind LocatedExpression bits levels bytes
 
 -- ---- a record that was opened
 

@@ -36,7 +36,10 @@ pub(crate) fn shown_trivia(
     room: &mut [u8],
     state: CodeFormatter,
 ) -> CodeFormatter
-    ensures { λ r. ⌜ run (cond shown (triviaEvents context (itemsAt (now (tree .entry)) at count)) nothing) (going (now (room .entry)) state) ≡ going (now (room .exit)) r ⌝ }
+    ensures { λ r.
+        ⌜ run (cond shown (triviaEvents context (itemsAt (now (tree .entry)) at count)) nothing)
+        (going (now (room .entry)) state)
+        ≡ going (now (room .exit)) r ⌝ }
 {
     if count == 0 {
         return state;
@@ -58,7 +61,12 @@ fn format_own(
     state: CodeFormatter,
 ) -> Printed
     requires { ⌜ (own .text ≤ own .end) × (own .end ≤ length (now tree)) ⌝ }
-    ensures { λ r. ⌜ Shown r (now (room .exit)) (cond shown (triviaEvents context (itemsAt (now (tree .entry)) (own .trivia) (own .«trivia_count»))) nothing ▹ word context (printed context (styleOf style) (slice (own .text) (own .end) (now (tree .entry))))) (going (now (room .entry)) state) (own .end) ⌝ }
+    ensures { λ r.
+        let bytes = now (tree .entry) in
+        ⌜ Shown r (now (room .exit))
+        (cond shown (triviaEvents context (itemsAt bytes (own .trivia) (own .«trivia_count»))) nothing
+        ▹ word context (printed context (styleOf style) (slice (own .text) (own .end) bytes)))
+        (going (now (room .entry)) state) (own .end) ⌝ }
 {
     let start = own.text;
     let end = own.end;
@@ -88,8 +96,16 @@ fn leaf_at(
     room: &mut [u8],
     state: CodeFormatter,
 ) -> Printed
-    ensures { λ r. ⌜ Shown r (now (room .exit)) (ownEvents context (styleOf style) shown (now (tree .entry)) (readOwn (now (tree .entry)) at class levels)) (going (now (room .entry)) state) (ownEnd at (readOwn (now (tree .entry)) at class levels)) ⌝ }
-    ensures { λ r. ⌜ (LeafClass class → Shown r (now (room .exit)) (eventsIn context (Trees.leaf (styleOf style)) shown (read levels (now (tree .entry)) class at .tree)) (going (now (room .entry)) state) (read levels (now (tree .entry)) class at .end)) ⌝ }
+    ensures shows { λ r.
+        let own = readOwn (now (tree .entry)) at class levels in
+        ⌜ Shown r (now (room .exit)) (ownEvents context (styleOf style) shown (now (tree .entry)) own)
+        (going (now (room .entry)) state) (ownEnd at own) ⌝ }
+    ensures leaf { λ r.
+        let reader = read levels (now (tree .entry)) in
+        ⌜ (LeafClass class
+        → Shown r (now (room .exit))
+        (eventsIn context (Trees.leaf (styleOf style)) shown (reader class at .tree))
+        (going (now (room .entry)) state) (reader class at .end)) ⌝ }
 {
     if state.full != 0 {
         return state.finish(at);
@@ -112,8 +128,15 @@ pub fn format_leaf(
     shown: bool,
     last: Printed,
 ) -> Printed
-    ensures { λ r. ⌜ Prints r (now (room .exit)) last (now (room .entry)) (λ at. ownEvents context (styleOf style) shown (now (tree .entry)) (readOwn (now (tree .entry)) at class levels)) (λ at. ownEnd at (readOwn (now (tree .entry)) at class levels)) ⌝ }
-    ensures { λ r. ⌜ (LeafClass class → PrintsRecord r (now (room .exit)) last (now (room .entry)) context (Trees.leaf (styleOf style)) shown levels (now (tree .entry)) class) ⌝ }
+    ensures prints { λ r.
+        let bytes = now (tree .entry) in
+        ⌜ Prints r (now (room .exit)) last (now (room .entry))
+        (λ at. ownEvents context (styleOf style) shown bytes (readOwn bytes at class levels))
+        (λ at. ownEnd at (readOwn bytes at class levels)) ⌝ }
+    ensures leaf { λ r.
+        ⌜ (LeafClass class
+        → PrintsRecord r (now (room .exit)) last (now (room .entry)) context (Trees.leaf (styleOf style)) shown
+        levels (now (tree .entry)) class) ⌝ }
 {
     match last {
         Printed::Done(state, at) => {
@@ -134,8 +157,15 @@ pub fn format_optional_leaf(
     stands: bool,
     last: Printed,
 ) -> Printed
-    ensures { λ r. ⌜ Prints r (now (room .exit)) last (now (room .entry)) (λ at. cond stands (ownEvents context (styleOf style) true (now (tree .entry)) (readOwn (now (tree .entry)) at class levels)) nothing) (λ at. cond stands (ownEnd at (readOwn (now (tree .entry)) at class levels)) at) ⌝ }
-    ensures { λ r. ⌜ (LeafClass class → PrintsField r (now (room .exit)) last (now (room .entry)) context (Trees.leaf (styleOf style)) true levels (now (tree .entry)) class stands) ⌝ }
+    ensures prints { λ r.
+        let bytes = now (tree .entry) in
+        ⌜ Prints r (now (room .exit)) last (now (room .entry))
+        (λ at. cond stands (ownEvents context (styleOf style) true bytes (readOwn bytes at class levels)) nothing)
+        (λ at. cond stands (ownEnd at (readOwn bytes at class levels)) at) ⌝ }
+    ensures leaf { λ r.
+        ⌜ (LeafClass class
+        → PrintsField r (now (room .exit)) last (now (room .entry)) context (Trees.leaf (styleOf style)) true
+        levels (now (tree .entry)) class stands) ⌝ }
 {
     let Printed::Done(state, at) = last else {
         return last;

@@ -45,11 +45,14 @@ pub fn open(
     shown: bool,
     last: Printed,
 ) -> Opened
-    ensures { λ r. ⌜ Opens r (now (room .exit)) last (now (room .entry)) context shown levels (now (tree .entry)) class stands ⌝ }
-    ensures { λ r. ⌜ r ≡ openedBy last (now (room .entry)) context shown levels (now (tree .entry)) class stands ⌝ }
-    ensures { λ _. ⌜ now (room .exit)
-        ≡ openedRoom last (now (room .entry)) context shown levels (now (tree .entry)) class stands ⌝ }
-    ensures { λ r. ⌜ numbersOpened r ≡ openedNumbers last levels (now (tree .entry)) class stands ⌝ }
+    ensures opens { λ r.
+        ⌜ Opens r (now (room .exit)) last (now (room .entry)) context shown levels (now (tree .entry)) class stands ⌝ }
+    ensures answer { λ r.
+        ⌜ r ≡ openedBy last (now (room .entry)) context shown levels (now (tree .entry)) class stands ⌝ }
+    ensures room { λ _.
+        ⌜ now (room .exit) ≡ openedRoom last (now (room .entry)) context shown levels (now (tree .entry)) class
+        stands ⌝ }
+    ensures numbers { λ r. ⌜ numbersOpened r ≡ openedNumbers last levels (now (tree .entry)) class stands ⌝ }
 {
     let Printed::Done(state, at) = last else {
         return Opened::Closed(last);
@@ -78,8 +81,8 @@ pub fn open(
 
 // The answer where a record was not opened.
 pub fn closed(opened: Opened) -> Printed
-    ensures { λ r. ⌜ r ≡ closedBy opened ⌝ }
-    ensures { λ r. ⌜ numbersPrinted r ≡ closedNumbers opened ⌝ }
+    ensures answer { λ r. ⌜ r ≡ closedBy opened ⌝ }
+    ensures numbers { λ r. ⌜ numbersPrinted r ≡ closedNumbers opened ⌝ }
 {
     match opened {
         Opened::Closed(answer) => answer,

@@ -37,7 +37,10 @@ fn push_entry(
     state: CodeFormatter,
 ) -> CodeFormatter
     requires { ⌜ inOrder (length (now texts)) (now places) ≡ true ⌝ }
-    ensures { λ r. ⌜ run (word context (getD (cuts (now (texts .entry)) (now (places .entry))) index [])) (going (now (room .entry)) state) ≡ going (now (room .exit)) r ⌝ }
+    ensures { λ r.
+        ⌜ run (word context (getD (cuts (now (texts .entry)) (now (places .entry))) index []))
+        (going (now (room .entry)) state)
+        ≡ going (now (room .exit)) r ⌝ }
 {
     if places.len() < 2 {
         return state;
@@ -52,7 +55,9 @@ fn push_entry(
 
 // A mnemonic, in the chosen casing.
 fn mnemonic(index: usize, context: Context, room: &mut [u8], state: CodeFormatter) -> CodeFormatter
-    ensures { λ r. ⌜ run (word context (printed context Printed.mnemonic (index ∷ []))) (going (now (room .entry)) state) ≡ going (now (room .exit)) r ⌝ }
+    ensures { λ r.
+        ⌜ run (word context (printed context Printed.mnemonic (index ∷ []))) (going (now (room .entry)) state)
+        ≡ going (now (room .exit)) r ⌝ }
 {
     if 55 < index {
         return state;
@@ -69,7 +74,9 @@ fn mnemonic(index: usize, context: Context, room: &mut [u8], state: CodeFormatte
 
 // An index register, in the chosen casing.
 fn register(index: usize, context: Context, room: &mut [u8], state: CodeFormatter) -> CodeFormatter
-    ensures { λ r. ⌜ run (word context (printed context Printed.register (index ∷ []))) (going (now (room .entry)) state) ≡ going (now (room .exit)) r ⌝ }
+    ensures { λ r.
+        ⌜ run (word context (printed context Printed.register (index ∷ []))) (going (now (room .entry)) state)
+        ≡ going (now (room .exit)) r ⌝ }
 {
     if 1 < index {
         return state;
@@ -84,7 +91,9 @@ fn register(index: usize, context: Context, room: &mut [u8], state: CodeFormatte
 
 // An operator.
 fn operator(index: usize, context: Context, room: &mut [u8], state: CodeFormatter) -> CodeFormatter
-    ensures { λ r. ⌜ run (word context (printed context Printed.operator (index ∷ []))) (going (now (room .entry)) state) ≡ going (now (room .exit)) r ⌝ }
+    ensures { λ r.
+        ⌜ run (word context (printed context Printed.operator (index ∷ []))) (going (now (room .entry)) state)
+        ≡ going (now (room .exit)) r ⌝ }
 {
     let places = [0u8, 1, 2, 3, 4, 5, 7, 9, 10, 12, 14, 15, 17, 18, 20, 22, 24];
     push_entry(
@@ -99,7 +108,9 @@ fn operator(index: usize, context: Context, room: &mut [u8], state: CodeFormatte
 
 // The size of data.
 fn data_size(index: usize, context: Context, room: &mut [u8], state: CodeFormatter) -> CodeFormatter
-    ensures { λ r. ⌜ run (word context (printed context Printed.dataSize (index ∷ []))) (going (now (room .entry)) state) ≡ going (now (room .exit)) r ⌝ }
+    ensures { λ r.
+        ⌜ run (word context (printed context Printed.dataSize (index ∷ []))) (going (now (room .entry)) state)
+        ≡ going (now (room .exit)) r ⌝ }
 {
     let places = [0u8, 5, 10, 16];
     push_entry(b".byte.word.dword", &places, index, context, room, state)
@@ -107,7 +118,9 @@ fn data_size(index: usize, context: Context, room: &mut [u8], state: CodeFormatt
 
 // The encoding of a text.
 fn encoding(index: usize, context: Context, room: &mut [u8], state: CodeFormatter) -> CodeFormatter
-    ensures { λ r. ⌜ run (word context (printed context Printed.encoding (index ∷ []))) (going (now (room .entry)) state) ≡ going (now (room .exit)) r ⌝ }
+    ensures { λ r.
+        ⌜ run (word context (printed context Printed.encoding (index ∷ []))) (going (now (room .entry)) state)
+        ≡ going (now (room .exit)) r ⌝ }
 {
     let places = [0u8, 5, 12, 21, 21];
     push_entry(
@@ -127,7 +140,9 @@ fn variable_type(
     room: &mut [u8],
     state: CodeFormatter,
 ) -> CodeFormatter
-    ensures { λ r. ⌜ run (word context (printed context Printed.variableType (index ∷ []))) (going (now (room .entry)) state) ≡ going (now (room .exit)) r ⌝ }
+    ensures { λ r.
+        ⌜ run (word context (printed context Printed.variableType (index ∷ []))) (going (now (room .entry)) state)
+        ≡ going (now (room .exit)) r ⌝ }
 {
     let places = [0u8, 6, 10];
     push_entry(b".const.var", &places, index, context, room, state)
@@ -140,7 +155,9 @@ fn number_type(
     room: &mut [u8],
     state: CodeFormatter,
 ) -> CodeFormatter
-    ensures { λ r. ⌜ run (word context (printed context Printed.numberType (index ∷ []))) (going (now (room .entry)) state) ≡ going (now (room .exit)) r ⌝ }
+    ensures { λ r.
+        ⌜ run (word context (printed context Printed.numberType (index ∷ []))) (going (now (room .entry)) state)
+        ≡ going (now (room .exit)) r ⌝ }
 {
     let places = [0u8, 1, 1, 2];
     push_entry(b"$%", &places, index, context, room, state)
@@ -148,7 +165,9 @@ fn number_type(
 
 // The modifier of an address.
 fn modifier(index: usize, context: Context, room: &mut [u8], state: CodeFormatter) -> CodeFormatter
-    ensures { λ r. ⌜ run (word context (printed context Printed.modifier (index ∷ []))) (going (now (room .entry)) state) ≡ going (now (room .exit)) r ⌝ }
+    ensures { λ r.
+        ⌜ run (word context (printed context Printed.modifier (index ∷ []))) (going (now (room .entry)) state)
+        ≡ going (now (room .exit)) r ⌝ }
 {
     let places = [0u8, 1, 2];
     push_entry(b"><", &places, index, context, room, state)
@@ -165,7 +184,10 @@ pub(crate) fn push_text(
     state: CodeFormatter,
 ) -> CodeFormatter
     requires { ⌜ (start ≤ end) × (end ≤ length (now tree)) ⌝ }
-    ensures { λ r. ⌜ run (word context (printed context (styleOf style) (slice start end (now (tree .entry))))) (going (now (room .entry)) state) ≡ going (now (room .exit)) r ⌝ }
+    ensures { λ r.
+        ⌜ run (word context (printed context (styleOf style) (slice start end (now (tree .entry)))))
+        (going (now (room .entry)) state)
+        ≡ going (now (room .exit)) r ⌝ }
 {
     if start == end {
         return state;
@@ -192,7 +214,10 @@ pub fn push_mnemonic(
     room: &mut [u8],
     state: CodeFormatter,
 ) -> CodeFormatter
-    ensures { λ r. ⌜ run (word context (printed context Printed.mnemonic (now (text .entry)))) (going (now (room .entry)) state) ≡ going (now (room .exit)) r ⌝ }
+    ensures { λ r.
+        ⌜ run (word context (printed context Printed.mnemonic (now (text .entry))))
+        (going (now (room .entry)) state)
+        ≡ going (now (room .exit)) r ⌝ }
 {
     if text.len() == 0 {
         return state;
@@ -207,7 +232,10 @@ pub fn push_data_size(
     room: &mut [u8],
     state: CodeFormatter,
 ) -> CodeFormatter
-    ensures { λ r. ⌜ run (word context (printed context Printed.dataSize (now (text .entry)))) (going (now (room .entry)) state) ≡ going (now (room .exit)) r ⌝ }
+    ensures { λ r.
+        ⌜ run (word context (printed context Printed.dataSize (now (text .entry))))
+        (going (now (room .entry)) state)
+        ≡ going (now (room .exit)) r ⌝ }
 {
     if text.len() == 0 {
         return state;

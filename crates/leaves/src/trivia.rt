@@ -23,7 +23,9 @@ fn format_trivium(
     state: CodeFormatter,
 ) -> CodeFormatter
     requires { ⌜ (item .start ≤ item .end) × (item .end ≤ length (now tree)) ⌝ }
-    ensures { λ r. ⌜ run (triviumEvents context (itemOf (now (tree .entry)) item)) (going (now (room .entry)) state) ≡ going (now (room .exit)) r ⌝ }
+    ensures { λ r.
+        ⌜ run (triviumEvents context (itemOf (now (tree .entry)) item)) (going (now (room .entry)) state)
+        ≡ going (now (room .exit)) r ⌝ }
 {
     if item.code == codes::WHITESPACE {
         return state;
@@ -45,7 +47,9 @@ pub fn format_trivia(
     room: &mut [u8],
     state: CodeFormatter,
 ) -> CodeFormatter
-    ensures { λ r. ⌜ run (triviaEvents context (itemsAt (now (tree .entry)) at count)) (going (now (room .entry)) state) ≡ going (now (room .exit)) r ⌝ }
+    ensures { λ r.
+        ⌜ run (triviaEvents context (itemsAt (now (tree .entry)) at count)) (going (now (room .entry)) state)
+        ≡ going (now (room .exit)) r ⌝ }
 {
     let mut next = state;
     let mut place = at;
@@ -93,7 +97,9 @@ pub fn format_lead(
     room: &mut [u8],
     state: CodeFormatter,
 ) -> CodeFormatter
-    ensures { λ r. ⌜ run (leadEvents context (itemsAt (now (tree .entry)) at count)) (going (now (room .entry)) state) ≡ going (now (room .exit)) r ⌝ }
+    ensures { λ r.
+        ⌜ run (leadEvents context (itemsAt (now (tree .entry)) at count)) (going (now (room .entry)) state)
+        ≡ going (now (room .exit)) r ⌝ }
 {
     let mut place = at;
     let mut left = count;

@@ -114,8 +114,8 @@ pub(crate) fn least(firsts: Firsts) -> First
 
 // A place's bit, where its first record stands at an offset.
 fn bit_at(at: usize, first: First, bit: usize) -> usize
-    ensures { λ r. ⌜ r ≡ bitAt at first bit ⌝ }
-    ensures { λ r. ⌜ r ≤ bit ⌝ }
+    ensures answer { λ r. ⌜ r ≡ bitAt at first bit ⌝ }
+    ensures within { λ r. ⌜ r ≤ bit ⌝ }
 {
     match first {
         First::Never => 0,

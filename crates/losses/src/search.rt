@@ -130,9 +130,9 @@ fn no_firsts() -> Firsts
 // The first record at or after an offset that uses one of the eight places, or the refusal of the tree. Called again
 // behind it, this lists all.
 pub fn lost(tree: &[u8], from: usize) -> Loss
-    ensures { λ r. ⌜ r ≡ lostFrom from (now (tree .entry)) ⌝ }
-    ensures { λ r. ⌜ Narrow r ⌝ }
-    ensures { λ r. ⌜ numbersLost r ≡ lostNumbers from (now (tree .entry)) ⌝ }
+    ensures answer { λ r. ⌜ r ≡ lostFrom from (now (tree .entry)) ⌝ }
+    ensures narrow { λ r. ⌜ Narrow r ⌝ }
+    ensures numbers { λ r. ⌜ numbersLost r ≡ lostNumbers from (now (tree .entry)) ⌝ }
 {
     let checked = check::check_tree(tree);
     let Checked::Passed = checked else {

@@ -122,7 +122,9 @@ fn head_spot(class: Class, number: usize, listed: bool) -> usize
 
 // A record at an offset, by its own bytes.
 fn own_use(tree: &[u8], own: Own, at: usize, spot: usize, from: usize, firsts: Firsts) -> Firsts
-    ensures { λ r. ⌜ TakesIf r firsts from at spot (hasComment (itemsAt (now (tree .entry)) (own .trivia) (own .«trivia_count»))) ⌝ }
+    ensures { λ r.
+        ⌜ TakesIf r firsts from at spot
+        (hasComment (itemsAt (now (tree .entry)) (own .trivia) (own .«trivia_count»))) ⌝ }
 {
     if spot == places::NONE {
         return firsts;
@@ -143,8 +145,8 @@ fn head_use(
     from: usize,
     firsts: Firsts,
 ) -> Seen
-    ensures { λ r. ⌜ (spot ≡ noSpot → r ≡ Seen.Shown firsts) ⌝ }
-    ensures { λ r. ⌜ TakesHead r firsts from levels (now (tree .entry)) class at spot ⌝ }
+    ensures unused { λ r. ⌜ (spot ≡ noSpot → r ≡ Seen.Shown firsts) ⌝ }
+    ensures takes { λ r. ⌜ TakesHead r firsts from levels (now (tree .entry)) class at spot ⌝ }
 {
     if spot == places::NONE {
         return Seen::Shown(firsts);

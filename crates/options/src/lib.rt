@@ -256,8 +256,10 @@ fn check_values(stored: &[u8], map: usize) -> Checked
 
 // The options that stored bytes stand for.
 fn stored_options(stored: &[u8]) -> FormattingOptions
-    ensures { λ r. ⌜ r ≡ storedOptions (now (stored .entry)) ⌝ }
-    ensures { λ r. ⌜ (r .whitespace .«label_margin» ≤ 255) × (r .whitespace .«code_margin» ≤ 255) × (r .listing .«num_bytes_per_line» ≤ 255) ⌝ }
+    ensures answer { λ r. ⌜ r ≡ storedOptions (now (stored .entry)) ⌝ }
+    ensures narrow { λ r.
+        ⌜ (r .whitespace .«label_margin» ≤ 255) × (r .whitespace .«code_margin» ≤ 255)
+        × (r .listing .«num_bytes_per_line» ≤ 255) ⌝ }
 {
     let indent = value_of(stored, 3, FormattingOptions::INDENT);
     let label_margin = value_of(stored, 4, FormattingOptions::LABEL_MARGIN);
@@ -285,9 +287,9 @@ fn stored_options(stored: &[u8]) -> FormattingOptions
 
 // The options in stored bytes, or refusal 1 or 2.
 pub fn read_options(stored: &[u8]) -> OptionsRead
-    ensures { λ r. ⌜ r ≡ readOptions (now (stored .entry)) ⌝ }
-    ensures { λ r. ⌜ NarrowRead r ⌝ }
-    ensures { λ r. ⌜ numbersRead r ≡ optionsNumbers (now (stored .entry)) ⌝ }
+    ensures answer { λ r. ⌜ r ≡ readOptions (now (stored .entry)) ⌝ }
+    ensures narrow { λ r. ⌜ NarrowRead r ⌝ }
+    ensures numbers { λ r. ⌜ numbersRead r ≡ optionsNumbers (now (stored .entry)) ⌝ }
 {
     let length = stored.len();
     if length == 0 {

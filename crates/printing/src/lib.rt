@@ -95,8 +95,11 @@ impl CodeFormatter {
         text: &[u8],
         colon: bool,
     ) -> Self
-        ensures { λ r. ⌜ r ≡ pushed (length (now (room .entry))) self ty context (withColon colon (now (text .entry))) ⌝ }
-        ensures { λ _. ⌜ now (room .exit) ≡ pushedRoom (now (room .entry)) self ty context (withColon colon (now (text .entry))) ⌝ }
+        ensures answer { λ r.
+            ⌜ r ≡ pushed (length (now (room .entry))) self ty context (withColon colon (now (text .entry))) ⌝ }
+        ensures room { λ _.
+            ⌜ now (room .exit) ≡ pushedRoom (now (room .entry)) self ty context
+            (withColon colon (now (text .entry))) ⌝ }
     {
         if self.full != 0 {
             return self;
@@ -155,16 +158,18 @@ impl CodeFormatter {
 
     // Pushes a text of code.
     pub fn push(self, room: &mut [u8], context: Context, text: &[u8]) -> Self
-        ensures { λ r. ⌜ r ≡ pushed (length (now (room .entry))) self ChunkType.Code context (now (text .entry)) ⌝ }
-        ensures { λ _. ⌜ now (room .exit) ≡ pushedRoom (now (room .entry)) self ChunkType.Code context (now (text .entry)) ⌝ }
+        ensures answer { λ r.
+            ⌜ r ≡ pushed (length (now (room .entry))) self ChunkType.Code context (now (text .entry)) ⌝ }
+        ensures room { λ _.
+            ⌜ now (room .exit) ≡ pushedRoom (now (room .entry)) self ChunkType.Code context (now (text .entry)) ⌝ }
     {
         self.push_type(room, context, ChunkType::Code, text, false)
     }
 
     // The answer at the end of a record: a state that is full is refusal 8.
     pub fn finish(self, end: usize) -> Printed
-        ensures { λ r. ⌜ r ≡ finished self end ⌝ }
-        ensures { λ r. ⌜ numbersPrinted r ≡ finishNumbers self end ⌝ }
+        ensures answer { λ r. ⌜ r ≡ finished self end ⌝ }
+        ensures numbers { λ r. ⌜ numbersPrinted r ≡ finishNumbers self end ⌝ }
     {
         if self.full == 0 {
             return Printed::Done(self, end);
@@ -180,7 +185,10 @@ impl CodeFormatter {
 impl Printed {
     // Pushes a text of code.
     pub fn push(self, room: &mut [u8], context: Context, text: &[u8]) -> Self
-        ensures { λ r. ⌜ Prints r (now (room .exit)) self (now (room .entry)) (λ at. Events.push ChunkType.Code context (now (text .entry))) (λ at. at) ⌝ }
+        ensures { λ r.
+            ⌜ Prints r (now (room .exit)) self (now (room .entry))
+            (λ at. Events.push ChunkType.Code context (now (text .entry)))
+            (λ at. at) ⌝ }
     {
         let Printed::Done(state, at) = self else {
             return self;

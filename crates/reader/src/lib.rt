@@ -36,7 +36,8 @@ pub fn moved<'a>(reader: Reader<'a>, at: usize) -> Reader<'a>
 
 // The own bytes of the record of a class at the reader, where so many levels are left.
 pub fn own_bytes<'a>(reader: Reader<'a>, class: Class, levels: usize) -> OwnRead
-    ensures { λ r. ⌜ (r ≡ readOwn (now (reader .entry .tree)) (reader .entry .at) class levels)
+    ensures { λ r.
+        ⌜ (r ≡ readOwn (now (reader .entry .tree)) (reader .entry .at) class levels)
         × (numbersOwn r ≡ ownNumbers (now (reader .entry .tree)) (reader .entry .at) class levels) ⌝ }
 {
     own::read_own(reader.tree, reader.at, class, levels)
@@ -44,7 +45,8 @@ pub fn own_bytes<'a>(reader: Reader<'a>, class: Class, levels: usize) -> OwnRead
 
 // The place behind the record of a class at the reader, or the first refusal in it.
 pub fn behind<'a>(reader: Reader<'a>, class: Class, levels: usize) -> Skipped
-    ensures { λ r. ⌜ (r ≡ skipped levels (now (reader .entry .tree)) class (reader .entry .at))
+    ensures { λ r.
+        ⌜ (r ≡ skipped levels (now (reader .entry .tree)) class (reader .entry .at))
         × (numbersSkipped r ≡ readNumbers levels (now (reader .entry .tree)) class (reader .entry .at)) ⌝ }
 {
     parts::skip(reader.tree, reader.at, class, levels)
@@ -52,8 +54,9 @@ pub fn behind<'a>(reader: Reader<'a>, class: Class, levels: usize) -> Skipped
 
 // The own bytes of a file's list of tokens, which is the whole tree: how many tokens there are, and where the first begins.
 pub fn list_head(tree: &[u8]) -> OwnRead
-    ensures { λ r. ⌜ (r ≡ readOwn (now (tree .entry)) 0 Class.Tokens 64)
-        × (numbersOwn r ≡ ownNumbers (now (tree .entry)) 0 Class.Tokens 64) ⌝ }
+    ensures { λ r.
+        let bytes = now (tree .entry) in
+        ⌜ (r ≡ readOwn bytes 0 Class.Tokens 64) × (numbersOwn r ≡ ownNumbers bytes 0 Class.Tokens 64) ⌝ }
 {
     own_bytes(new(tree), Class::Tokens, 64)
 }
@@ -94,8 +97,8 @@ fn lesser(number: usize, other: usize) -> usize
 
 // The place behind so many tokens of a file's list, behind all where it has fewer, or the refusal that is met before it.
 pub fn behind_tokens(tree: &[u8], count: usize) -> Skipped
-    ensures { λ r. ⌜ r ≡ tokensBehind (now (tree .entry)) count ⌝ }
-    ensures { λ r. ⌜ numbersSkipped r ≡ tokensNumbers (now (tree .entry)) count ⌝ }
+    ensures answer { λ r. ⌜ r ≡ tokensBehind (now (tree .entry)) count ⌝ }
+    ensures numbers { λ r. ⌜ numbersSkipped r ≡ tokensNumbers (now (tree .entry)) count ⌝ }
 {
     let read = list_head(tree);
     let OwnRead::Record(list) = read else {

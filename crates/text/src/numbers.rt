@@ -45,8 +45,8 @@ pub fn read_number(bytes: &[u8], at: usize) -> Number
 
 // The number n, stored at a place.
 pub fn store_number(buffer: &mut [u8], at: usize, n: usize) -> StoredNumber
-    ensures { λ r. ⌜ r ≡ numberEnd (now (buffer .entry)) at n ⌝ }
-    ensures { λ _. ⌜ now (buffer .exit) ≡ numberBuffer (now (buffer .entry)) at n ⌝ }
+    ensures answer { λ r. ⌜ r ≡ numberEnd (now (buffer .entry)) at n ⌝ }
+    ensures buffer { λ _. ⌜ now (buffer .exit) ≡ numberBuffer (now (buffer .entry)) at n ⌝ }
 {
     if 65535 < n {
         return StoredNumber::TooLarge;

@@ -11,8 +11,8 @@ pub enum Stored {
 
 // Copies bytes, a part of another slice for instance, to a place of a buffer.
 pub fn copy(bytes: &[u8], buffer: &mut [u8], at: usize) -> Stored
-    ensures { λ r. ⌜ r ≡ storedEnd (now (buffer .entry)) at (now (bytes .entry)) ⌝ }
-    ensures { λ _. ⌜ now (buffer .exit) ≡ storedBuffer (now (buffer .entry)) at (now (bytes .entry)) ⌝ }
+    ensures answer { λ r. ⌜ r ≡ storedEnd (now (buffer .entry)) at (now (bytes .entry)) ⌝ }
+    ensures buffer { λ _. ⌜ now (buffer .exit) ≡ storedBuffer (now (buffer .entry)) at (now (bytes .entry)) ⌝ }
 {
     let room = buffer.len();
     let count = bytes.len();
@@ -32,8 +32,8 @@ pub fn copy(bytes: &[u8], buffer: &mut [u8], at: usize) -> Stored
 
 // Stores one byte `count` times, from a place of a buffer on.
 pub fn fill(buffer: &mut [u8], at: usize, count: usize, byte: u8) -> Stored
-    ensures { λ r. ⌜ r ≡ storedEnd (now (buffer .entry)) at (replicate count byte) ⌝ }
-    ensures { λ _. ⌜ now (buffer .exit) ≡ storedBuffer (now (buffer .entry)) at (replicate count byte) ⌝ }
+    ensures answer { λ r. ⌜ r ≡ storedEnd (now (buffer .entry)) at (replicate count byte) ⌝ }
+    ensures buffer { λ _. ⌜ now (buffer .exit) ≡ storedBuffer (now (buffer .entry)) at (replicate count byte) ⌝ }
 {
     let room = buffer.len();
     if room < at {

@@ -37,7 +37,9 @@ fn config_pair_front(
     levels: usize,
     last: Printed,
 ) -> Printed
-    ensures { λ r. ⌜ PrintsFront r (now (room .exit)) last (now (room .entry)) context kinds.configPair levels (now (tree .entry)) ⌝ }
+    ensures { λ r.
+        ⌜ PrintsFront r (now (room .exit)) last (now (room .entry)) context kinds.configPair levels
+        (now (tree .entry)) ⌝ }
 {
     let key = leaf::format_leaf(
         tree,
@@ -71,7 +73,9 @@ fn definition_front(
     levels: usize,
     last: Printed,
 ) -> Printed
-    ensures { λ r. ⌜ PrintsFront r (now (room .exit)) last (now (room .entry)) context kinds.definition levels (now (tree .entry)) ⌝ }
+    ensures { λ r.
+        ⌜ PrintsFront r (now (room .exit)) last (now (room .entry)) context kinds.definition levels
+        (now (tree .entry)) ⌝ }
 {
     let name = tag_and_name(tree, room, context, levels, last);
     name.push(room, context, b" ")
@@ -85,7 +89,8 @@ fn import_front(
     levels: usize,
     last: Printed,
 ) -> Printed
-    ensures { λ r. ⌜ PrintsFront r (now (room .exit)) last (now (room .entry)) context kinds.import levels (now (tree .entry)) ⌝ }
+    ensures { λ r.
+        ⌜ PrintsFront r (now (room .exit)) last (now (room .entry)) context kinds.import levels (now (tree .entry)) ⌝ }
 {
     let tag = leaf::format_leaf(
         tree,
@@ -131,7 +136,11 @@ fn push_label(
     state: CodeFormatter,
 ) -> Printed
     requires { ⌜ (id .text ≤ id .end) × (id .end ≤ length (now tree)) ⌝ }
-    ensures { λ r. ⌜ ((levels at : ℕ) → readOwn (now (tree .entry)) at class.Word levels ≡ Record id → PrintsRecord r (now (room .exit)) (Done state at) (now (room .entry)) context Trees.labelled false levels (now (tree .entry)) class.Word) ⌝ }
+    ensures { λ r.
+        let bytes = now (tree .entry) in
+        ⌜ ((levels at : ℕ) → readOwn bytes at class.Word levels ≡ Record id
+        → PrintsRecord r (now (room .exit)) (Done state at) (now (room .entry)) context Trees.labelled false
+        levels bytes class.Word) ⌝ }
 {
     let start = id.text;
     let end = id.end;
@@ -147,7 +156,9 @@ fn format_label(
     levels: usize,
     last: Printed,
 ) -> Printed
-    ensures { λ r. ⌜ PrintsRecord r (now (room .exit)) last (now (room .entry)) context Trees.labelled false levels (now (tree .entry)) class.Word ⌝ }
+    ensures { λ r.
+        ⌜ PrintsRecord r (now (room .exit)) last (now (room .entry)) context Trees.labelled false levels
+        (now (tree .entry)) class.Word ⌝ }
 {
     let opened = record::open(tree, room, context, levels, Class::Word, true, false, last);
     let Opened::Record(own, state) = opened else {
@@ -164,7 +175,8 @@ fn label_front(
     levels: usize,
     last: Printed,
 ) -> Printed
-    ensures { λ r. ⌜ PrintsFront r (now (room .exit)) last (now (room .entry)) context kinds.label levels (now (tree .entry)) ⌝ }
+    ensures { λ r.
+        ⌜ PrintsFront r (now (room .exit)) last (now (room .entry)) context kinds.label levels (now (tree .entry)) ⌝ }
 {
     let id = format_label(tree, room, context, levels, last);
     record::skip(tree, levels, Class::Colon, true, id)
@@ -180,7 +192,10 @@ pub(crate) fn format_listed_label(
     state: CodeFormatter,
 ) -> Printed
     requires { ⌜ (id .text ≤ id .end) × (id .end ≤ length (now tree)) ⌝ }
-    ensures { λ r. ⌜ ((at : ℕ) → readOwn (now (tree .entry)) at class.Word levels ≡ Record id → PrintsFront r (now (room .exit)) (Done state at) (now (room .entry)) context kinds.label levels (now (tree .entry))) ⌝ }
+    ensures { λ r.
+        let bytes = now (tree .entry) in
+        ⌜ ((at : ℕ) → readOwn bytes at class.Word levels ≡ Record id
+        → PrintsFront r (now (room .exit)) (Done state at) (now (room .entry)) context kinds.label levels bytes) ⌝ }
 {
     let label = push_label(tree, room, context, id, state);
     record::skip(tree, levels, Class::Colon, true, label)
@@ -194,7 +209,11 @@ fn tag_and_name(
     levels: usize,
     last: Printed,
 ) -> Printed
-    ensures { λ r. ⌜ Prints r (now (room .exit)) last (now (room .entry)) (λ at. namedEvents context (read levels (now (tree .entry))) at) (λ at. behindName (read levels (now (tree .entry))) at) ⌝ }
+    ensures { λ r.
+        let reader = read levels (now (tree .entry)) in
+        ⌜ Prints r (now (room .exit)) last (now (room .entry))
+        (λ at. namedEvents context reader at)
+        (λ at. behindName reader at) ⌝ }
 {
     let tag = leaf::format_leaf(
         tree,
@@ -227,7 +246,9 @@ fn macro_definition_front(
     levels: usize,
     last: Printed,
 ) -> Printed
-    ensures { λ r. ⌜ PrintsFront r (now (room .exit)) last (now (room .entry)) context kinds.macroDefinition levels (now (tree .entry)) ⌝ }
+    ensures { λ r.
+        ⌜ PrintsFront r (now (room .exit)) last (now (room .entry)) context kinds.macroDefinition levels
+        (now (tree .entry)) ⌝ }
 {
     let id = tag_and_name(tree, room, context, levels, last);
     let lparen = leaf::format_leaf(
@@ -269,7 +290,8 @@ fn tagged_front(
     levels: usize,
     last: Printed,
 ) -> Printed
-    ensures { λ r. ⌜ PrintsFront r (now (room .exit)) last (now (room .entry)) context kinds.loop levels (now (tree .entry)) ⌝ }
+    ensures { λ r.
+        ⌜ PrintsFront r (now (room .exit)) last (now (room .entry)) context kinds.loop levels (now (tree .entry)) ⌝ }
 {
     let value = plain::format_tagged(tree, room, context, levels, last);
     value.push(room, context, b" ")
@@ -283,7 +305,8 @@ fn test_front(
     levels: usize,
     last: Printed,
 ) -> Printed
-    ensures { λ r. ⌜ PrintsFront r (now (room .exit)) last (now (room .entry)) context kinds.test levels (now (tree .entry)) ⌝ }
+    ensures { λ r.
+        ⌜ PrintsFront r (now (room .exit)) last (now (room .entry)) context kinds.test levels (now (tree .entry)) ⌝ }
 {
     let tag = leaf::format_leaf(
         tree,
@@ -309,7 +332,8 @@ pub(crate) fn format_token_front(
     number: usize,
     last: Printed,
 ) -> Printed
-    ensures { λ r. ⌜ PrintsFront r (now (room .exit)) last (now (room .entry)) context number levels (now (tree .entry)) ⌝ }
+    ensures { λ r.
+        ⌜ PrintsFront r (now (room .exit)) last (now (room .entry)) context number levels (now (tree .entry)) ⌝ }
 {
     match number {
         kinds::CONFIG_PAIR => config_pair_front(tree, room, context, levels, last),

@@ -46,9 +46,14 @@ fn printed_answer(printed: Printed) -> Answer
 // The walk under given options: refusals 3, 4, 5, 7 and 8.
 fn chunks_with(tree: &[u8], options: FormattingOptions, room: &mut [u8]) -> Answer
     requires { ⌜ Narrow options ⌝ }
-    ensures { λ r. ⌜ r ≡ chunksAnswer (heldWith (options-are.Options options) (now (tree .entry)) (length (now (room .entry)))) ⌝ }
-    ensures { λ _. ⌜ RoomHolds (heldWith (options-are.Options options) (now (tree .entry)) (length (now (room .entry)))) (now (room .exit)) ⌝ }
-    ensures { λ _. ⌜ now (room .exit) ≡ roomWith (options-are.Options options) (now (tree .entry)) (now (room .entry)) ⌝ }
+    ensures answer { λ r.
+        let held = heldWith (options-are.Options options) (now (tree .entry)) (length (now (room .entry))) in
+        ⌜ r ≡ chunksAnswer held ⌝ }
+    ensures stored { λ _.
+        let held = heldWith (options-are.Options options) (now (tree .entry)) (length (now (room .entry))) in
+        ⌜ RoomHolds held (now (room .exit)) ⌝ }
+    ensures room { λ _.
+        ⌜ now (room .exit) ≡ roomWith (options-are.Options options) (now (tree .entry)) (now (room .entry)) ⌝ }
 {
     let checked = tree::check_tree(tree);
     if let Checked::Failed(refusal) = checked {
@@ -60,11 +65,17 @@ fn chunks_with(tree: &[u8], options: FormattingOptions, room: &mut [u8]) -> Answ
 
 // The chunks of a stored tree under stored options, stored at the start of the work room; or refusal 1, 2, 3, 4, 5, 7 or 8.
 pub fn chunks(tree: &[u8], options: &[u8], room: &mut [u8]) -> Answer
-    ensures { λ r. ⌜ r ≡ chunksAnswer (chunksHeld (now (tree .entry)) (now (options .entry)) (length (now (room .entry)))) ⌝ }
-    ensures { λ _. ⌜ RoomHolds (chunksHeld (now (tree .entry)) (now (options .entry)) (length (now (room .entry)))) (now (room .exit)) ⌝ }
-    ensures { λ _. ⌜ now (room .exit) ≡ chunksRoom (now (tree .entry)) (now (options .entry)) (now (room .entry)) ⌝ }
-    ensures { λ r. ⌜ numbers r
-        ≡ numbersHeld (chunksHeld (now (tree .entry)) (now (options .entry)) (length (now (room .entry)))) ⌝ }
+    ensures answer { λ r.
+        let held = chunksHeld (now (tree .entry)) (now (options .entry)) (length (now (room .entry))) in
+        ⌜ r ≡ chunksAnswer held ⌝ }
+    ensures stored { λ _.
+        let held = chunksHeld (now (tree .entry)) (now (options .entry)) (length (now (room .entry))) in
+        ⌜ RoomHolds held (now (room .exit)) ⌝ }
+    ensures room { λ _.
+        ⌜ now (room .exit) ≡ chunksRoom (now (tree .entry)) (now (options .entry)) (now (room .entry)) ⌝ }
+    ensures numbers { λ r.
+        let held = chunksHeld (now (tree .entry)) (now (options .entry)) (length (now (room .entry))) in
+        ⌜ numbers r ≡ numbersHeld held ⌝ }
 {
     let read = options::read_options(options);
     match read {
@@ -90,9 +101,14 @@ fn settles(tree: &[u8], printed: Printed) -> bool
 // The walk under given options before the check: refusals 3, 4, 5, 7 and 8.
 fn one_pass_with(tree: &[u8], options: FormattingOptions, room: &mut [u8]) -> Answer
     requires { ⌜ Narrow options ⌝ }
-    ensures { λ r. ⌜ r ≡ chunksAnswer (heldWith (options-are.Options options) (now (tree .entry)) (length (now (room .entry)))) ⌝ }
-    ensures { λ _. ⌜ RoomHolds (heldWith (options-are.Options options) (now (tree .entry)) (length (now (room .entry)))) (now (room .exit)) ⌝ }
-    ensures { λ _. ⌜ now (room .exit) ≡ onePassWith (options-are.Options options) (now (tree .entry)) (now (room .entry)) ⌝ }
+    ensures answer { λ r.
+        let held = heldWith (options-are.Options options) (now (tree .entry)) (length (now (room .entry))) in
+        ⌜ r ≡ chunksAnswer held ⌝ }
+    ensures stored { λ _.
+        let held = heldWith (options-are.Options options) (now (tree .entry)) (length (now (room .entry))) in
+        ⌜ RoomHolds held (now (room .exit)) ⌝ }
+    ensures room { λ _.
+        ⌜ now (room .exit) ≡ onePassWith (options-are.Options options) (now (tree .entry)) (now (room .entry)) ⌝ }
 {
     // a tree of a wrong length, however long, is refused without a look at its bytes
     let sized = check::check_length(tree, 65535);
@@ -114,11 +130,17 @@ fn one_pass_with(tree: &[u8], options: FormattingOptions, room: &mut [u8]) -> An
 // `chunks` for a caller who clears the room after every answer: the tree is walked first, and checked only where the walk does not settle that it is accepted. So a
 // plain tree that is accepted is read once; and a refused one may leave chunks in the room.
 pub fn chunks_in_one_pass(tree: &[u8], options: &[u8], room: &mut [u8]) -> Answer
-    ensures { λ r. ⌜ r ≡ chunksAnswer (chunksHeld (now (tree .entry)) (now (options .entry)) (length (now (room .entry)))) ⌝ }
-    ensures { λ _. ⌜ RoomHolds (chunksHeld (now (tree .entry)) (now (options .entry)) (length (now (room .entry)))) (now (room .exit)) ⌝ }
-    ensures { λ _. ⌜ now (room .exit) ≡ onePassRoom (now (tree .entry)) (now (options .entry)) (now (room .entry)) ⌝ }
-    ensures { λ r. ⌜ numbers r
-        ≡ numbersHeld (chunksHeld (now (tree .entry)) (now (options .entry)) (length (now (room .entry)))) ⌝ }
+    ensures answer { λ r.
+        let held = chunksHeld (now (tree .entry)) (now (options .entry)) (length (now (room .entry))) in
+        ⌜ r ≡ chunksAnswer held ⌝ }
+    ensures stored { λ _.
+        let held = chunksHeld (now (tree .entry)) (now (options .entry)) (length (now (room .entry))) in
+        ⌜ RoomHolds held (now (room .exit)) ⌝ }
+    ensures room { λ _.
+        ⌜ now (room .exit) ≡ onePassRoom (now (tree .entry)) (now (options .entry)) (now (room .entry)) ⌝ }
+    ensures numbers { λ r.
+        let held = chunksHeld (now (tree .entry)) (now (options .entry)) (length (now (room .entry))) in
+        ⌜ numbers r ≡ numbersHeld held ⌝ }
 {
     let read = options::read_options(options);
     match read {

@@ -27,9 +27,7 @@ ghost use Rattle.tree.specs.declared.grammar.Kind.the-variants as kind;
 ghost use Rattle.tree.specs.declared.own.OwnRead.the-variants.{Record};
 ghost use Rattle.printing.specs.Running.{Prints};
 ghost use Rattle.printing.specs.declared.Printed.the-variants.{Done};
-ghost use Rattle.events.specs.Printed.{plain};
-ghost use Rattle.events.specs.Trees as Trees;
-ghost use Rattle.leaves.specs.Records.{PrintsKind};
+ghost use Rattle.leaves.specs.Records.{PrintsNode};
 ghost use Rattle.tokens.specs.Fronts.{isPlain};
 ghost use Rattle.tokens.specs.Inner.{valueEvents, sizedEvents, operandEvents, operandEnd};
 
@@ -41,7 +39,8 @@ pub(crate) fn format_tagged(
     levels: usize,
     last: Printed,
 ) -> Printed
-    ensures { λ r. ⌜ PrintsKind r (now (room .exit)) last (now (room .entry)) context (Trees.leaf plain) kind.Align class.LocatedExpression 0 levels (now (tree .entry)) ⌝ }
+    ensures { λ r.
+        ⌜ PrintsNode r (now (room .exit)) last (now (room .entry)) context kind.Align 0 levels (now (tree .entry)) ⌝ }
 {
     let tag = leaf::format_leaf(
         tree,
@@ -66,7 +65,9 @@ fn format_assert(
     bits: usize,
     last: Printed,
 ) -> Printed
-    ensures { λ r. ⌜ PrintsKind r (now (room .exit)) last (now (room .entry)) context (Trees.leaf plain) kind.Assert class.LocatedExpression bits levels (now (tree .entry)) ⌝ }
+    ensures { λ r.
+        ⌜ PrintsNode r (now (room .exit)) last (now (room .entry)) context kind.Assert bits levels
+        (now (tree .entry)) ⌝ }
 {
     let value = format_tagged(tree, room, context, levels, last);
     let gap = value.spc_if_next();
@@ -82,7 +83,9 @@ fn format_behind_size(
     values: usize,
     size: Printed,
 ) -> Printed
-    ensures { λ r. ⌜ Prints r (now (room .exit)) size (now (room .entry)) (λ at. valueEvents context (read levels (now (tree .entry))) values) (λ at. at) ⌝ }
+    ensures { λ r.
+        let reader = read levels (now (tree .entry)) in
+        ⌜ Prints r (now (room .exit)) size (now (room .entry)) (λ at. valueEvents context reader values) (λ at. at) ⌝ }
 {
     let Printed::Done(_, end) = size else {
         return size;
@@ -110,7 +113,12 @@ pub(crate) fn format_sized(
     state: CodeFormatter,
 ) -> Printed
     requires { ⌜ (size .text ≤ size .end) × (size .end ≤ length (now tree)) ⌝ }
-    ensures { λ r. ⌜ ((at : ℕ) → readOwn (now (tree .entry)) at class.DataSize levels ≡ Record size → Prints r (now (room .exit)) (Done state at) (now (room .entry)) (λ place. sizedEvents context (read levels (now (tree .entry))) values place) (λ place. read levels (now (tree .entry)) class.DataSize place .end)) ⌝ }
+    ensures { λ r.
+        let reader = read levels (now (tree .entry)) in
+        ⌜ ((at : ℕ) → readOwn (now (tree .entry)) at class.DataSize levels ≡ Record size
+        → Prints r (now (room .exit)) (Done state at) (now (room .entry))
+        (λ place. sizedEvents context reader values place)
+        (λ place. reader class.DataSize place .end)) ⌝ }
 {
     let start = size.text;
     let end = size.end;
@@ -126,7 +134,8 @@ fn format_data(
     levels: usize,
     last: Printed,
 ) -> Printed
-    ensures { λ r. ⌜ PrintsKind r (now (room .exit)) last (now (room .entry)) context (Trees.leaf plain) kind.Data class.LocatedExpression 0 levels (now (tree .entry)) ⌝ }
+    ensures { λ r.
+        ⌜ PrintsNode r (now (room .exit)) last (now (room .entry)) context kind.Data 0 levels (now (tree .entry)) ⌝ }
 {
     let Printed::Done(_, values) = last else {
         return last;
@@ -153,7 +162,8 @@ fn format_file(
     levels: usize,
     last: Printed,
 ) -> Printed
-    ensures { λ r. ⌜ PrintsKind r (now (room .exit)) last (now (room .entry)) context (Trees.leaf plain) kind.File class.LocatedExpression 0 levels (now (tree .entry)) ⌝ }
+    ensures { λ r.
+        ⌜ PrintsNode r (now (room .exit)) last (now (room .entry)) context kind.File 0 levels (now (tree .entry)) ⌝ }
 {
     let tag = leaf::format_leaf(
         tree,
@@ -178,7 +188,11 @@ fn format_behind_mnemonic(
     bits: usize,
     mnemonic: Printed,
 ) -> Printed
-    ensures { λ r. ⌜ Prints r (now (room .exit)) mnemonic (now (room .entry)) (λ at. operandEvents context bits (read levels (now (tree .entry))) at) (λ at. operandEnd bits (read levels (now (tree .entry))) at) ⌝ }
+    ensures { λ r.
+        let reader = read levels (now (tree .entry)) in
+        ⌜ Prints r (now (room .exit)) mnemonic (now (room .entry))
+        (λ at. operandEvents context bits reader at)
+        (λ at. operandEnd bits reader at) ⌝ }
 {
     if !record::stands(bits, 1) {
         return mnemonic.clear_spc_if_next();
@@ -199,7 +213,11 @@ pub(crate) fn format_listed_instruction(
     state: CodeFormatter,
 ) -> Printed
     requires { ⌜ (mnemonic .text ≤ mnemonic .end) × (mnemonic .end ≤ length (now tree)) ⌝ }
-    ensures { λ r. ⌜ ((at : ℕ) → readOwn (now (tree .entry)) at class.Mnemonic levels ≡ Record mnemonic → PrintsKind r (now (room .exit)) (Done state at) (now (room .entry)) context (Trees.leaf plain) kind.Instruction class.LocatedExpression bits levels (now (tree .entry))) ⌝ }
+    ensures { λ r.
+        let bytes = now (tree .entry) in
+        ⌜ ((at : ℕ) → readOwn bytes at class.Mnemonic levels ≡ Record mnemonic
+        → PrintsNode r (now (room .exit)) (Done state at) (now (room .entry)) context kind.Instruction bits
+        levels bytes) ⌝ }
 {
     let start = mnemonic.text;
     let end = mnemonic.end;
@@ -216,7 +234,9 @@ fn format_instruction(
     bits: usize,
     last: Printed,
 ) -> Printed
-    ensures { λ r. ⌜ PrintsKind r (now (room .exit)) last (now (room .entry)) context (Trees.leaf plain) kind.Instruction class.LocatedExpression bits levels (now (tree .entry)) ⌝ }
+    ensures { λ r.
+        ⌜ PrintsNode r (now (room .exit)) last (now (room .entry)) context kind.Instruction bits levels
+        (now (tree .entry)) ⌝ }
 {
     let mnemonic = leaf::format_leaf(
         tree,
@@ -239,7 +259,9 @@ fn format_macro_invocation(
     levels: usize,
     last: Printed,
 ) -> Printed
-    ensures { λ r. ⌜ PrintsKind r (now (room .exit)) last (now (room .entry)) context (Trees.leaf plain) kind.MacroInvocation class.LocatedExpression 0 levels (now (tree .entry)) ⌝ }
+    ensures { λ r.
+        ⌜ PrintsNode r (now (room .exit)) last (now (room .entry)) context kind.MacroInvocation 0 levels
+        (now (tree .entry)) ⌝ }
 {
     let id = leaf::format_leaf(
         tree,
@@ -289,7 +311,9 @@ fn format_program_counter_definition(
     levels: usize,
     last: Printed,
 ) -> Printed
-    ensures { λ r. ⌜ PrintsKind r (now (room .exit)) last (now (room .entry)) context (Trees.leaf plain) kind.ProgramCounterDefinition class.LocatedExpression 0 levels (now (tree .entry)) ⌝ }
+    ensures { λ r.
+        ⌜ PrintsNode r (now (room .exit)) last (now (room .entry)) context kind.ProgramCounterDefinition 0 levels
+        (now (tree .entry)) ⌝ }
 {
     let star = leaf::format_leaf(
         tree,
@@ -325,7 +349,8 @@ fn format_text(
     bits: usize,
     last: Printed,
 ) -> Printed
-    ensures { λ r. ⌜ PrintsKind r (now (room .exit)) last (now (room .entry)) context (Trees.leaf plain) kind.Text class.LocatedExpression bits levels (now (tree .entry)) ⌝ }
+    ensures { λ r.
+        ⌜ PrintsNode r (now (room .exit)) last (now (room .entry)) context kind.Text bits levels (now (tree .entry)) ⌝ }
 {
     let tag = leaf::format_leaf(
         tree,
@@ -361,7 +386,9 @@ fn format_trace(
     bits: usize,
     last: Printed,
 ) -> Printed
-    ensures { λ r. ⌜ PrintsKind r (now (room .exit)) last (now (room .entry)) context (Trees.leaf plain) kind.Trace class.LocatedExpression bits levels (now (tree .entry)) ⌝ }
+    ensures { λ r.
+        ⌜ PrintsNode r (now (room .exit)) last (now (room .entry)) context kind.Trace bits levels
+        (now (tree .entry)) ⌝ }
 {
     let tag = leaf::format_leaf(
         tree,
@@ -412,7 +439,9 @@ fn format_variable_definition(
     levels: usize,
     last: Printed,
 ) -> Printed
-    ensures { λ r. ⌜ PrintsKind r (now (room .exit)) last (now (room .entry)) context (Trees.leaf plain) kind.VariableDefinition class.LocatedExpression 0 levels (now (tree .entry)) ⌝ }
+    ensures { λ r.
+        ⌜ PrintsNode r (now (room .exit)) last (now (room .entry)) context kind.VariableDefinition 0 levels
+        (now (tree .entry)) ⌝ }
 {
     let ty = leaf::format_leaf(
         tree,
@@ -460,7 +489,9 @@ pub(crate) fn format_plain_token(
     bits: usize,
     last: Printed,
 ) -> Printed
-    ensures { λ r. ⌜ (isPlain number ≡ true → (kind : Kind) → kindOf number ≡ Known kind → PrintsKind r (now (room .exit)) last (now (room .entry)) context (Trees.leaf plain) kind class.LocatedExpression bits levels (now (tree .entry))) ⌝ }
+    ensures { λ r.
+        ⌜ (isPlain number ≡ true → (kind : Kind) → kindOf number ≡ Known kind
+        → PrintsNode r (now (room .exit)) last (now (room .entry)) context kind bits levels (now (tree .entry))) ⌝ }
 {
     match number {
         kinds::ALIGN => format_tagged(tree, room, context, levels, last),

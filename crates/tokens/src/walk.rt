@@ -25,7 +25,7 @@ ghost use Rattle.printing.specs.Running.{Prints};
 ghost use Rattle.events.specs.Printed.{plain};
 ghost use Rattle.events.specs.Trees as Trees;
 ghost use Rattle.events.specs.Trees.{eventsIn};
-ghost use Rattle.leaves.specs.Records.{PrintsField, PrintsKind};
+ghost use Rattle.leaves.specs.Records.{PrintsField, PrintsNode};
 ghost use Rattle.leaves.specs.Lists.{itemsEnd};
 ghost use Rattle.leads.specs.Leads.{beforeOf};
 ghost use Rattle.tokens.specs.Inner.{tokenClass, innerOf, Ends, Narrow, elseFront, branchEvents, branchesEnd, listedEvents};
@@ -90,7 +90,12 @@ fn open_block(
     levels: usize,
     last: Printed,
 ) -> Printed
-    ensures { λ r. ⌜ Prints r (now (room .exit)) last (now (room .entry)) (λ at. Trees.opening context (context .options .braces .position) (eventsIn context (Trees.leaf plain) false (read levels (now (tree .entry)) class.OpenBrace at .tree))) (λ at. read levels (now (tree .entry)) class.OpenBrace at .end) ⌝ }
+    ensures { λ r.
+        let reader = read levels (now (tree .entry)) in
+        ⌜ Prints r (now (room .exit)) last (now (room .entry))
+        (λ at. Trees.opening context (context .options .braces .position)
+        (eventsIn context (Trees.leaf plain) false (reader class.OpenBrace at .tree)))
+        (λ at. reader class.OpenBrace at .end) ⌝ }
 {
     let options = context.options;
     let braces = options.braces;
@@ -134,7 +139,12 @@ fn format_else(
     levels: usize,
     last: Printed,
 ) -> Printed
-    ensures { λ r. ⌜ Prints r (now (room .exit)) last (now (room .entry)) (λ at. elseFront context (context .options .braces .position) (eventsIn context (Trees.leaf plain) true (read levels (now (tree .entry)) class.Word at .tree))) (λ at. read levels (now (tree .entry)) class.Word at .end) ⌝ }
+    ensures { λ r.
+        let reader = read levels (now (tree .entry)) in
+        ⌜ Prints r (now (room .exit)) last (now (room .entry))
+        (λ at. elseFront context (context .options .braces .position)
+        (eventsIn context (Trees.leaf plain) true (reader class.Word at .tree)))
+        (λ at. reader class.Word at .end) ⌝ }
 {
     let options = context.options;
     let braces = options.braces;
@@ -182,7 +192,9 @@ fn format_token(
     last: Printed,
 ) -> Printed
     requires { ⌜ Narrow context levels ⌝ }
-    ensures { λ r. ⌜ PrintsField r (now (room .exit)) last (now (room .entry)) context (Trees.leaf plain) shown levels (now (tree .entry)) (tokenClass located) stands ⌝ }
+    ensures { λ r.
+        ⌜ PrintsField r (now (room .exit)) last (now (room .entry)) context (Trees.leaf plain) shown levels
+        (now (tree .entry)) (tokenClass located) stands ⌝ }
 {
     let Printed::Done(_, at) = last else {
         return last;
@@ -209,7 +221,11 @@ fn format_listed_token(
     last: Printed,
 ) -> Printed
     requires { ⌜ Narrow context levels ⌝ }
-    ensures { λ r. ⌜ Prints r (now (room .exit)) last (now (room .entry)) (λ at. listedEvents context drops (beforeOf before) (read levels (now (tree .entry)) class.BareToken at .tree)) (λ at. read levels (now (tree .entry)) class.BareToken at .end) ⌝ }
+    ensures { λ r.
+        let reader = read levels (now (tree .entry)) in
+        ⌜ Prints r (now (room .exit)) last (now (room .entry))
+        (λ at. listedEvents context drops (beforeOf before) (reader class.BareToken at .tree))
+        (λ at. reader class.BareToken at .end) ⌝ }
 {
     let Printed::Done(_, at) = last else {
         return last;
@@ -250,7 +266,9 @@ fn format_inner(
 ) -> Printed
     requires { ⌜ Narrow context levels ⌝ }
     requires { ⌜ Ends number bits ⌝ }
-    ensures { λ r. ⌜ (number ≤ kinds.variableDefinition → (kind : Kind) → kindOf number ≡ Known kind → PrintsKind r (now (room .exit)) last (now (room .entry)) context (Trees.leaf plain) kind class.LocatedExpression bits levels (now (tree .entry))) ⌝ }
+    ensures { λ r.
+        ⌜ (number ≤ kinds.variableDefinition → (kind : Kind) → kindOf number ≡ Known kind
+        → PrintsNode r (now (room .exit)) last (now (room .entry)) context kind bits levels (now (tree .entry))) ⌝ }
 {
     let inner = inner_of(number, bits);
     if let Inner::Nothing = inner {
@@ -279,7 +297,11 @@ fn format_branches(
     last: Printed,
 ) -> Printed
     requires { ⌜ Narrow context levels ⌝ }
-    ensures { λ r. ⌜ Prints r (now (room .exit)) last (now (room .entry)) (λ at. branchEvents context other (read levels (now (tree .entry))) at) (λ at. branchesEnd other (read levels (now (tree .entry))) at) ⌝ }
+    ensures { λ r.
+        let reader = read levels (now (tree .entry)) in
+        ⌜ Prints r (now (room .exit)) last (now (room .entry))
+        (λ at. branchEvents context other reader at)
+        (λ at. branchesEnd other reader at) ⌝ }
 {
     let then = format_block(tree, room, context, levels, true, last);
     if !other {
@@ -299,7 +321,9 @@ fn format_block(
     last: Printed,
 ) -> Printed
     requires { ⌜ Narrow context levels ⌝ }
-    ensures { λ r. ⌜ PrintsField r (now (room .exit)) last (now (room .entry)) context (Trees.leaf plain) true levels (now (tree .entry)) class.BlockRecord stands ⌝ }
+    ensures { λ r.
+        ⌜ PrintsField r (now (room .exit)) last (now (room .entry)) context (Trees.leaf plain) true levels
+        (now (tree .entry)) class.BlockRecord stands ⌝ }
 {
     let opened = record::open(
         tree,
@@ -341,7 +365,8 @@ pub(crate) fn format_tokens(
     last: Printed,
 ) -> Printed
     requires { ⌜ Narrow context levels ⌝ }
-    ensures { λ r. ⌜ PrintsTokens r (now (room .exit)) last (now (room .entry)) context block levels (now (tree .entry)) ⌝ }
+    ensures { λ r.
+        ⌜ PrintsTokens r (now (room .exit)) last (now (room .entry)) context block levels (now (tree .entry)) ⌝ }
 {
     let opened = record::open(tree, room, context, levels, Class::Tokens, true, true, last);
     let Opened::Record(own, state) = opened else {
@@ -363,7 +388,11 @@ fn format_each_token(
 ) -> Printed
     requires { ⌜ Narrow context levels ⌝ }
     requires { ⌜ 0 < levels ⌝ }
-    ensures { λ r. ⌜ Prints r (now (room .exit)) last (now (room .entry)) (λ at. eachEvents context block levels (now (tree .entry)) count at) (λ at. itemsEnd (read (levels - 1) (now (tree .entry))) class.BareToken count at) ⌝ }
+    ensures { λ r.
+        let reader = read (levels - 1) (now (tree .entry)) in
+        ⌜ Prints r (now (room .exit)) last (now (room .entry))
+        (λ at. eachEvents context block levels (now (tree .entry)) count at)
+        (λ at. itemsEnd reader class.BareToken count at) ⌝ }
 {
     let mut answer = last;
     let mut before = Before {

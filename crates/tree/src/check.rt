@@ -119,7 +119,9 @@ pub fn next_part(plan: Plan) -> Part
 // The first byte of tree[start..end] that no text may hold, unless one was found before.
 fn fault_in(tree: &[u8], start: usize, end: usize, fault: usize) -> usize
     requires { ⌜ (start ≤ end) × (end ≤ length (now tree)) ⌝ }
-    ensures { λ r. ⌜ r ≡ faultWith (now (tree .entry)) fault (record { place = start; bytes = slice start end (now (tree .entry)) }) ⌝ }
+    ensures { λ r.
+        let bytes = now (tree .entry) in
+        ⌜ r ≡ faultWith bytes fault (record { place = start; bytes = slice start end bytes }) ⌝ }
 {
     if fault < tree.len() {
         return fault;
@@ -181,7 +183,9 @@ fn has_parts(own: Own) -> bool
 // The parts of a record whose own bytes were read, one behind the other. A leaf among them ends here, without a call for its parts.
 fn read_parts(tree: &[u8], class: Class, own: Own, levels: usize, fault: usize) -> RecordRead
     requires { ⌜ 0 < levels ⌝ }
-    ensures { λ r. ⌜ r ≡ walked (walkerOf (read (levels - 1) (now (tree .entry))) (now (tree .entry))) (standing (partsDue class own)) (own .end) fault ⌝ }
+    ensures { λ r.
+        let reader = read (levels - 1) (now (tree .entry)) in
+        ⌜ r ≡ walked (walkerOf reader (now (tree .entry))) (standing (partsDue class own)) (own .end) fault ⌝ }
 {
     let mut place = own.end;
     let mut seen = fault;
@@ -258,7 +262,9 @@ pub fn is_plain(tree: &[u8]) -> bool
 
 // The file's record. In a plain tree the search for a byte that no text may hold is over before it begins: place 0 stands for found.
 fn read_file(tree: &[u8], levels: usize) -> RecordRead
-    ensures { λ r. ⌜ r ≡ recordRead (now (tree .entry)) (length (now (tree .entry))) (readFile levels (now (tree .entry))) ⌝ }
+    ensures { λ r.
+        let bytes = now (tree .entry) in
+        ⌜ r ≡ recordRead bytes (length bytes) (readFile levels bytes) ⌝ }
 {
     let end = tree.len();
     if !is_plain(tree) {
@@ -282,8 +288,8 @@ fn failed(reason: Reason, place: usize) -> Checked
 
 // Whether a tree has bytes, and at most `limit` of them: refusal 3.
 pub fn check_length(tree: &[u8], limit: usize) -> Checked
-    ensures { λ r. ⌜ r ≡ lengthChecked limit (now (tree .entry)) ⌝ }
-    ensures { λ r. ⌜ numbersChecked r ≡ lengthNumbers limit (now (tree .entry)) ⌝ }
+    ensures answer { λ r. ⌜ r ≡ lengthChecked limit (now (tree .entry)) ⌝ }
+    ensures numbers { λ r. ⌜ numbersChecked r ≡ lengthNumbers limit (now (tree .entry)) ⌝ }
 {
     let end = tree.len();
     if end == 0 {
@@ -297,8 +303,8 @@ pub fn check_length(tree: &[u8], limit: usize) -> Checked
 
 // Whether bytes are a stored tree of at most `limit` bytes and `levels` levels: refusals 3, 4, 5 and 7.
 pub fn check_within(tree: &[u8], limit: usize, levels: usize) -> Checked
-    ensures { λ r. ⌜ r ≡ treeChecked limit levels (now (tree .entry)) ⌝ }
-    ensures { λ r. ⌜ numbersChecked r ≡ treeNumbers limit levels (now (tree .entry)) ⌝ }
+    ensures answer { λ r. ⌜ r ≡ treeChecked limit levels (now (tree .entry)) ⌝ }
+    ensures numbers { λ r. ⌜ numbersChecked r ≡ treeNumbers limit levels (now (tree .entry)) ⌝ }
 {
     let end = tree.len();
     let sized = check_length(tree, limit);
@@ -320,8 +326,8 @@ pub fn check_within(tree: &[u8], limit: usize, levels: usize) -> Checked
 
 // Whether bytes are a stored tree.
 pub fn check_tree(tree: &[u8]) -> Checked
-    ensures { λ r. ⌜ r ≡ batchChecked (now (tree .entry)) ⌝ }
-    ensures { λ r. ⌜ numbersChecked r ≡ treeNumbers 65535 64 (now (tree .entry)) ⌝ }
+    ensures answer { λ r. ⌜ r ≡ batchChecked (now (tree .entry)) ⌝ }
+    ensures numbers { λ r. ⌜ numbersChecked r ≡ treeNumbers 65535 64 (now (tree .entry)) ⌝ }
 {
     check_within(tree, 65535, 64)
 }

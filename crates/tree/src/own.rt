@@ -309,7 +309,9 @@ pub(crate) enum RestRead {
 
 // What stands behind the trivia: a list's count, a leaf's text, or nothing more.
 fn read_rest(tree: &[u8], text: TextRule, number: usize, map: usize, trivia: TriviaSpan) -> RestRead
-    ensures { λ r. ⌜ ((at : ℕ) (kind : Kind) → restOn at kind map trivia r ≡ restOf (now (tree .entry)) at text number kind map trivia) ⌝ }
+    ensures { λ r.
+        ⌜ ((at : ℕ) (kind : Kind)
+        → restOn at kind map trivia r ≡ restOf (now (tree .entry)) at text number kind map trivia) ⌝ }
 {
     let behind = trivia.end;
     if number == kinds::VEC {
@@ -369,7 +371,8 @@ const LEAF: u8 = kinds::LEAF as u8;
 // The place behind a leaf that has a text and no trivia; broken where anything else stands, or what may not stand there.
 fn bare_leaf_end(tree: &[u8], at: usize, class: Class) -> Span
     requires { ⌜ at < length (now tree) ⌝ }
-    ensures { λ r. ⌜ ((end : ℕ) → r ≡ Span.Behind end → ownAt (now (tree .entry)) at class ≡ OwnRead.Record (bareLeaf at end)) ⌝ }
+    ensures { λ r.
+        ⌜ ((end : ℕ) → r ≡ Span.Behind end → ownAt (now (tree .entry)) at class ≡ OwnRead.Record (bareLeaf at end)) ⌝ }
 {
     if tree.len() - at < 2 {
         return Span::Broken;
@@ -425,9 +428,9 @@ fn own_at(tree: &[u8], at: usize, class: Class) -> OwnFound
 
 // A record's own bytes at a place, where so many levels are left: refusal 5 or 4 where they break the layout or stand too deep.
 pub fn read_own(tree: &[u8], at: usize, class: Class, levels: usize) -> OwnRead
-    ensures { λ r. ⌜ r ≡ readOwn (now (tree .entry)) at class levels ⌝ }
-    ensures { λ r. ⌜ Fits (now (tree .entry)) at r ⌝ }
-    ensures { λ r. ⌜ numbersOwn r ≡ ownNumbers (now (tree .entry)) at class levels ⌝ }
+    ensures answer { λ r. ⌜ r ≡ readOwn (now (tree .entry)) at class levels ⌝ }
+    ensures fits { λ r. ⌜ Fits (now (tree .entry)) at r ⌝ }
+    ensures numbers { λ r. ⌜ numbersOwn r ≡ ownNumbers (now (tree .entry)) at class levels ⌝ }
 {
     if tree.len() <= at {
         return layout(tree.len());

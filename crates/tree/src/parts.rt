@@ -54,8 +54,8 @@ pub enum HeadRead {
 
 // The place behind the record of a class, or the first refusal in it.
 pub fn skip(tree: &[u8], at: usize, class: Class, levels: usize) -> Skipped
-    ensures { λ r. ⌜ r ≡ skipped levels (now (tree .entry)) class at ⌝ }
-    ensures { λ r. ⌜ numbersSkipped r ≡ readNumbers levels (now (tree .entry)) class at ⌝ }
+    ensures answer { λ r. ⌜ r ≡ skipped levels (now (tree .entry)) class at ⌝ }
+    ensures numbers { λ r. ⌜ numbersSkipped r ≡ readNumbers levels (now (tree .entry)) class at ⌝ }
 {
     let read = check::read_record(tree, at, class, levels, 0);
     let RecordRead::Whole(end, _) = read else {
@@ -172,8 +172,8 @@ fn no_head(at: usize) -> HeadRead
 
 // The head of a token's record whose own bytes were read.
 pub fn head_behind(tree: &[u8], at: usize, class: Class, levels: usize, own: Own) -> HeadRead
-    ensures { λ r. ⌜ r ≡ headBehind levels (now (tree .entry)) class at own ⌝ }
-    ensures { λ r. ⌜ numbersHead r ≡ behindNumbers levels (now (tree .entry)) at own ⌝ }
+    ensures answer { λ r. ⌜ r ≡ headBehind levels (now (tree .entry)) class at own ⌝ }
+    ensures numbers { λ r. ⌜ numbersHead r ≡ behindNumbers levels (now (tree .entry)) at own ⌝ }
 {
     if levels == 0 {
         return no_head(at);
@@ -193,8 +193,8 @@ pub fn head_behind(tree: &[u8], at: usize, class: Class, levels: usize, own: Own
 
 // The head of a token's record.
 pub fn head_place(tree: &[u8], at: usize, class: Class, levels: usize) -> HeadRead
-    ensures { λ r. ⌜ r ≡ headAt levels (now (tree .entry)) class at ⌝ }
-    ensures { λ r. ⌜ numbersHead r ≡ headNumbers levels (now (tree .entry)) class at ⌝ }
+    ensures answer { λ r. ⌜ r ≡ headAt levels (now (tree .entry)) class at ⌝ }
+    ensures numbers { λ r. ⌜ numbersHead r ≡ headNumbers levels (now (tree .entry)) class at ⌝ }
 {
     let read = own::read_own(tree, at, class, levels);
     let OwnRead::Record(own) = read else {

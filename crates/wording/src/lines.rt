@@ -41,7 +41,9 @@ pub(crate) fn put_entry(
     index: usize,
 ) -> usize
     requires { ⌜ inOrder (length (now texts)) (now places) ≡ true ⌝ }
-    ensures { λ r. ⌜ lineIn (now (line .exit)) r ≡ puts (getD (cuts (now (texts .entry)) (now (places .entry))) index [] ∷ []) (lineIn (now (line .entry)) at) ⌝ }
+    ensures { λ r.
+        ⌜ lineIn (now (line .exit)) r ≡ puts (getD (cuts (now (texts .entry)) (now (places .entry))) index [] ∷ [])
+        (lineIn (now (line .entry)) at) ⌝ }
 {
     if places.len() < 2 {
         return at;
@@ -116,7 +118,8 @@ fn put_shown(line: &mut [u8], at: usize, byte: u8) -> usize
 
 // Each byte of a text so.
 fn put_all_shown(line: &mut [u8], at: usize, bytes: &[u8]) -> usize
-    ensures { λ r. ⌜ lineIn (now (line .exit)) r ≡ puts (map shown (now (bytes .entry))) (lineIn (now (line .entry)) at) ⌝ }
+    ensures { λ r.
+        ⌜ lineIn (now (line .exit)) r ≡ puts (map shown (now (bytes .entry))) (lineIn (now (line .entry)) at) ⌝ }
 {
     let mut next = at;
     let mut i = 0;
@@ -129,7 +132,8 @@ fn put_all_shown(line: &mut [u8], at: usize, bytes: &[u8]) -> usize
 
 // A text in quotes.
 pub(crate) fn put_quoted(line: &mut [u8], at: usize, bytes: &[u8]) -> usize
-    ensures { λ r. ⌜ lineIn (now (line .exit)) r ≡ puts (quoted (now (bytes .entry))) (lineIn (now (line .entry)) at) ⌝ }
+    ensures { λ r.
+        ⌜ lineIn (now (line .exit)) r ≡ puts (quoted (now (bytes .entry))) (lineIn (now (line .entry)) at) ⌝ }
 {
     let first = put(line, at, b"\"");
     let last = put_all_shown(line, first, bytes);

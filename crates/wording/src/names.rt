@@ -10,7 +10,8 @@ ghost use Rattle.wording.specs.Lines.{lineIn, puts, say};
 ghost use Rattle.wording.specs.Names.{reasons, tokenKinds, partKinds, kindName, triviaNames, typeName};
 
 pub(crate) fn put_reason(line: &mut [u8], at: usize, reason: Reason) -> usize
-    ensures { λ r. ⌜ lineIn (now (line .exit)) r ≡ puts (say (getD reasons (number reason) "")) (lineIn (now (line .entry)) at) ⌝ }
+    ensures { λ r.
+        ⌜ lineIn (now (line .exit)) r ≡ puts (say (getD reasons (number reason) "")) (lineIn (now (line .entry)) at) ⌝ }
 {
     let names =
         b"options lengthoptions valuetree lengthtree depthtree layoutchunk layoutnot ASCIIwork roomtext room";
@@ -20,7 +21,8 @@ pub(crate) fn put_reason(line: &mut [u8], at: usize, reason: Reason) -> usize
 
 // The kinds that are tokens, by their numbers.
 fn put_token(line: &mut [u8], at: usize, number: usize) -> usize
-    ensures { λ r. ⌜ lineIn (now (line .exit)) r ≡ puts (say (getD tokenKinds number "")) (lineIn (now (line .entry)) at) ⌝ }
+    ensures { λ r.
+        ⌜ lineIn (now (line .exit)) r ≡ puts (say (getD tokenKinds number "")) (lineIn (now (line .entry)) at) ⌝ }
 {
     let names =
         b"AlignAssertBracesConfigConfigPairDataDefinitionEofErrorExpressionIfImportFileInstructionLabelLoopMacroDefinitionMacroInvocationProgramCounterDefinitionSegmentTestTextTraceVariableDefinition";
@@ -56,7 +58,8 @@ fn put_token(line: &mut [u8], at: usize, number: usize) -> usize
 
 // The others, from a list on.
 fn put_part(line: &mut [u8], at: usize, number: usize) -> usize
-    ensures { λ r. ⌜ lineIn (now (line .exit)) r ≡ puts (say (getD partKinds number "")) (lineIn (now (line .entry)) at) ⌝ }
+    ensures { λ r.
+        ⌜ lineIn (now (line .exit)) r ≡ puts (say (getD partKinds number "")) (lineIn (now (line .entry)) at) ⌝ }
 {
     let names =
         b"listleafpath itemBlockBinaryExpressionFactorCurrentProgramCounterExprParensFunctionCallIdentifierValueNumberInterpolatedString factorInterpolatedStringOperandRegisterSuffixImportAsImportArgs::AllSpecificImportArgArgItem";
@@ -97,7 +100,8 @@ pub(crate) fn put_kind(line: &mut [u8], at: usize, number: usize) -> usize
 
 // What a trivia item is, by its code.
 pub(crate) fn put_code(line: &mut [u8], at: usize, code: usize) -> usize
-    ensures { λ r. ⌜ lineIn (now (line .exit)) r ≡ puts (say (getD triviaNames code "")) (lineIn (now (line .entry)) at) ⌝ }
+    ensures { λ r.
+        ⌜ lineIn (now (line .exit)) r ≡ puts (say (getD triviaNames code "")) (lineIn (now (line .entry)) at) ⌝ }
 {
     let places = [0usize, 10, 17, 24, 36];
     lines::put_entry(

@@ -64,7 +64,9 @@ fn put_fate(line: &mut [u8], at: usize, bits: usize) -> usize
 // A comment's text.
 fn put_comment(line: &mut [u8], at: usize, tree: &[u8], item: TriviumSpan) -> usize
     requires { ⌜ (item .start ≤ item .end) × (item .end ≤ length (now tree)) ⌝ }
-    ensures { λ r. ⌜ lineIn (now (line .exit)) r ≡ puts (comment (itemOf (now (tree .entry)) item)) (lineIn (now (line .entry)) at) ⌝ }
+    ensures { λ r.
+        ⌜ lineIn (now (line .exit)) r ≡ puts (comment (itemOf (now (tree .entry)) item))
+        (lineIn (now (line .entry)) at) ⌝ }
 {
     let start = item.start;
     let end = item.end;
@@ -77,7 +79,9 @@ fn put_comment(line: &mut [u8], at: usize, tree: &[u8], item: TriviumSpan) -> us
 
 // The comments among so many trivia items from a place on.
 fn put_comments(line: &mut [u8], at: usize, tree: &[u8], place: usize, count: usize) -> usize
-    ensures { λ r. ⌜ lineIn (now (line .exit)) r ≡ puts (comments (itemsAt (now (tree .entry)) place count)) (lineIn (now (line .entry)) at) ⌝ }
+    ensures { λ r.
+        ⌜ lineIn (now (line .exit)) r ≡ puts (comments (itemsAt (now (tree .entry)) place count))
+        (lineIn (now (line .entry)) at) ⌝ }
 {
     let mut next = at;
     let mut from = place;
@@ -97,7 +101,8 @@ fn put_comments(line: &mut [u8], at: usize, tree: &[u8], place: usize, count: us
 // The closing character itself, where its letter is among them.
 fn put_closing(line: &mut [u8], at: usize, tree: &[u8], bit: usize, own: Own) -> usize
     requires { ⌜ own .end ≤ length (now tree) ⌝ }
-    ensures { λ r. ⌜ lineIn (now (line .exit)) r ≡ puts (closing (now (tree .entry)) bit own) (lineIn (now (line .entry)) at) ⌝ }
+    ensures { λ r.
+        ⌜ lineIn (now (line .exit)) r ≡ puts (closing (now (tree .entry)) bit own) (lineIn (now (line .entry)) at) ⌝ }
 {
     if bit == 1 {
         return records::put_content(line, at, tree, kinds::LEAF, Form::Text, own);
@@ -115,7 +120,9 @@ fn put_standing_loss(
     own: Own,
 ) -> usize
     requires { ⌜ own .end ≤ length (now tree) ⌝ }
-    ensures { λ r. ⌜ lineIn (now (line .exit)) r ≡ puts (lossPieces (now (tree .entry)) place bits own) (lineIn (now (line .entry)) at) ⌝ }
+    ensures { λ r.
+        ⌜ lineIn (now (line .exit)) r ≡ puts (lossPieces (now (tree .entry)) place bits own)
+        (lineIn (now (line .entry)) at) ⌝ }
 {
     let first = records::put_offset(line, at, place);
     let second = put_letters(line, first, bits);
@@ -134,7 +141,9 @@ pub fn put_loss(
     bits: usize,
     own: Own,
 ) -> usize
-    ensures { λ r. ⌜ lineIn (now (line .exit)) r ≡ puts (lossLine (now (tree .entry)) place bits own) (lineIn (now (line .entry)) at) ⌝ }
+    ensures { λ r.
+        ⌜ lineIn (now (line .exit)) r ≡ puts (lossLine (now (tree .entry)) place bits own)
+        (lineIn (now (line .entry)) at) ⌝ }
 {
     if tree.len() < own.end {
         return at;

@@ -59,7 +59,9 @@ fn put_depth(line: &mut [u8], at: usize, depth: usize) -> usize
 // A trivia item in brackets: what it is, and its text.
 fn put_trivium(line: &mut [u8], at: usize, tree: &[u8], item: TriviumSpan) -> usize
     requires { ⌜ (item .start ≤ item .end) × (item .end ≤ length (now tree)) ⌝ }
-    ensures { λ r. ⌜ lineIn (now (line .exit)) r ≡ puts (trivium (itemOf (now (tree .entry)) item)) (lineIn (now (line .entry)) at) ⌝ }
+    ensures { λ r.
+        ⌜ lineIn (now (line .exit)) r ≡ puts (trivium (itemOf (now (tree .entry)) item))
+        (lineIn (now (line .entry)) at) ⌝ }
 {
     let start = item.start;
     let end = item.end;
@@ -76,7 +78,9 @@ fn put_trivium(line: &mut [u8], at: usize, tree: &[u8], item: TriviumSpan) -> us
 
 // So many trivia items from a place on.
 fn put_trivia(line: &mut [u8], at: usize, tree: &[u8], place: usize, count: usize) -> usize
-    ensures { λ r. ⌜ lineIn (now (line .exit)) r ≡ puts (trivia (itemsAt (now (tree .entry)) place count)) (lineIn (now (line .entry)) at) ⌝ }
+    ensures { λ r.
+        ⌜ lineIn (now (line .exit)) r ≡ puts (trivia (itemsAt (now (tree .entry)) place count))
+        (lineIn (now (line .entry)) at) ⌝ }
 {
     let mut next = at;
     let mut from = place;
@@ -96,7 +100,9 @@ fn put_trivia(line: &mut [u8], at: usize, tree: &[u8], place: usize, count: usiz
 // What a leaf shows: its text in quotes, or the case of an enum whose index is its first byte.
 fn put_leaf(line: &mut [u8], at: usize, tree: &[u8], form: Form, own: Own) -> usize
     requires { ⌜ (own .text < own .end) × (own .end ≤ length (now tree)) ⌝ }
-    ensures { λ r. ⌜ lineIn (now (line .exit)) r ≡ puts (leafShown (now (tree .entry)) form own) (lineIn (now (line .entry)) at) ⌝ }
+    ensures { λ r.
+        ⌜ lineIn (now (line .exit)) r ≡ puts (leafShown (now (tree .entry)) form own)
+        (lineIn (now (line .entry)) at) ⌝ }
 {
     let start = own.text;
     let end = own.end;
@@ -116,7 +122,9 @@ pub(crate) fn put_content(
     own: Own,
 ) -> usize
     requires { ⌜ own .end ≤ length (now tree) ⌝ }
-    ensures { λ r. ⌜ lineIn (now (line .exit)) r ≡ puts (content (now (tree .entry)) number form own) (lineIn (now (line .entry)) at) ⌝ }
+    ensures { λ r.
+        ⌜ lineIn (now (line .exit)) r ≡ puts (content (now (tree .entry)) number form own)
+        (lineIn (now (line .entry)) at) ⌝ }
 {
     if number == kinds::VEC {
         let first = lines::put(line, at, b" of ");
@@ -140,7 +148,9 @@ fn put_standing_record(
     own: Own,
 ) -> usize
     requires { ⌜ (place < length (now tree)) × (own .end ≤ length (now tree)) ⌝ }
-    ensures { λ r. ⌜ lineIn (now (line .exit)) r ≡ puts (recordPieces (now (tree .entry)) place depth class own) (lineIn (now (line .entry)) at) ⌝ }
+    ensures { λ r.
+        ⌜ lineIn (now (line .exit)) r ≡ puts (recordPieces (now (tree .entry)) place depth class own)
+        (lineIn (now (line .entry)) at) ⌝ }
 {
     let number = numbers::wide(tree[place]);
     let form = entries::form_of(class);
@@ -162,7 +172,9 @@ pub fn put_record(
     class: Class,
     own: Own,
 ) -> usize
-    ensures { λ r. ⌜ lineIn (now (line .exit)) r ≡ puts (recordLine (now (tree .entry)) place depth class own) (lineIn (now (line .entry)) at) ⌝ }
+    ensures { λ r.
+        ⌜ lineIn (now (line .exit)) r ≡ puts (recordLine (now (tree .entry)) place depth class own)
+        (lineIn (now (line .entry)) at) ⌝ }
 {
     if tree.len() <= place {
         return at;
@@ -182,7 +194,9 @@ fn put_standing_chunk(
     chunk: StoredChunk,
 ) -> usize
     requires { ⌜ (chunk .start ≤ chunk .end) × (chunk .end ≤ length (now list)) ⌝ }
-    ensures { λ r. ⌜ lineIn (now (line .exit)) r ≡ puts (chunkPieces (now (list .entry)) place chunk) (lineIn (now (line .entry)) at) ⌝ }
+    ensures { λ r.
+        ⌜ lineIn (now (line .exit)) r ≡ puts (chunkPieces (now (list .entry)) place chunk)
+        (lineIn (now (line .entry)) at) ⌝ }
 {
     let start = chunk.start;
     let end = chunk.end;
@@ -198,7 +212,9 @@ fn put_standing_chunk(
 
 // The same, and nothing where the chunk does not stand in the list.
 pub fn put_chunk(line: &mut [u8], at: usize, list: &[u8], place: usize, chunk: StoredChunk) -> usize
-    ensures { λ r. ⌜ lineIn (now (line .exit)) r ≡ puts (chunkLine (now (list .entry)) place chunk) (lineIn (now (line .entry)) at) ⌝ }
+    ensures { λ r.
+        ⌜ lineIn (now (line .exit)) r ≡ puts (chunkLine (now (list .entry)) place chunk)
+        (lineIn (now (line .entry)) at) ⌝ }
 {
     if chunk.end < chunk.start {
         return at;

@@ -11,7 +11,8 @@ ghost use Rattle.wording.specs.Sentences.{standing, limited, inOptions, 
 
 // What stands at a place of an input.
 fn put_standing(line: &mut [u8], at: usize, input: &[u8], place: usize) -> usize
-    ensures { λ r. ⌜ lineIn (now (line .exit)) r ≡ puts (standing (now (input .entry)) place) (lineIn (now (line .entry)) at) ⌝ }
+    ensures { λ r.
+        ⌜ lineIn (now (line .exit)) r ≡ puts (standing (now (input .entry)) place) (lineIn (now (line .entry)) at) ⌝ }
 {
     if input.len() <= place {
         return lines::put(line, at, b", where the input ends");
@@ -30,14 +31,17 @@ fn put_limit(line: &mut [u8], at: usize, limit: usize) -> usize
 }
 
 fn put_in_options(line: &mut [u8], at: usize, options: &[u8], place: usize) -> usize
-    ensures { λ r. ⌜ lineIn (now (line .exit)) r ≡ puts (inOptions (now (options .entry)) place) (lineIn (now (line .entry)) at) ⌝ }
+    ensures { λ r.
+        ⌜ lineIn (now (line .exit)) r ≡ puts (inOptions (now (options .entry)) place)
+        (lineIn (now (line .entry)) at) ⌝ }
 {
     let first = lines::put(line, at, b" of the options");
     put_standing(line, first, options, place)
 }
 
 fn put_in_tree(line: &mut [u8], at: usize, tree: &[u8], place: usize) -> usize
-    ensures { λ r. ⌜ lineIn (now (line .exit)) r ≡ puts (inTree (now (tree .entry)) place) (lineIn (now (line .entry)) at) ⌝ }
+    ensures { λ r.
+        ⌜ lineIn (now (line .exit)) r ≡ puts (inTree (now (tree .entry)) place) (lineIn (now (line .entry)) at) ⌝ }
 {
     let first = lines::put(line, at, b" of the tree");
     put_standing(line, first, tree, place)
@@ -56,7 +60,9 @@ fn put_work_room(line: &mut [u8], at: usize, limit: usize) -> usize
 }
 
 fn put_text_room(line: &mut [u8], at: usize, limit: usize) -> usize
-    ensures { λ r. ⌜ lineIn (now (line .exit)) r ≡ puts (say " is how many bytes the text needs" ++ limited limit) (lineIn (now (line .entry)) at) ⌝ }
+    ensures { λ r.
+        ⌜ lineIn (now (line .exit)) r ≡ puts (say " is how many bytes the text needs" ++ limited limit)
+        (lineIn (now (line .entry)) at) ⌝ }
 {
     let first = lines::put(line, at, b" is how many bytes the text needs");
     put_limit(line, first, limit)
@@ -72,7 +78,9 @@ fn put_meaning(
     work: usize,
     text: usize,
 ) -> usize
-    ensures { λ r. ⌜ lineIn (now (line .exit)) r ≡ puts (meaning (refusal .reason) (refusal .place) (now (tree .entry)) (now (options .entry)) work text) (lineIn (now (line .entry)) at) ⌝ }
+    ensures { λ r.
+        let said = meaning (refusal .reason) (refusal .place) (now (tree .entry)) (now (options .entry)) work text in
+        ⌜ lineIn (now (line .exit)) r ≡ puts said (lineIn (now (line .entry)) at) ⌝ }
 {
     let place = refusal.place;
     let reason = refusal.reason;
@@ -109,7 +117,9 @@ pub fn put_refusal(
     work: usize,
     text: usize,
 ) -> usize
-    ensures { λ r. ⌜ lineIn (now (line .exit)) r ≡ puts (sentence refusal (now (tree .entry)) (now (options .entry)) work text) (lineIn (now (line .entry)) at) ⌝ }
+    ensures { λ r.
+        ⌜ lineIn (now (line .exit)) r ≡ puts (sentence refusal (now (tree .entry)) (now (options .entry)) work text)
+        (lineIn (now (line .entry)) at) ⌝ }
 {
     let reason = refusal.reason;
     let first = put_named(line, at, reason);
