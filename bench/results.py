@@ -53,7 +53,7 @@ def list_times(rows):
 
 def tree_times(rows):
     heads = ("tree", "bytes", "room", "text", "Rust, us", "port, us", "ratio", "Rust, MB/s", "port, MB/s")
-    heads += ("check alone, us", "check and walk, us")
+    heads += ("check, us", "with walk, us")
     return table(
         heads,
         (
@@ -141,7 +141,8 @@ def written(list_rows, tree_rows, depth_pairs, length_pairs):
     yield "MB/s are millions of bytes of stored list or tree in a second. Buffers are not cleared before a call."
     yield "`docs/speed.svg` draws the times."
     yield ""
-    yield f"The least ratio of times: {least(list_rows)} of the lists, {least(tree_rows)} of the trees."
+    yield f"The least ratio of times: {least(list_rows)} of the lists,"
+    yield f"{least(tree_rows)} of the trees."
     yield f"Heap of the port, in bytes: {max(row.memory['port_heap'] for row in rows)}."
     yield ""
     yield "## Chunk lists: `join_chunks`"
@@ -152,7 +153,8 @@ def written(list_rows, tree_rows, depth_pairs, length_pairs):
     yield "## Trees: `format`"
     yield ""
     yield "The text buffer has the text's length, and the work room the length that the walk needs at most."
-    yield "A full room has 1,048,576 bytes, which the call clears at its end."
+    yield "A full room has 1,048,576 bytes, which the call clears at its end. The last two columns: `check_tree`, and `chunks`,"
+    yield "which is the check and the walk."
     yield ""
     yield from tree_times(tree_rows)
     yield "## Depth"
@@ -162,7 +164,7 @@ def written(list_rows, tree_rows, depth_pairs, length_pairs):
     yield "them the walk reads each factor once more for each tagged factor that it stands in, so that its time grows"
     yield "with the depth, which ends at 64."
     yield ""
-    yield from pair_results(depth_pairs, "over half as deep")
+    yield from pair_results(depth_pairs, "to half as deep")
     yield "## Lengths and counts above 127"
     yield ""
     yield "Pairs of lessons with as many bytes, the second of which has lengths or counts above 127. A tree that has"
