@@ -10,14 +10,16 @@ use tree::own;
 use tree::own::Own;
 use tree::own::OwnRead;
 ghost use mathlib.Core.Path.{_≡_};
-ghost use mathlib.Core.Bool.{true, cond};
+ghost use mathlib.Core.Bool.{true, false, cond};
 ghost use Prim.Native.Nat.{_≤_};
 ghost use lib.ListN.{length};
 ghost use lib.Seq.{slice};
 ghost use Rattle.tree.specs.Own.{readOwn, ownEnd};
 ghost use Rattle.tree.specs.Reading.{read};
+ghost use Rattle.tree.specs.declared.grammar.Class.the-variants as classes;
 ghost use Rattle.printing.specs.Events.{nothing, _▹_};
 ghost use Rattle.printing.specs.Running.{going, run, Shown, Prints};
+ghost use Rattle.events.specs.Printed as styles;
 ghost use Rattle.events.specs.Printed.{printed};
 ghost use Rattle.events.specs.Trees as Trees;
 ghost use Rattle.events.specs.Trees.{word, triviaEvents, eventsIn};
@@ -174,4 +176,258 @@ pub fn format_optional_leaf(
         return leaf_at(tree, at, class, levels, style, true, context, room, state);
     }
     state.finish(at)
+}
+
+// The leaves by name: a class with the style in which its records print, so that a call is a line. The head of a token
+// is printed without its trivia, since what stands before a token in its list prints them (crate `leads`).
+
+// A word with its trivia.
+pub fn word(tree: &[u8], room: &mut [u8], context: Context, levels: usize, last: Printed) -> Printed
+    ensures { λ r.
+        ⌜ PrintsRecord r (now (room .exit)) last (now (room .entry)) context (Trees.leaf styles.plain) true
+        levels (now (tree .entry)) classes.Word ⌝ }
+{
+    let class = Class::Word;
+    let style = Style::Plain;
+    format_leaf(tree, room, context, levels, class, style, true, last)
+}
+
+// A word without its trivia.
+pub fn bare_word(
+    tree: &[u8],
+    room: &mut [u8],
+    context: Context,
+    levels: usize,
+    last: Printed,
+) -> Printed
+    ensures { λ r.
+        ⌜ PrintsRecord r (now (room .exit)) last (now (room .entry)) context (Trees.leaf styles.plain) false
+        levels (now (tree .entry)) classes.Word ⌝ }
+{
+    let class = Class::Word;
+    let style = Style::Plain;
+    format_leaf(tree, room, context, levels, class, style, false, last)
+}
+
+// A character with its trivia.
+pub fn character(
+    tree: &[u8],
+    room: &mut [u8],
+    context: Context,
+    levels: usize,
+    last: Printed,
+) -> Printed
+    ensures { λ r.
+        ⌜ PrintsRecord r (now (room .exit)) last (now (room .entry)) context (Trees.leaf styles.plain) true
+        levels (now (tree .entry)) classes.Char ⌝ }
+{
+    let class = Class::Char;
+    let style = Style::Plain;
+    format_leaf(tree, room, context, levels, class, style, true, last)
+}
+
+// A character without its trivia.
+pub fn bare_character(
+    tree: &[u8],
+    room: &mut [u8],
+    context: Context,
+    levels: usize,
+    last: Printed,
+) -> Printed
+    ensures { λ r.
+        ⌜ PrintsRecord r (now (room .exit)) last (now (room .entry)) context (Trees.leaf styles.plain) false
+        levels (now (tree .entry)) classes.Char ⌝ }
+{
+    let class = Class::Char;
+    let style = Style::Plain;
+    format_leaf(tree, room, context, levels, class, style, false, last)
+}
+
+// A character with its trivia, which may stand or not.
+pub fn optional_character(
+    tree: &[u8],
+    room: &mut [u8],
+    context: Context,
+    levels: usize,
+    stands: bool,
+    last: Printed,
+) -> Printed
+    ensures { λ r.
+        ⌜ PrintsField r (now (room .exit)) last (now (room .entry)) context (Trees.leaf styles.plain) true
+        levels (now (tree .entry)) classes.Char stands ⌝ }
+{
+    let class = Class::Char;
+    let style = Style::Plain;
+    format_optional_leaf(tree, room, context, levels, class, style, stands, last)
+}
+
+// The opening brace of a block, without its trivia.
+pub fn open_brace(
+    tree: &[u8],
+    room: &mut [u8],
+    context: Context,
+    levels: usize,
+    last: Printed,
+) -> Printed
+    ensures { λ r.
+        ⌜ PrintsRecord r (now (room .exit)) last (now (room .entry)) context (Trees.leaf styles.plain) false
+        levels (now (tree .entry)) classes.OpenBrace ⌝ }
+{
+    let class = Class::OpenBrace;
+    let style = Style::Plain;
+    format_leaf(tree, room, context, levels, class, style, false, last)
+}
+
+// The closing brace of a block, without its trivia: the end of its list has printed them.
+pub fn close_brace(
+    tree: &[u8],
+    room: &mut [u8],
+    context: Context,
+    levels: usize,
+    last: Printed,
+) -> Printed
+    ensures { λ r.
+        ⌜ PrintsRecord r (now (room .exit)) last (now (room .entry)) context (Trees.leaf styles.plain) false
+        levels (now (tree .entry)) classes.CloseBrace ⌝ }
+{
+    let class = Class::CloseBrace;
+    let style = Style::Plain;
+    format_leaf(tree, room, context, levels, class, style, false, last)
+}
+
+// A mnemonic without its trivia.
+pub fn mnemonic(
+    tree: &[u8],
+    room: &mut [u8],
+    context: Context,
+    levels: usize,
+    last: Printed,
+) -> Printed
+    ensures { λ r.
+        ⌜ PrintsRecord r (now (room .exit)) last (now (room .entry)) context (Trees.leaf styles.mnemonic) false
+        levels (now (tree .entry)) classes.Mnemonic ⌝ }
+{
+    let class = Class::Mnemonic;
+    let style = Style::Mnemonic;
+    format_leaf(tree, room, context, levels, class, style, false, last)
+}
+
+// The size of data without its trivia.
+pub fn data_size(
+    tree: &[u8],
+    room: &mut [u8],
+    context: Context,
+    levels: usize,
+    last: Printed,
+) -> Printed
+    ensures { λ r.
+        ⌜ PrintsRecord r (now (room .exit)) last (now (room .entry)) context (Trees.leaf styles.dataSize) false
+        levels (now (tree .entry)) classes.DataSize ⌝ }
+{
+    let class = Class::DataSize;
+    let style = Style::DataSize;
+    format_leaf(tree, room, context, levels, class, style, false, last)
+}
+
+// `.const` or `.var` without its trivia.
+pub fn variable_type(
+    tree: &[u8],
+    room: &mut [u8],
+    context: Context,
+    levels: usize,
+    last: Printed,
+) -> Printed
+    ensures { λ r.
+        ⌜ PrintsRecord r (now (room .exit)) last (now (room .entry)) context (Trees.leaf styles.variableType) false
+        levels (now (tree .entry)) classes.VariableType ⌝ }
+{
+    let class = Class::VariableType;
+    let style = Style::VariableType;
+    format_leaf(tree, room, context, levels, class, style, false, last)
+}
+
+// An index register with its trivia.
+pub fn register(
+    tree: &[u8],
+    room: &mut [u8],
+    context: Context,
+    levels: usize,
+    last: Printed,
+) -> Printed
+    ensures { λ r.
+        ⌜ PrintsRecord r (now (room .exit)) last (now (room .entry)) context (Trees.leaf styles.register) true
+        levels (now (tree .entry)) classes.IndexRegister ⌝ }
+{
+    let class = Class::IndexRegister;
+    let style = Style::Register;
+    format_leaf(tree, room, context, levels, class, style, true, last)
+}
+
+// An operator with its trivia.
+pub fn operator(
+    tree: &[u8],
+    room: &mut [u8],
+    context: Context,
+    levels: usize,
+    last: Printed,
+) -> Printed
+    ensures { λ r.
+        ⌜ PrintsRecord r (now (room .exit)) last (now (room .entry)) context (Trees.leaf styles.operator) true
+        levels (now (tree .entry)) classes.BinaryOp ⌝ }
+{
+    let class = Class::BinaryOp;
+    let style = Style::Operator;
+    format_leaf(tree, room, context, levels, class, style, true, last)
+}
+
+// The modifier of an address with its trivia.
+pub fn modifier(
+    tree: &[u8],
+    room: &mut [u8],
+    context: Context,
+    levels: usize,
+    last: Printed,
+) -> Printed
+    ensures { λ r.
+        ⌜ PrintsRecord r (now (room .exit)) last (now (room .entry)) context (Trees.leaf styles.modifier) true
+        levels (now (tree .entry)) classes.AddressModifier ⌝ }
+{
+    let class = Class::AddressModifier;
+    let style = Style::Modifier;
+    format_leaf(tree, room, context, levels, class, style, true, last)
+}
+
+// The sign of a number's base with its trivia.
+pub fn number_type(
+    tree: &[u8],
+    room: &mut [u8],
+    context: Context,
+    levels: usize,
+    last: Printed,
+) -> Printed
+    ensures { λ r.
+        ⌜ PrintsRecord r (now (room .exit)) last (now (room .entry)) context (Trees.leaf styles.numberType) true
+        levels (now (tree .entry)) classes.NumberType ⌝ }
+{
+    let class = Class::NumberType;
+    let style = Style::NumberType;
+    format_leaf(tree, room, context, levels, class, style, true, last)
+}
+
+// The encoding of a text with its trivia, which may stand or not.
+pub fn encoding(
+    tree: &[u8],
+    room: &mut [u8],
+    context: Context,
+    levels: usize,
+    stands: bool,
+    last: Printed,
+) -> Printed
+    ensures { λ r.
+        ⌜ PrintsField r (now (room .exit)) last (now (room .entry)) context (Trees.leaf styles.encoding) true
+        levels (now (tree .entry)) classes.TextEncoding stands ⌝ }
+{
+    let class = Class::TextEncoding;
+    let style = Style::Encoding;
+    format_optional_leaf(tree, room, context, levels, class, style, stands, last)
 }
