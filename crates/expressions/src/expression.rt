@@ -4,7 +4,6 @@ use crate::strings;
 use leaves::leaf;
 use leaves::record;
 use leaves::record::Opened;
-use leaves::texts::Style;
 use printing::Context;
 use printing::Printed;
 use tree::grammar::Class;
@@ -77,16 +76,8 @@ pub fn format_expression(
         return last;
     };
     let class = expression_class(located);
-    let opened = record::open(
-        tree,
-        room,
-        context,
-        levels,
-        class,
-        true,
-        true,
-        Printed::Done(before, place),
-    );
+    let ready = Printed::Done(before, place);
+    let opened = record::open(tree, room, context, levels, class, true, true, ready);
     let Opened::Record(own, state) = opened else {
         return record::closed(opened);
     };
@@ -119,16 +110,7 @@ fn format_binary_expression(
         return lhs;
     };
     let left = lhs.push(room, context, b" ");
-    let operator = leaf::format_leaf(
-        tree,
-        room,
-        context,
-        levels,
-        Class::BinaryOp,
-        Style::Operator,
-        true,
-        left.moved_to(op),
-    );
+    let operator = leaf::operator(tree, room, context, levels, left.moved_to(op));
     let right = operator.push(room, context, b" ");
     format_expression(tree, room, context, levels, true, right.moved_to(rhs))
 }
@@ -151,26 +133,8 @@ fn format_tags(
     let tag_not = record::stands(bits, 1);
     let tag_neg = record::stands(bits, 2);
     let skipped = record::skip(tree, levels, Class::LocatedFactor, true, last);
-    let not = leaf::format_optional_leaf(
-        tree,
-        room,
-        context,
-        levels,
-        Class::Char,
-        Style::Plain,
-        tag_not,
-        skipped,
-    );
-    leaf::format_optional_leaf(
-        tree,
-        room,
-        context,
-        levels,
-        Class::Char,
-        Style::Plain,
-        tag_neg,
-        not,
-    )
+    let not = leaf::optional_character(tree, room, context, levels, tag_not, skipped);
+    leaf::optional_character(tree, room, context, levels, tag_neg, not)
 }
 
 // A factor with its signs; it is skipped only where one stands.
@@ -217,16 +181,9 @@ fn format_expression_factor(
     let Printed::Done(before, place) = last else {
         return last;
     };
-    let opened = record::open(
-        tree,
-        room,
-        context,
-        levels,
-        Class::LocatedFactor,
-        true,
-        true,
-        Printed::Done(before, place),
-    );
+    let class = Class::LocatedFactor;
+    let ready = Printed::Done(before, place);
+    let opened = record::open(tree, room, context, levels, class, true, true, ready);
     let Opened::Record(own, state) = opened else {
         return record::closed(opened);
     };
@@ -241,16 +198,7 @@ fn format_expression_factor(
         }
         Kind::Number => format_number(tree, room, context, inner, start),
         Kind::StringFactor => strings::format_string(tree, room, context, inner, true, start),
-        _ => leaf::format_leaf(
-            tree,
-            room,
-            context,
-            inner,
-            Class::Char,
-            Style::Plain,
-            true,
-            start,
-        ),
+        _ => leaf::character(tree, room, context, inner, start),
     }
 }
 
@@ -266,27 +214,9 @@ fn format_parens(
         ⌜ PrintsNode r (now (room .exit)) last (now (room .entry)) context kind.ExprParens 0 levels
         (now (tree .entry)) ⌝ }
 {
-    let lparen = leaf::format_leaf(
-        tree,
-        room,
-        context,
-        levels,
-        Class::Char,
-        Style::Plain,
-        true,
-        last,
-    );
+    let lparen = leaf::character(tree, room, context, levels, last);
     let inner = format_expression(tree, room, context, levels, true, lparen);
-    leaf::format_leaf(
-        tree,
-        room,
-        context,
-        levels,
-        Class::Char,
-        Style::Plain,
-        true,
-        inner,
-    )
+    leaf::character(tree, room, context, levels, inner)
 }
 
 // A function's name with its arguments.
@@ -301,37 +231,10 @@ fn format_call(
         ⌜ PrintsNode r (now (room .exit)) last (now (room .entry)) context kind.FunctionCall 0 levels
         (now (tree .entry)) ⌝ }
 {
-    let name = leaf::format_leaf(
-        tree,
-        room,
-        context,
-        levels,
-        Class::Word,
-        Style::Plain,
-        true,
-        last,
-    );
-    let lparen = leaf::format_leaf(
-        tree,
-        room,
-        context,
-        levels,
-        Class::Char,
-        Style::Plain,
-        true,
-        name,
-    );
+    let name = leaf::word(tree, room, context, levels, last);
+    let lparen = leaf::character(tree, room, context, levels, name);
     let args = format_arguments(tree, room, context, levels, Arguments::Expressions, lparen);
-    leaf::format_leaf(
-        tree,
-        room,
-        context,
-        levels,
-        Class::Char,
-        Style::Plain,
-        true,
-        args,
-    )
+    leaf::character(tree, room, context, levels, args)
 }
 
 // A path; its modifier is stored behind it and printed before it.
@@ -351,41 +254,14 @@ fn format_identifier_value(
         return last;
     };
     if !record::stands(bits, 1) {
-        return leaf::format_leaf(
-            tree,
-            room,
-            context,
-            levels,
-            Class::Word,
-            Style::Plain,
-            true,
-            last,
-        );
+        return leaf::word(tree, room, context, levels, last);
     }
     let skipped = record::skip(tree, levels, Class::Word, true, last);
-    let modifier = leaf::format_leaf(
-        tree,
-        room,
-        context,
-        levels,
-        Class::AddressModifier,
-        Style::Modifier,
-        true,
-        skipped,
-    );
+    let modifier = leaf::modifier(tree, room, context, levels, skipped);
     let Printed::Done(_, end) = modifier else {
         return modifier;
     };
-    let value = leaf::format_leaf(
-        tree,
-        room,
-        context,
-        levels,
-        Class::Word,
-        Style::Plain,
-        true,
-        modifier.moved_to(path),
-    );
+    let value = leaf::word(tree, room, context, levels, modifier.moved_to(path));
     value.moved_to(end)
 }
 
@@ -400,26 +276,8 @@ fn format_number(
     ensures { λ r.
         ⌜ PrintsNode r (now (room .exit)) last (now (room .entry)) context kind.Number 0 levels (now (tree .entry)) ⌝ }
 {
-    let ty = leaf::format_leaf(
-        tree,
-        room,
-        context,
-        levels,
-        Class::NumberType,
-        Style::NumberType,
-        true,
-        last,
-    );
-    leaf::format_leaf(
-        tree,
-        room,
-        context,
-        levels,
-        Class::Word,
-        Style::Plain,
-        true,
-        ty,
-    )
+    let ty = leaf::number_type(tree, room, context, levels, last);
+    leaf::word(tree, room, context, levels, ty)
 }
 
 // A list of arguments; those of an import may be a star instead.
@@ -439,16 +297,8 @@ pub fn format_arguments(
         return last;
     };
     let class = list_class(of);
-    let opened = record::open(
-        tree,
-        room,
-        context,
-        levels,
-        class,
-        true,
-        true,
-        Printed::Done(before, place),
-    );
+    let ready = Printed::Done(before, place);
+    let opened = record::open(tree, room, context, levels, class, true, true, ready);
     let Opened::Record(own, state) = opened else {
         return record::closed(opened);
     };
@@ -507,16 +357,8 @@ fn format_argument(
         return last;
     };
     let class = item_class(of);
-    let opened = record::open(
-        tree,
-        room,
-        context,
-        levels,
-        class,
-        true,
-        true,
-        Printed::Done(before, place),
-    );
+    let ready = Printed::Done(before, place);
+    let opened = record::open(tree, room, context, levels, class, true, true, ready);
     let Opened::Record(own, state) = opened else {
         return record::closed(opened);
     };
@@ -524,16 +366,7 @@ fn format_argument(
     let comma_stands = record::stands(own.map / 2, 1);
     let start = Printed::Done(state, own.end);
     let value = format_value(tree, room, context, inner, of, start);
-    let comma = leaf::format_optional_leaf(
-        tree,
-        room,
-        context,
-        inner,
-        Class::Char,
-        Style::Plain,
-        comma_stands,
-        value,
-    );
+    let comma = leaf::optional_character(tree, room, context, inner, comma_stands, value);
     comma.spc_if_next()
 }
 
@@ -552,18 +385,7 @@ fn format_value(
 {
     match of {
         Arguments::Expressions => format_expression(tree, room, context, levels, true, last),
-        Arguments::Identifiers => {
-            leaf::format_leaf(
-                tree,
-                room,
-                context,
-                levels,
-                Class::Word,
-                Style::Plain,
-                true,
-                last,
-            )
-        }
+        Arguments::Identifiers => leaf::word(tree, room, context, levels, last),
         Arguments::Imports => imports::format_import_path(tree, room, context, levels, last),
     }
 }

@@ -2,7 +2,6 @@
 use leaves::leaf;
 use leaves::record;
 use leaves::record::Opened;
-use leaves::texts::Style;
 use printing::Context;
 use printing::Printed;
 use tree::grammar::Class;
@@ -26,42 +25,16 @@ fn format_import_as(
         ⌜ PrintsField r (now (room .exit)) last (now (room .entry)) context (Trees.leaf plain) true levels
         (now (tree .entry)) class.AsRecord stands ⌝ }
 {
-    let opened = record::open(
-        tree,
-        room,
-        context,
-        levels,
-        Class::AsRecord,
-        stands,
-        true,
-        last,
-    );
+    let class = Class::AsRecord;
+    let opened = record::open(tree, room, context, levels, class, stands, true, last);
     let Opened::Record(own, state) = opened else {
         return record::closed(opened);
     };
     let inner = levels - 1;
     let start = Printed::Done(state, own.end);
-    let tag = leaf::format_leaf(
-        tree,
-        room,
-        context,
-        inner,
-        Class::Word,
-        Style::Plain,
-        true,
-        start,
-    );
+    let tag = leaf::word(tree, room, context, inner, start);
     let gap = tag.push(room, context, b" ");
-    leaf::format_leaf(
-        tree,
-        room,
-        context,
-        inner,
-        Class::Word,
-        Style::Plain,
-        true,
-        gap,
-    )
+    leaf::word(tree, room, context, inner, gap)
 }
 
 // Everything: a star, with `as` or without.
@@ -77,16 +50,7 @@ pub(crate) fn format_import_all(
         ⌜ PrintsNode r (now (room .exit)) last (now (room .entry)) context kind.ImportAll bits levels
         (now (tree .entry)) ⌝ }
 {
-    let star = leaf::format_leaf(
-        tree,
-        room,
-        context,
-        levels,
-        Class::Char,
-        Style::Plain,
-        true,
-        last,
-    );
+    let star = leaf::character(tree, room, context, levels, last);
     let gap = star.spc_if_next();
     let alias = format_import_as(tree, room, context, levels, record::stands(bits, 1), gap);
     alias.clear_spc_if_next()
@@ -104,31 +68,14 @@ pub(crate) fn format_import_path(
         ⌜ PrintsRecord r (now (room .exit)) last (now (room .entry)) context (Trees.leaf plain) false levels
         (now (tree .entry)) class.ImportPath ⌝ }
 {
-    let opened = record::open(
-        tree,
-        room,
-        context,
-        levels,
-        Class::ImportPath,
-        true,
-        false,
-        last,
-    );
+    let class = Class::ImportPath;
+    let opened = record::open(tree, room, context, levels, class, true, false, last);
     let Opened::Record(own, state) = opened else {
         return record::closed(opened);
     };
     let inner = levels - 1;
     let alias = record::stands(own.map / 2, 1);
     let start = Printed::Done(state, own.end);
-    let path = leaf::format_leaf(
-        tree,
-        room,
-        context,
-        inner,
-        Class::Word,
-        Style::Plain,
-        true,
-        start,
-    );
+    let path = leaf::word(tree, room, context, inner, start);
     format_import_as(tree, room, context, inner, alias, path.spc_if_next())
 }

@@ -3,7 +3,6 @@ use crate::expression;
 use leaves::leaf;
 use leaves::record;
 use leaves::record::Opened;
-use leaves::texts::Style;
 use printing::Context;
 use printing::Printed;
 use text::numbers;
@@ -38,42 +37,16 @@ fn format_register_suffix(
         ⌜ PrintsField r (now (room .exit)) last (now (room .entry)) context (Trees.leaf plain) true levels
         (now (tree .entry)) class.SuffixRecord stands ⌝ }
 {
-    let opened = record::open(
-        tree,
-        room,
-        context,
-        levels,
-        Class::SuffixRecord,
-        stands,
-        true,
-        last,
-    );
+    let class = Class::SuffixRecord;
+    let opened = record::open(tree, room, context, levels, class, stands, true, last);
     let Opened::Record(own, state) = opened else {
         return record::closed(opened);
     };
     let inner = levels - 1;
     let start = Printed::Done(state, own.end);
-    let comma = leaf::format_leaf(
-        tree,
-        room,
-        context,
-        inner,
-        Class::Char,
-        Style::Plain,
-        true,
-        start,
-    );
+    let comma = leaf::character(tree, room, context, inner, start);
     let gap = comma.spc_if_next();
-    let register = leaf::format_leaf(
-        tree,
-        room,
-        context,
-        inner,
-        Class::IndexRegister,
-        Style::Register,
-        true,
-        gap,
-    );
+    let register = leaf::register(tree, room, context, inner, gap);
     register.clear_spc_if_next()
 }
 
@@ -90,16 +63,7 @@ fn format_closing(
         ⌜ PrintsField r (now (room .exit)) last (now (room .entry)) context (Trees.leaf plain) true levels
         (now (tree .entry)) class.Char stands ⌝ }
 {
-    leaf::format_optional_leaf(
-        tree,
-        room,
-        context,
-        levels,
-        Class::Char,
-        Style::Plain,
-        stands,
-        last,
-    )
+    leaf::optional_character(tree, room, context, levels, stands, last)
 }
 
 // The index of an addressing mode by its own bytes: the first byte of its text; 0 where it has none.
@@ -136,27 +100,12 @@ fn format_front(
         return expression::format_expression(tree, room, context, levels, true, last);
     }
     let skipped = record::skip(tree, levels, Class::LocatedExpression, true, last);
-    let opening = leaf::format_leaf(
-        tree,
-        room,
-        context,
-        levels,
-        Class::Char,
-        Style::Plain,
-        true,
-        skipped,
-    );
+    let opening = leaf::character(tree, room, context, levels, skipped);
     let Printed::Done(_, behind) = opening else {
         return opening;
     };
-    let inner = expression::format_expression(
-        tree,
-        room,
-        context,
-        levels,
-        true,
-        opening.moved_to(expr),
-    );
+    let back = opening.moved_to(expr);
+    let inner = expression::format_expression(tree, room, context, levels, true, back);
     inner.moved_to(behind)
 }
 
@@ -183,14 +132,8 @@ fn format_end(
     };
     if mode == codes::OUTER_INDIRECT {
         let closing = format_closing(tree, room, context, levels, rchar, last.moved_to(place));
-        return format_register_suffix(
-            tree,
-            room,
-            context,
-            levels,
-            suffix,
-            closing.moved_to(behind),
-        );
+        let back = closing.moved_to(behind);
+        return format_register_suffix(tree, room, context, levels, suffix, back);
     }
     let register = format_register_suffix(tree, room, context, levels, suffix, last);
     let Printed::Done(_, end) = register else {
@@ -224,24 +167,16 @@ fn format_tail(
         return last;
     };
     let at_mode = record::skip(tree, levels, Class::Char, rchar, last);
-    let Printed::Done(state, mode) = at_mode else {
+    let Printed::Done(state, at) = at_mode else {
         return at_mode;
     };
-    let found = own::read_own(tree, mode, Class::AddressingMode, levels);
+    let found = own::read_own(tree, at, Class::AddressingMode, levels);
     let OwnRead::Record(own) = found else {
         return Printed::Refused(own::refusal_of(found));
     };
-    format_end(
-        tree,
-        room,
-        context,
-        levels,
-        mode_of(tree, own),
-        rchar,
-        place,
-        suffix,
-        Printed::Done(state, own.end),
-    )
+    let mode = mode_of(tree, own);
+    let end = Printed::Done(state, own.end);
+    format_end(tree, room, context, levels, mode, rchar, place, suffix, end)
 }
 
 // An operand that may stand or not.
@@ -257,16 +192,8 @@ pub fn format_operand(
         ⌜ PrintsField r (now (room .exit)) last (now (room .entry)) context (Trees.leaf plain) true levels
         (now (tree .entry)) class.OperandRecord stands ⌝ }
 {
-    let opened = record::open(
-        tree,
-        room,
-        context,
-        levels,
-        Class::OperandRecord,
-        stands,
-        true,
-        last,
-    );
+    let class = Class::OperandRecord;
+    let opened = record::open(tree, room, context, levels, class, stands, true, last);
     let Opened::Record(own, state) = opened else {
         return record::closed(opened);
     };

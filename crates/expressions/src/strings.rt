@@ -2,7 +2,6 @@
 use leaves::leaf;
 use leaves::record;
 use leaves::record::Opened;
-use leaves::texts::Style;
 use printing::Context;
 use printing::Printed;
 use tree::grammar::Class;
@@ -31,30 +30,13 @@ pub fn format_string(
         ⌜ PrintsField r (now (room .exit)) last (now (room .entry)) context (Trees.leaf plain) true levels
         (now (tree .entry)) class.StringRecord stands ⌝ }
 {
-    let opened = record::open(
-        tree,
-        room,
-        context,
-        levels,
-        Class::StringRecord,
-        stands,
-        true,
-        last,
-    );
+    let class = Class::StringRecord;
+    let opened = record::open(tree, room, context, levels, class, stands, true, last);
     let Opened::Record(own, state) = opened else {
         return record::closed(opened);
     };
     let start = Printed::Done(state, own.end);
-    let lquote = leaf::format_leaf(
-        tree,
-        room,
-        context,
-        levels - 1,
-        Class::Char,
-        Style::Plain,
-        true,
-        start,
-    );
+    let lquote = leaf::character(tree, room, context, levels - 1, start);
     let items = format_string_items(tree, room, context, levels - 1, lquote);
     // The closing quote is this one whatever the opening quote was.
     items.push(room, context, b"\"")
@@ -72,16 +54,8 @@ fn format_string_items(
         ⌜ PrintsRecord r (now (room .exit)) last (now (room .entry)) context Trees.inString true levels
         (now (tree .entry)) class.StringItems ⌝ }
 {
-    let opened = record::open(
-        tree,
-        room,
-        context,
-        levels,
-        Class::StringItems,
-        true,
-        true,
-        last,
-    );
+    let class = Class::StringItems;
+    let opened = record::open(tree, room, context, levels, class, true, true, last);
     let Opened::Record(own, state) = opened else {
         return record::closed(opened);
     };
@@ -128,16 +102,8 @@ fn format_string_item(
         ⌜ PrintsRecord r (now (room .exit)) last (now (room .entry)) context (Trees.leaf plain) false levels
         (now (tree .entry)) class.StringItem ⌝ }
 {
-    let opened = record::open(
-        tree,
-        room,
-        context,
-        levels,
-        Class::StringItem,
-        true,
-        false,
-        last,
-    );
+    let class = Class::StringItem;
+    let opened = record::open(tree, room, context, levels, class, true, false, last);
     let Opened::Record(own, state) = opened else {
         return record::closed(opened);
     };

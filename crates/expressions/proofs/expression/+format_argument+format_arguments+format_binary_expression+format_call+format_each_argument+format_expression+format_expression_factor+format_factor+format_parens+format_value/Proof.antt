@@ -21,7 +21,6 @@ use Rattle.events.specs.Views.{bitAt}
 use Rattle.events.specs.Trees.{leaf, eventsIn}
 use Rattle.leaves.specs.Lists.{itemTrees, itemsEnd}
 use Rattle.leaves.specs.Records.{fieldTrees, fieldsEnd}
-use Rattle.leaves.proofs.Classes.{word-leaf, char-leaf, binary-op-leaf}
 use Rattle.leaves.proofs.Fielded.{opened-levels, opened-one, opened-kind, opened-list, shown-closed}
 use Rattle.expressions.specs.Expressions.{itemClass, listPlace}
 use Rattle.expressions.proofs.Cycle.{stays-refused, item-rule, factor-is, counter-is, list-is, list-items}
@@ -68,8 +67,10 @@ use Rattle.expressions.proofs.expression.list_class.Reads as list-class
 use Rattle.expressions.proofs.imports.format_import_all.Reads as format-import-all-reads
 use Rattle.expressions.proofs.imports.format_import_path.Reads as format-import-path-reads
 use Rattle.expressions.proofs.strings.format_string.Reads as format-string-reads
-use Rattle.leaves.proofs.leaf.format_leaf.Reads as format-leaf-reads
-use Rattle.leaves.proofs.leaf.format_optional_leaf.Reads as format-optional-leaf-reads
+use Rattle.leaves.proofs.leaf.character.Reads as character-reads
+use Rattle.leaves.proofs.leaf.operator.Reads as operator-reads
+use Rattle.leaves.proofs.leaf.optional_character.Reads as optional-character-reads
+use Rattle.leaves.proofs.leaf.word.Reads as word-reads
 use Rattle.leaves.proofs.record.closed.Reads as closed-reads
 use Rattle.leaves.proofs.record.open.Reads as open-reads
 use Rattle.leaves.proofs.record.skip.Reads as skip-reads
@@ -187,8 +188,8 @@ format-argument-claims t = (
   stands-reads.Learnt,
   format-value-below t,
   format-value.Post,
-  format-optional-leaf-reads.Asked,
-  format-optional-leaf-reads.Learnt,
+  optional-character-reads.Asked,
+  optional-character-reads.Learnt,
   spc-if-next-reads.Asked,
   spc-if-next-reads.Learnt,
 )
@@ -217,12 +218,19 @@ format-binary-expression-claims t = (
   push-reads.Learnt,
   moved-to-reads.Asked,
   moved-to-reads.Learnt,
-  format-leaf-reads.Asked,
-  format-leaf-reads.Learnt,
+  operator-reads.Asked,
+  operator-reads.Learnt,
 )
 
 abbrev format-call-claims : ℕ → format-call-lts.Claims
-format-call-claims t = (format-leaf-reads.Asked, format-leaf-reads.Learnt, format-arguments-below t, format-arguments.Post)
+format-call-claims t = (
+  word-reads.Asked,
+  word-reads.Learnt,
+  character-reads.Asked,
+  character-reads.Learnt,
+  format-arguments-below t,
+  format-arguments.Post,
+)
 
 abbrev format-each-argument-claims : ℕ → format-each-argument-lts.Claims
 format-each-argument-claims t = (format-argument-below t, format-argument.Post, clear-spc-if-next-reads.Asked, clear-spc-if-next-reads.Learnt)
@@ -257,8 +265,8 @@ format-expression-factor-claims t = (
   format-number-reads.Learnt,
   format-string-reads.Asked,
   format-string-reads.Learnt,
-  format-leaf-reads.Asked,
-  format-leaf-reads.Learnt,
+  character-reads.Asked,
+  character-reads.Learnt,
 )
 
 abbrev format-factor-claims : ℕ → format-factor-lts.Claims
@@ -274,14 +282,14 @@ format-factor-claims t = (
 )
 
 abbrev format-parens-claims : ℕ → format-parens-lts.Claims
-format-parens-claims t = (format-leaf-reads.Asked, format-leaf-reads.Learnt, format-expression-below t, format-expression.Post)
+format-parens-claims t = (character-reads.Asked, character-reads.Learnt, format-expression-below t, format-expression.Post)
 
 abbrev format-value-claims : ℕ → format-value-lts.Claims
 format-value-claims t = (
   format-expression-below t,
   format-expression.Post,
-  format-leaf-reads.Asked,
-  format-leaf-reads.Learnt,
+  word-reads.Asked,
+  word-reads.Learnt,
   format-import-path-reads.Asked,
   format-import-path-reads.Learnt,
 )
@@ -342,9 +350,9 @@ format-argument-format-value-requires t c κs =
     let measured = at-open .before .before .before .before .before .before .before .before .pre .0 in
     (omega (arith, levels-left, measured), tt)
 
-format-argument-format-optional-leaf-requires : (t : ℕ)
-    → format-argument-lts.Need-format-optional-leaf-requires (format-argument-claims t) (format-argument-at t) format-argument.Post
-format-argument-format-optional-leaf-requires t c κs = search needs
+format-argument-optional-character-requires : (t : ℕ)
+    → format-argument-lts.Need-optional-character-requires (format-argument-claims t) (format-argument-at t) format-argument.Post
+format-argument-optional-character-requires t c κs = search needs
 
 format-argument-spc-if-next-requires : (t : ℕ) → format-argument-lts.Need-spc-if-next-requires (format-argument-claims t) (format-argument-at t) format-argument.Post
 format-argument-spc-if-next-requires t c κs = search needs
@@ -355,8 +363,8 @@ format-argument-same-length-2 t c = search needs
 format-argument-returns-3 : (t : ℕ) → format-argument-lts.Need-returns-3 (format-argument-claims t) (format-argument-at t) format-argument.Post
 unfolding built fieldTrees fieldsEnd eventsIn bitAt kindNumber storedWith
 format-argument-returns-3 t c =
-    let at-format-optional-leaf = c .before .before .before in
-    let at-format-value = at-format-optional-leaf .before .before .before .before in
+    let at-optional-character = c .before .before .before in
+    let at-format-value = at-optional-character .before .before .before .before in
     let at-stands = at-format-value .before .before in
     let at-opened = at-stands .before .before .before in
     let at-open = at-opened .before .before .before .before in
@@ -371,7 +379,7 @@ format-argument-returns-3 t c =
     (rw (item-rule of .3) (record {
       from = λ at here.
           let value = at-format-value .format-value .ensures .from at here in
-          let comma = at-format-optional-leaf .format-optional-leaf .ensures .1 char-leaf .from _ (value .next) in
+          let comma = at-optional-character .optional-character .ensures .from _ (value .next) in
           let gap = c .spc-if-next .ensures _ .from _ (comma .next) in
           rw (← (at-stands .stands .ensures)) (value thence comma thence gap);
     })))
@@ -538,9 +546,9 @@ format-binary-expression-moved-to-requires : (t : ℕ)
     → format-binary-expression-lts.Need-moved-to-requires (format-binary-expression-claims t) (format-binary-expression-at t) format-binary-expression.Post
 format-binary-expression-moved-to-requires t c κs = search needs
 
-format-binary-expression-format-leaf-requires : (t : ℕ)
-    → format-binary-expression-lts.Need-format-leaf-requires (format-binary-expression-claims t) (format-binary-expression-at t) format-binary-expression.Post
-format-binary-expression-format-leaf-requires t c κs = search needs
+format-binary-expression-operator-requires : (t : ℕ)
+    → format-binary-expression-lts.Need-operator-requires (format-binary-expression-claims t) (format-binary-expression-at t) format-binary-expression.Post
+format-binary-expression-operator-requires t c κs = search needs
 
 format-binary-expression-slice-aggregate-push-2 : (t : ℕ)
     → format-binary-expression-lts.Need-slice-aggregate-push-2 (format-binary-expression-claims t) (format-binary-expression-at t) format-binary-expression.Post
@@ -558,8 +566,8 @@ format-binary-expression-format-expression-requires-2 : (t : ℕ)
     → format-binary-expression-lts.Need-format-expression-requires-2 (format-binary-expression-claims t) (format-binary-expression-at t) format-binary-expression.Post
 format-binary-expression-format-expression-requires-2 t c κs =
     let at-push2 = c .before .before .before .before in
-    let at-format-leaf = at-push2 .before .before .before .before .before in
-    let at-push = at-format-leaf .before .before .before .before .before in
+    let at-operator = at-push2 .before .before .before .before .before in
+    let at-push = at-operator .before .before .before .before .before in
     let at-format-expression = at-push .before .before .before .before .before .before .before .before in
     let measured = at-format-expression .before .before .before .before .before .before .before .before .pre .0 in
     (omega (arith, measured), tt)
@@ -569,10 +577,10 @@ format-binary-expression-same-length-2 : (t : ℕ)
 format-binary-expression-same-length-2 t c =
     let at-format-expression2 = c .before .before in
     let at-push2 = at-format-expression2 .before .before .before .before .before in
-    let at-format-leaf = at-push2 .before .before .before .before .before in
-    let at-push = at-format-leaf .before .before .before .before .before in
+    let at-operator = at-push2 .before .before .before .before .before in
+    let at-push = at-operator .before .before .before .before .before in
     let at-format-expression = at-push .before .before .before .before .before .before .before .before in
-    at-format-expression2 .format-expression2 .kept .1 .0 ∙ at-push2 .push2 .kept .1 .0 ∙ at-format-leaf .format-leaf .kept .1 .0
+    at-format-expression2 .format-expression2 .kept .1 .0 ∙ at-push2 .push2 .kept .1 .0 ∙ at-operator .operator .kept .1 .0
     ∙ at-push .push .kept .1 .0
     ∙ at-format-expression .format-expression .kept .1 .0
 
@@ -582,8 +590,8 @@ format-binary-expression-returns-3 t c =
     let at-format-expression2 = c .before .before in
     let at-moved-to2 = at-format-expression2 .before in
     let at-push2 = at-moved-to2 .before .before .before .before in
-    let at-format-leaf = at-push2 .before .before .before .before .before in
-    let at-moved-to = at-format-leaf .before in
+    let at-operator = at-push2 .before .before .before .before .before in
+    let at-moved-to = at-operator .before in
     let at-push = at-moved-to .before .before .before .before in
     let at-lhs = at-push .before .before .before .before in
     let at-format-expression = at-lhs .before .before .before .before in
@@ -594,7 +602,7 @@ format-binary-expression-returns-3 t c =
     let done = at-lhs .lhs .given .1 in
     let gap = at-push .push .ensures .from _ refl in
     let back = at-moved-to .moved-to .ensures _ .from _ (gap .next) in
-    let operator = at-format-leaf .format-leaf .ensures .1 binary-op-leaf .from _ (back .next) in
+    let operator = at-operator .operator .ensures .from _ (back .next) in
     let gap2 = at-push2 .push2 .ensures .from _ (operator .next) in
     let onward = at-moved-to2 .moved-to2 .ensures _ .from _ (gap2 .next) in
     let rhs = at-format-expression2 .format-expression2 .ensures .from _ (onward .next) in
@@ -603,19 +611,19 @@ format-binary-expression-returns-3 t c =
 
 -- ---- format_call: the fields are printed in their order
 
-format-call-format-leaf-requires : (t : ℕ) → format-call-lts.Need-format-leaf-requires (format-call-claims t) (format-call-at t) format-call.Post
-format-call-format-leaf-requires t c κs = search needs
+format-call-word-requires : (t : ℕ) → format-call-lts.Need-word-requires (format-call-claims t) (format-call-at t) format-call.Post
+format-call-word-requires t c κs = search needs
 
-format-call-format-leaf-requires-2 : (t : ℕ) → format-call-lts.Need-format-leaf-requires-2 (format-call-claims t) (format-call-at t) format-call.Post
-format-call-format-leaf-requires-2 t c κs = search needs
+format-call-character-requires : (t : ℕ) → format-call-lts.Need-character-requires (format-call-claims t) (format-call-at t) format-call.Post
+format-call-character-requires t c κs = search needs
 
 format-call-format-arguments-requires : (t : ℕ) → format-call-lts.Need-format-arguments-requires (format-call-claims t) (format-call-at t) format-call.Post
 format-call-format-arguments-requires t c κs =
     let measured = c .before .before .before .before .before .before .before .before .before .before .before .pre .0 in
     (omega (arith, measured), tt)
 
-format-call-format-leaf-requires-3 : (t : ℕ) → format-call-lts.Need-format-leaf-requires-3 (format-call-claims t) (format-call-at t) format-call.Post
-format-call-format-leaf-requires-3 t c κs = search needs
+format-call-character-requires-2 : (t : ℕ) → format-call-lts.Need-character-requires-2 (format-call-claims t) (format-call-at t) format-call.Post
+format-call-character-requires-2 t c κs = search needs
 
 format-call-same-length : (t : ℕ) → format-call-lts.Need-same-length (format-call-claims t) (format-call-at t) format-call.Post
 format-call-same-length t c = search needs
@@ -623,16 +631,16 @@ format-call-same-length t c = search needs
 format-call-returns : (t : ℕ) → format-call-lts.Need-returns (format-call-claims t) (format-call-at t) format-call.Post
 unfolding built fieldTrees fieldsEnd eventsIn bitAt
 format-call-returns t c =
-    let at-format-leaf3 = c .before .before in
-    let at-format-arguments = at-format-leaf3 .before .before .before .before in
-    let at-format-leaf2 = at-format-arguments .before .before .before .before in
-    let at-format-leaf = at-format-leaf2 .before .before .before .before in
+    let at-character2 = c .before .before in
+    let at-format-arguments = at-character2 .before .before .before .before in
+    let at-character = at-format-arguments .before .before .before .before in
+    let at-word = at-character .before .before .before .before in
     record {
       from = λ at here.
-          let name = at-format-leaf .format-leaf .ensures .1 word-leaf .from at here in
-          let lparen = at-format-leaf2 .format-leaf2 .ensures .1 char-leaf .from _ (name .next) in
+          let name = at-word .word .ensures .from at here in
+          let lparen = at-character .character .ensures .from _ (name .next) in
           let args = at-format-arguments .format-arguments .ensures .from _ (lparen .next) in
-          let rparen = at-format-leaf3 .format-leaf3 .ensures .1 char-leaf .from _ (args .next) in
+          let rparen = at-character2 .character2 .ensures .from _ (args .next) in
           name thence lparen thence args thence rparen;
     }
 
@@ -950,9 +958,9 @@ format-expression-factor-format-string-requires : (t : ℕ)
     → format-expression-factor-lts.Need-format-string-requires (format-expression-factor-claims t) (format-expression-factor-at t) format-expression-factor.Post
 format-expression-factor-format-string-requires t c κs = search needs
 
-format-expression-factor-format-leaf-requires : (t : ℕ)
-    → format-expression-factor-lts.Need-format-leaf-requires (format-expression-factor-claims t) (format-expression-factor-at t) format-expression-factor.Post
-format-expression-factor-format-leaf-requires t c κs = search needs
+format-expression-factor-character-requires : (t : ℕ)
+    → format-expression-factor-lts.Need-character-requires (format-expression-factor-claims t) (format-expression-factor-at t) format-expression-factor.Post
+format-expression-factor-character-requires t c κs = search needs
 
 format-expression-factor-same-length-2 : (t : ℕ)
     → format-expression-factor-lts.Need-same-length-2 (format-expression-factor-claims t) (format-expression-factor-at t) format-expression-factor.Post
@@ -1057,8 +1065,8 @@ format-expression-factor-returns-8 : (t : ℕ)
     → format-expression-factor-lts.Need-returns-8 (format-expression-factor-claims t) (format-expression-factor-at t) format-expression-factor.Post
 unfolding built fieldTrees fieldsEnd eventsIn bitAt kindNumber storedWith
 format-expression-factor-returns-8 t c =
-    let at-format-leaf = c .before .before in
-    let at-match3 = at-format-leaf .before .before in
+    let at-character = c .before .before in
+    let at-match3 = at-character .before .before in
     let at-opened = at-match3 .before .before in
     let at-open = at-opened .before .before .before .before in
     let opens = at-open .«open» .ensures .0 in
@@ -1066,7 +1074,7 @@ format-expression-factor-returns-8 t c =
     let done = at-open .before .before .before .last .given .1 in
     rw done
     (opened-kind opens is (leaf plain) variant.CurrentProgramCounter (counter-is opens is (at-match3 .match3 .keys6)) refl
-    (record { from = λ at here. at-format-leaf .format-leaf .ensures .1 char-leaf .from at here }))
+    (record { from = λ at here. at-character .character .ensures .from at here }))
 
 -- ---- format_factor: the signs are printed behind the factor that was skipped, and the walk goes back to it; without signs nothing is skipped
 
@@ -1178,16 +1186,16 @@ format-factor-returns-4 t c =
 
 -- ---- format_parens: the fields are printed in their order
 
-format-parens-format-leaf-requires : (t : ℕ) → format-parens-lts.Need-format-leaf-requires (format-parens-claims t) (format-parens-at t) format-parens.Post
-format-parens-format-leaf-requires t c κs = search needs
+format-parens-character-requires : (t : ℕ) → format-parens-lts.Need-character-requires (format-parens-claims t) (format-parens-at t) format-parens.Post
+format-parens-character-requires t c κs = search needs
 
 format-parens-format-expression-requires : (t : ℕ) → format-parens-lts.Need-format-expression-requires (format-parens-claims t) (format-parens-at t) format-parens.Post
 format-parens-format-expression-requires t c κs =
     let measured = c .before .before .before .before .before .before .before .pre .0 in
     (omega (arith, measured), tt)
 
-format-parens-format-leaf-requires-2 : (t : ℕ) → format-parens-lts.Need-format-leaf-requires-2 (format-parens-claims t) (format-parens-at t) format-parens.Post
-format-parens-format-leaf-requires-2 t c κs = search needs
+format-parens-character-requires-2 : (t : ℕ) → format-parens-lts.Need-character-requires-2 (format-parens-claims t) (format-parens-at t) format-parens.Post
+format-parens-character-requires-2 t c κs = search needs
 
 format-parens-same-length : (t : ℕ) → format-parens-lts.Need-same-length (format-parens-claims t) (format-parens-at t) format-parens.Post
 format-parens-same-length t c = search needs
@@ -1195,14 +1203,14 @@ format-parens-same-length t c = search needs
 format-parens-returns : (t : ℕ) → format-parens-lts.Need-returns (format-parens-claims t) (format-parens-at t) format-parens.Post
 unfolding built fieldTrees fieldsEnd eventsIn bitAt
 format-parens-returns t c =
-    let at-format-leaf2 = c .before .before in
-    let at-format-expression = at-format-leaf2 .before .before .before .before in
-    let at-format-leaf = at-format-expression .before .before .before .before in
+    let at-character2 = c .before .before in
+    let at-format-expression = at-character2 .before .before .before .before in
+    let at-character = at-format-expression .before .before .before .before in
     record {
       from = λ at here.
-          let lparen = at-format-leaf .format-leaf .ensures .1 char-leaf .from at here in
+          let lparen = at-character .character .ensures .from at here in
           let inner = at-format-expression .format-expression .ensures .from _ (lparen .next) in
-          let rparen = at-format-leaf2 .format-leaf2 .ensures .1 char-leaf .from _ (inner .next) in
+          let rparen = at-character2 .character2 .ensures .from _ (inner .next) in
           lparen thence inner thence rparen;
     }
 
@@ -1219,8 +1227,8 @@ format-value-format-expression-requires t c κs =
 format-value-enum-told-2 : (t : ℕ) → format-value-lts.Need-enum-told-2 (format-value-claims t) (format-value-at t) format-value.Post
 format-value-enum-told-2 t c = search needs
 
-format-value-format-leaf-requires : (t : ℕ) → format-value-lts.Need-format-leaf-requires (format-value-claims t) (format-value-at t) format-value.Post
-format-value-format-leaf-requires t c κs = search needs
+format-value-word-requires : (t : ℕ) → format-value-lts.Need-word-requires (format-value-claims t) (format-value-at t) format-value.Post
+format-value-word-requires t c κs = search needs
 
 format-value-enum-told-3 : (t : ℕ) → format-value-lts.Need-enum-told-3 (format-value-claims t) (format-value-at t) format-value.Post
 format-value-enum-told-3 t c = search needs
@@ -1242,9 +1250,9 @@ format-value-same-length-2 t c = search needs
 
 format-value-returns-2 : (t : ℕ) → format-value-lts.Need-returns-2 (format-value-claims t) (format-value-at t) format-value.Post
 format-value-returns-2 t c =
-    let at-format-leaf = c .before .before in
-    let at-enum-told2 = at-format-leaf .before .before in
-    rw (at-enum-told2 .enum-told2 .given .1) (at-format-leaf .format-leaf .ensures .1 word-leaf)
+    let at-word = c .before .before in
+    let at-enum-told2 = at-word .before .before in
+    rw (at-enum-told2 .enum-told2 .given .1) (at-word .word .ensures)
 
 format-value-same-length-3 : (t : ℕ) → format-value-lts.Need-same-length-3 (format-value-claims t) (format-value-at t) format-value.Post
 format-value-same-length-3 t c = search needs
@@ -1285,7 +1293,7 @@ pub +format-argument+format-arguments+format-binary-expression+format-call+forma
     (format-argument-sub-inner t)
     (format-argument-stands-requires t)
     (format-argument-format-value-requires t)
-    (format-argument-format-optional-leaf-requires t)
+    (format-argument-optional-character-requires t)
     (format-argument-spc-if-next-requires t)
     (format-argument-same-length-2 t)
     (format-argument-returns-3 t))
@@ -1326,7 +1334,7 @@ pub +format-argument+format-arguments+format-binary-expression+format-call+forma
     (format-binary-expression-slice-aggregate-push t)
     (format-binary-expression-push-requires t)
     (format-binary-expression-moved-to-requires t)
-    (format-binary-expression-format-leaf-requires t)
+    (format-binary-expression-operator-requires t)
     (format-binary-expression-slice-aggregate-push-2 t)
     (format-binary-expression-push-requires-2 t)
     (format-binary-expression-moved-to-requires-2 t)
@@ -1336,10 +1344,10 @@ pub +format-argument+format-arguments+format-binary-expression+format-call+forma
     (λ t. format-call-lts.spec (format-call-claims t)
     (format-call-at t)
     format-call.Post
-    (format-call-format-leaf-requires t)
-    (format-call-format-leaf-requires-2 t)
+    (format-call-word-requires t)
+    (format-call-character-requires t)
     (format-call-format-arguments-requires t)
-    (format-call-format-leaf-requires-3 t)
+    (format-call-character-requires-2 t)
     (format-call-same-length t)
     (format-call-returns t))
     (λ t. format-each-argument-lts.spec (format-each-argument-claims t)
@@ -1404,7 +1412,7 @@ pub +format-argument+format-arguments+format-binary-expression+format-call+forma
     (format-expression-factor-format-number-requires t)
     (format-expression-factor-enum-told-7 t)
     (format-expression-factor-format-string-requires t)
-    (format-expression-factor-format-leaf-requires t)
+    (format-expression-factor-character-requires t)
     (format-expression-factor-same-length-2 t)
     (format-expression-factor-returns-3 t)
     (format-expression-factor-same-length-3 t)
@@ -1441,9 +1449,9 @@ pub +format-argument+format-arguments+format-binary-expression+format-call+forma
     (λ t. format-parens-lts.spec (format-parens-claims t)
     (format-parens-at t)
     format-parens.Post
-    (format-parens-format-leaf-requires t)
+    (format-parens-character-requires t)
     (format-parens-format-expression-requires t)
-    (format-parens-format-leaf-requires-2 t)
+    (format-parens-character-requires-2 t)
     (format-parens-same-length t)
     (format-parens-returns t))
     λ t. format-value-lts.spec (format-value-claims t)
@@ -1452,7 +1460,7 @@ pub +format-argument+format-arguments+format-binary-expression+format-call+forma
     (format-value-enum-told t)
     (format-value-format-expression-requires t)
     (format-value-enum-told-2 t)
-    (format-value-format-leaf-requires t)
+    (format-value-word-requires t)
     (format-value-enum-told-3 t)
     (format-value-format-import-path-requires t)
     (format-value-same-length t)

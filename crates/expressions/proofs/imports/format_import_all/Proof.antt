@@ -4,13 +4,12 @@ use Rattle.printing.proofs.Running.{_thence_}
 use Rattle.events.specs.Views.{bitAt}
 use Rattle.events.specs.Trees.{eventsIn}
 use Rattle.leaves.specs.Records.{fieldTrees, fieldsEnd}
-use Rattle.leaves.proofs.Classes.{char-leaf}
 use borrow.Author.Needs.{needs}
 use Rattle.expressions.proofs.imports.format_import_all.Statement.{statement}
 use Rattle.expressions.proofs.imports.format_import_all.Tie as tie
 
-format-leaf-requires : tie.Need-format-leaf-requires
-format-leaf-requires c κs = search needs
+character-requires : tie.Need-character-requires
+character-requires c κs = search needs
 
 spc-if-next-requires : tie.Need-spc-if-next-requires
 spc-if-next-requires c κs = search needs
@@ -33,10 +32,10 @@ returns c =
     let at-format-import-as = c .before .before .before in
     let at-stands = at-format-import-as .before in
     let at-spc-if-next = at-stands .before .before in
-    let at-format-leaf = at-spc-if-next .before .before .before in
+    let at-character = at-spc-if-next .before .before .before in
     record {
       from = λ at here.
-          let star = at-format-leaf .format-leaf .ensures .1 char-leaf .from at here in
+          let star = at-character .character .ensures .from at here in
           let gap = at-spc-if-next .spc-if-next .ensures _ .from _ (star .next) in
           let alias = at-format-import-as .format-import-as .ensures .from _ (gap .next) in
           let clear = c .clear-spc-if-next .ensures _ .from _ (alias .next) in
@@ -47,7 +46,7 @@ pub format-import-all-spec : {M : Type 1} → statement M
 format-import-all-spec =
     tie.close
     (tie.spec
-    format-leaf-requires
+    character-requires
     spc-if-next-requires
     stands-requires
     format-import-as-requires

@@ -10,7 +10,6 @@ use Rattle.leaves.proofs.Fielded.{opened-levels, opened-one, opened-kind, shown
 use Rattle.tree.specs.Stored.{storedWith}
 use Rattle.tree.specs.declared.grammar.Kind.the-variants as variant
 use Rattle.tree.proofs.KindLayout.{kindNumber}
-use Rattle.leaves.proofs.Classes.{word-leaf}
 use borrow.Author.Needs.{needs}
 use Rattle.expressions.proofs.imports.format_import_as.Statement.{statement}
 use Rattle.expressions.proofs.imports.format_import_as.Tie as tie
@@ -42,8 +41,8 @@ sub-inner c =
     let at-open = at-opened .before .before .before .before in
     opened-levels (at-open .«open» .ensures .0) (at-opened .opened .given .1)
 
-format-leaf-requires : tie.Need-format-leaf-requires
-format-leaf-requires c κs = search needs
+word-requires : tie.Need-word-requires
+word-requires c κs = search needs
 
 slice-aggregate-push : tie.Need-slice-aggregate-push
 slice-aggregate-push c = search needs
@@ -51,8 +50,8 @@ slice-aggregate-push c = search needs
 push-requires : tie.Need-push-requires
 push-requires c κs = search needs
 
-format-leaf-requires-2 : tie.Need-format-leaf-requires-2
-format-leaf-requires-2 c κs = search needs
+word-requires-2 : tie.Need-word-requires-2
+word-requires-2 c κs = search needs
 
 same-length-2 : tie.Need-same-length-2
 same-length-2 c = search needs
@@ -60,18 +59,18 @@ same-length-2 c = search needs
 returns-2 : tie.Need-returns-2
 unfolding built fieldTrees fieldsEnd eventsIn bitAt kindNumber storedWith
 returns-2 c =
-    let at-format-leaf2 = c .before .before in
-    let at-push = at-format-leaf2 .before .before .before .before in
-    let at-format-leaf = at-push .before .before .before .before .before in
-    let at-opened = at-format-leaf .before .before .before in
+    let at-word2 = c .before .before in
+    let at-push = at-word2 .before .before .before .before in
+    let at-word = at-push .before .before .before .before .before in
+    let at-opened = at-word .before .before .before in
     let at-open = at-opened .before .before .before .before in
     let opens = at-open .«open» .ensures .0 in
     let is = at-opened .opened .given .1 in
     opened-kind opens is (leaf plain) variant.ImportAs (opened-one opens is 39 variant.ImportAs refl refl refl refl) refl (record {
       from = λ at here.
-          let tag = at-format-leaf .format-leaf .ensures .1 word-leaf .from at here in
+          let tag = at-word .word .ensures .from at here in
           let gap = at-push .push .ensures .from _ (tag .next) in
-          let path = at-format-leaf2 .format-leaf2 .ensures .1 word-leaf .from _ (gap .next) in
+          let path = at-word2 .word2 .ensures .from _ (gap .next) in
           tag thence gap thence path;
     })
 
@@ -86,9 +85,9 @@ format-import-as-spec =
     same-length
     returns
     sub-inner
-    format-leaf-requires
+    word-requires
     slice-aggregate-push
     push-requires
-    format-leaf-requires-2
+    word-requires-2
     same-length-2
     returns-2)

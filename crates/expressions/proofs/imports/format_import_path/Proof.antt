@@ -10,7 +10,6 @@ use Rattle.leaves.proofs.Fielded.{opened-levels, opened-one, opened-kind, shown
 use Rattle.tree.specs.Stored.{storedWith}
 use Rattle.tree.specs.declared.grammar.Kind.the-variants as variant
 use Rattle.tree.proofs.KindLayout.{kindNumber}
-use Rattle.leaves.proofs.Classes.{word-leaf}
 use borrow.Author.Needs.{needs}
 use Rattle.expressions.proofs.imports.format_import_path.Statement.{statement}
 use Rattle.expressions.proofs.imports.format_import_path.Tie as tie
@@ -45,8 +44,8 @@ sub-inner c =
 stands-requires : tie.Need-stands-requires
 stands-requires c κs = search needs
 
-format-leaf-requires : tie.Need-format-leaf-requires
-format-leaf-requires c κs = search needs
+word-requires : tie.Need-word-requires
+word-requires c κs = search needs
 
 spc-if-next-requires : tie.Need-spc-if-next-requires
 spc-if-next-requires c κs = search needs
@@ -62,15 +61,15 @@ unfolding built fieldTrees fieldsEnd eventsIn bitAt kindNumber storedWith
 returns-2 c =
     let at-format-import-as = c .before .before in
     let at-spc-if-next = at-format-import-as .before in
-    let at-format-leaf = at-spc-if-next .before .before .before .before in
-    let at-stands = at-format-leaf .before .before in
+    let at-word = at-spc-if-next .before .before .before .before in
+    let at-stands = at-word .before .before in
     let at-opened = at-stands .before .before .before in
     let at-open = at-opened .before .before .before .before in
     let opens = at-open .«open» .ensures .0 in
     let is = at-opened .opened .given .1 in
     opened-kind opens is (leaf plain) variant.SpecificImportArg (opened-one opens is 41 variant.SpecificImportArg refl refl refl refl) refl (record {
       from = λ at here.
-          let path = at-format-leaf .format-leaf .ensures .1 word-leaf .from at here in
+          let path = at-word .word .ensures .from at here in
           let gap = at-spc-if-next .spc-if-next .ensures _ .from _ (path .next) in
           let alias = at-format-import-as .format-import-as .ensures .from _ (gap .next) in
           rw (← (at-stands .stands .ensures)) (path thence gap thence alias);
@@ -88,7 +87,7 @@ format-import-path-spec =
     returns
     sub-inner
     stands-requires
-    format-leaf-requires
+    word-requires
     spc-if-next-requires
     format-import-as-requires
     same-length-2

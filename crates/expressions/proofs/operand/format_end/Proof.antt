@@ -33,8 +33,8 @@ same-length c = search needs
 returns-2 : tie.Need-returns-2
 returns-2 c =
     let at-format-register-suffix = c .before .before in
-    let at-moved-to2 = at-format-register-suffix .before in
-    let at-format-closing = at-moved-to2 .before .before .before .before in
+    let at-moved-to2 = at-format-register-suffix .before .before in
+    let at-format-closing = at-moved-to2 .before .before .before in
     let at-moved-to = at-format-closing .before in
     let at-if1 = at-moved-to .before .before in
     let at-last = at-if1 .before .before in

@@ -2,7 +2,6 @@
 use mathlib.Core.Path.{refl}
 use borrow.Author.Tests.{not-true, not-false}
 use Rattle.printing.proofs.Running.{_thence_, _then_, ran-printer, handed-on, place-behind, refused-before, done-before}
-use Rattle.leaves.proofs.Classes.{char-leaf}
 use Rattle.expressions.proofs.Operands.{moved-back, front-bare, front-opened}
 use borrow.Author.Needs.{needs}
 use Rattle.expressions.proofs.operand.format_front.Statement.{statement}
@@ -35,8 +34,8 @@ returns-2 c =
 skip-requires : tie.Need-skip-requires
 skip-requires c κs = search needs
 
-format-leaf-requires : tie.Need-format-leaf-requires
-format-leaf-requires c κs = search needs
+character-requires : tie.Need-character-requires
+character-requires c κs = search needs
 
 enum-known-opening : tie.Need-enum-known-opening
 enum-known-opening c = search needs
@@ -49,14 +48,14 @@ same-length-2 c = search needs
 
 returns-3 : tie.Need-returns-3
 returns-3 c =
-    let at-format-leaf = c .before .before .before .before in
-    let at-skip = at-format-leaf .before .before in
+    let at-character = c .before .before .before .before in
+    let at-skip = at-character .before .before in
     let at-if1 = at-skip .before in
     let at-last = at-if1 .before .before in
     let at-start = at-last .before .before .before .before in
     let given = at-start .args in
     let skipped = at-skip .skip .ensures .from _ .from _ refl in
-    let printed = at-format-leaf .format-leaf .ensures .1 char-leaf .from _ (skipped .next) in
+    let printed = at-character .character .ensures .from _ (skipped .next) in
     done-before (at-last .last .given .1) (front-opened _ _ _ _ (given .lchar) (not-false _ (at-if1 .if1 .left)) refl (skipped thence handed-on printed (c .enum-told2 .given .1)))
 
 moved-to-requires : tie.Need-moved-to-requires
@@ -74,16 +73,16 @@ same-length-3 c = search needs
 returns-4 : tie.Need-returns-4
 returns-4 c =
     let at-format-expression2 = c .before .before .before in
-    let at-moved-to = at-format-expression2 .before in
-    let at-opening = at-moved-to .before .before .before in
-    let at-format-leaf = at-opening .before .before .before .before in
-    let at-skip = at-format-leaf .before .before in
+    let at-moved-to = at-format-expression2 .before .before in
+    let at-opening = at-moved-to .before .before in
+    let at-character = at-opening .before .before .before .before in
+    let at-skip = at-character .before .before in
     let at-if1 = at-skip .before in
     let at-last = at-if1 .before .before in
     let at-start = at-last .before .before .before .before in
     let given = at-start .args in
     let skipped = at-skip .skip .ensures .from _ .from _ refl in
-    let printed = at-format-leaf .format-leaf .ensures .1 char-leaf .from _ (skipped .next) in
+    let printed = at-character .character .ensures .from _ (skipped .next) in
     let back = at-moved-to .moved-to .ensures _ .from _ refl in
     let inner = at-format-expression2 .format-expression2 .ensures .from _ (back .next) in
     let behind = c .moved-to2 .ensures _ .from _ (inner .next) in
@@ -103,7 +102,7 @@ format-front-spec =
     same-length
     returns-2
     skip-requires
-    format-leaf-requires
+    character-requires
     enum-known-opening
     enum-told-2
     same-length-2

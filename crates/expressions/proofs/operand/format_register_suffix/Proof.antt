@@ -10,7 +10,6 @@ use Rattle.leaves.proofs.Fielded.{opened-levels, opened-one, opened-kind, shown
 use Rattle.tree.specs.Stored.{storedWith}
 use Rattle.tree.specs.declared.grammar.Kind.the-variants as variant
 use Rattle.tree.proofs.KindLayout.{kindNumber}
-use Rattle.leaves.proofs.Classes.{char-leaf, index-register-leaf}
 use borrow.Author.Needs.{needs}
 use Rattle.expressions.proofs.operand.format_register_suffix.Statement.{statement}
 use Rattle.expressions.proofs.operand.format_register_suffix.Tie as tie
@@ -42,14 +41,14 @@ sub-inner c =
     let at-open = at-opened .before .before .before .before in
     opened-levels (at-open .«open» .ensures .0) (at-opened .opened .given .1)
 
-format-leaf-requires : tie.Need-format-leaf-requires
-format-leaf-requires c κs = search needs
+character-requires : tie.Need-character-requires
+character-requires c κs = search needs
 
 spc-if-next-requires : tie.Need-spc-if-next-requires
 spc-if-next-requires c κs = search needs
 
-format-leaf-requires-2 : tie.Need-format-leaf-requires-2
-format-leaf-requires-2 c κs = search needs
+register-requires : tie.Need-register-requires
+register-requires c κs = search needs
 
 clear-spc-if-next-requires : tie.Need-clear-spc-if-next-requires
 clear-spc-if-next-requires c κs = search needs
@@ -60,18 +59,18 @@ same-length-2 c = search needs
 returns-2 : tie.Need-returns-2
 unfolding built fieldTrees fieldsEnd eventsIn bitAt kindNumber storedWith
 returns-2 c =
-    let at-format-leaf2 = c .before .before .before in
-    let at-spc-if-next = at-format-leaf2 .before .before in
-    let at-format-leaf = at-spc-if-next .before .before .before in
-    let at-opened = at-format-leaf .before .before .before in
+    let at-register = c .before .before .before in
+    let at-spc-if-next = at-register .before .before in
+    let at-character = at-spc-if-next .before .before .before in
+    let at-opened = at-character .before .before .before in
     let at-open = at-opened .before .before .before .before in
     let opens = at-open .«open» .ensures .0 in
     let is = at-opened .opened .given .1 in
     opened-kind opens is (leaf plain) variant.RegisterSuffix (opened-one opens is 38 variant.RegisterSuffix refl refl refl refl) refl (record {
       from = λ at here.
-          let comma = at-format-leaf .format-leaf .ensures .1 char-leaf .from at here in
+          let comma = at-character .character .ensures .from at here in
           let gap = at-spc-if-next .spc-if-next .ensures _ .from _ (comma .next) in
-          let register = at-format-leaf2 .format-leaf2 .ensures .1 index-register-leaf .from _ (gap .next) in
+          let register = at-register .register .ensures .from _ (gap .next) in
           let clear = c .clear-spc-if-next .ensures _ .from _ (register .next) in
           comma thence gap thence register thence clear;
     })
@@ -87,9 +86,9 @@ format-register-suffix-spec =
     same-length
     returns
     sub-inner
-    format-leaf-requires
+    character-requires
     spc-if-next-requires
-    format-leaf-requires-2
+    register-requires
     clear-spc-if-next-requires
     same-length-2
     returns-2)

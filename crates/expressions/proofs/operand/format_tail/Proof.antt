@@ -57,7 +57,7 @@ returns-3 c =
     (c .before .enum-told3 .given .1) (c .refusal-of .ensures) (ran-printer closing is) (room-left closing is))
 
 mode-of-requires : tie.Need-mode-of-requires
-mode-of-requires c κs = own-text _ _ _ (c .before .before .before .before .read-own .ensures .1 .0) (c .before .before .found .given .1)
+mode-of-requires c κs = own-text _ _ _ (c .before .before .before .read-own .ensures .1 .0) (c .before .found .given .1)
 
 format-end-requires : tie.Need-format-end-requires
 format-end-requires c κs = search needs
@@ -68,8 +68,8 @@ same-length c = search needs
 returns-4 : tie.Need-returns-4
 returns-4 c =
     let at-format-end = c .before .before in
-    let at-mode-of = at-format-end .before in
-    let at-found = at-mode-of .before .before .before in
+    let at-mode-of = at-format-end .before .before in
+    let at-found = at-mode-of .before .before in
     let at-read-own = at-found .before .before in
     let at-mode = at-read-own .before .before in
     let at-skip = at-mode .before .before in

@@ -10,7 +10,6 @@ use Rattle.leaves.proofs.Fielded.{opened-levels, opened-one, opened-kind, shown
 use Rattle.tree.specs.Stored.{storedWith}
 use Rattle.tree.specs.declared.grammar.Kind.the-variants as variant
 use Rattle.tree.proofs.KindLayout.{kindNumber}
-use Rattle.leaves.proofs.Classes.{char-leaf}
 use borrow.Author.Needs.{needs}
 use Rattle.expressions.proofs.strings.format_string.Statement.{statement}
 use Rattle.expressions.proofs.strings.format_string.Tie as tie
@@ -36,14 +35,14 @@ returns c =
     let at-open = at-enum-told .before .before .before .before in
     shown-closed (at-open .«open» .ensures .0) (leaf plain) (at-enum-told .enum-told .given .1) (c .closed .ensures .0)
 
-sub-format-leaf : tie.Need-sub-format-leaf
-sub-format-leaf c =
+sub-character : tie.Need-sub-character
+sub-character c =
     let at-opened = c .before .before in
     let at-open = at-opened .before .before .before .before in
     opened-levels (at-open .«open» .ensures .0) (at-opened .opened .given .1)
 
-format-leaf-requires : tie.Need-format-leaf-requires
-format-leaf-requires c κs = search needs
+character-requires : tie.Need-character-requires
+character-requires c κs = search needs
 
 sub-format-string-items : tie.Need-sub-format-string-items
 sub-format-string-items c =
@@ -68,14 +67,14 @@ unfolding built fieldTrees fieldsEnd eventsIn bitAt kindNumber storedWith
 returns-2 c =
     let at-push = c .before .before in
     let at-format-string-items = at-push .before .before .before .before .before in
-    let at-format-leaf = at-format-string-items .before .before .before .before in
-    let at-opened = at-format-leaf .before .before .before in
+    let at-character = at-format-string-items .before .before .before .before in
+    let at-opened = at-character .before .before .before in
     let at-open = at-opened .before .before .before .before in
     let opens = at-open .«open» .ensures .0 in
     let is = at-opened .opened .given .1 in
     opened-kind opens is (leaf plain) variant.InterpolatedString (opened-one opens is 36 variant.InterpolatedString refl refl refl refl) refl (record {
       from = λ at here.
-          let lquote = at-format-leaf .format-leaf .ensures .1 char-leaf .from at here in
+          let lquote = at-character .character .ensures .from at here in
           let items = at-format-string-items .format-string-items .ensures .from _ (lquote .next) in
           let rquote = at-push .push .ensures .from _ (items .next) in
           lquote thence items thence rquote;
@@ -91,8 +90,8 @@ format-string-spec =
     closed-requires
     same-length
     returns
-    sub-format-leaf
-    format-leaf-requires
+    sub-character
+    character-requires
     sub-format-string-items
     format-string-items-requires
     slice-aggregate-push
