@@ -7,7 +7,6 @@ use expressions::strings;
 use leaves::leaf;
 use leaves::record;
 use leaves::record::Opened;
-use leaves::texts::Style;
 use printing::CodeFormatter;
 use printing::Context;
 use printing::Printed;
@@ -41,27 +40,9 @@ fn config_pair_front(
         ⌜ PrintsFront r (now (room .exit)) last (now (room .entry)) context kinds.configPair levels
         (now (tree .entry)) ⌝ }
 {
-    let key = leaf::format_leaf(
-        tree,
-        room,
-        context,
-        levels,
-        Class::Word,
-        Style::Plain,
-        false,
-        last,
-    );
+    let key = leaf::bare_word(tree, room, context, levels, last);
     let gap = key.push(room, context, b" ");
-    let eq = leaf::format_leaf(
-        tree,
-        room,
-        context,
-        levels,
-        Class::Char,
-        Style::Plain,
-        true,
-        gap,
-    );
+    let eq = leaf::character(tree, room, context, levels, gap);
     eq.push(room, context, b" ")
 }
 
@@ -92,36 +73,12 @@ fn import_front(
     ensures { λ r.
         ⌜ PrintsFront r (now (room .exit)) last (now (room .entry)) context kinds.import levels (now (tree .entry)) ⌝ }
 {
-    let tag = leaf::format_leaf(
-        tree,
-        room,
-        context,
-        levels,
-        Class::Word,
-        Style::Plain,
-        false,
-        last,
-    );
+    let tag = leaf::bare_word(tree, room, context, levels, last);
     let behind = tag.push(room, context, b" ");
-    let args = expression::format_arguments(
-        tree,
-        room,
-        context,
-        levels,
-        Arguments::Imports,
-        behind,
-    );
+    let of = Arguments::Imports;
+    let args = expression::format_arguments(tree, room, context, levels, of, behind);
     let gap = args.push(room, context, b" ");
-    let source = leaf::format_leaf(
-        tree,
-        room,
-        context,
-        levels,
-        Class::Word,
-        Style::Plain,
-        true,
-        gap,
-    );
+    let source = leaf::word(tree, room, context, levels, gap);
     let space = source.push(room, context, b" ");
     let filename = strings::format_string(tree, room, context, levels, true, space);
     filename.spc_if_next()
@@ -215,27 +172,9 @@ fn tag_and_name(
         (λ at. namedEvents context reader at)
         (λ at. behindName reader at) ⌝ }
 {
-    let tag = leaf::format_leaf(
-        tree,
-        room,
-        context,
-        levels,
-        Class::Word,
-        Style::Plain,
-        false,
-        last,
-    );
+    let tag = leaf::bare_word(tree, room, context, levels, last);
     let gap = tag.push(room, context, b" ");
-    leaf::format_leaf(
-        tree,
-        room,
-        context,
-        levels,
-        Class::Word,
-        Style::Plain,
-        true,
-        gap,
-    )
+    leaf::word(tree, room, context, levels, gap)
 }
 
 // A macro with its arguments.
@@ -251,34 +190,10 @@ fn macro_definition_front(
         (now (tree .entry)) ⌝ }
 {
     let id = tag_and_name(tree, room, context, levels, last);
-    let lparen = leaf::format_leaf(
-        tree,
-        room,
-        context,
-        levels,
-        Class::Char,
-        Style::Plain,
-        true,
-        id,
-    );
-    let args = expression::format_arguments(
-        tree,
-        room,
-        context,
-        levels,
-        Arguments::Identifiers,
-        lparen,
-    );
-    let rparen = leaf::format_leaf(
-        tree,
-        room,
-        context,
-        levels,
-        Class::Char,
-        Style::Plain,
-        true,
-        args,
-    );
+    let lparen = leaf::character(tree, room, context, levels, id);
+    let of = Arguments::Identifiers;
+    let args = expression::format_arguments(tree, room, context, levels, of, lparen);
+    let rparen = leaf::character(tree, room, context, levels, args);
     rparen.spc_if_next()
 }
 
@@ -308,16 +223,7 @@ fn test_front(
     ensures { λ r.
         ⌜ PrintsFront r (now (room .exit)) last (now (room .entry)) context kinds.test levels (now (tree .entry)) ⌝ }
 {
-    let tag = leaf::format_leaf(
-        tree,
-        room,
-        context,
-        levels,
-        Class::Word,
-        Style::Plain,
-        false,
-        last,
-    );
+    let tag = leaf::bare_word(tree, room, context, levels, last);
     let gap = tag.spc_if_next();
     let id = expression::format_expression(tree, room, context, levels, true, gap);
     id.spc_if_next()

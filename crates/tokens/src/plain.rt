@@ -6,7 +6,6 @@ use expressions::strings;
 use leaves::leaf;
 use leaves::record;
 use leaves::texts;
-use leaves::texts::Style;
 use printing::CodeFormatter;
 use printing::Context;
 use printing::Printed;
@@ -42,16 +41,7 @@ pub(crate) fn format_tagged(
     ensures { λ r.
         ⌜ PrintsNode r (now (room .exit)) last (now (room .entry)) context kind.Align 0 levels (now (tree .entry)) ⌝ }
 {
-    let tag = leaf::format_leaf(
-        tree,
-        room,
-        context,
-        levels,
-        Class::Word,
-        Style::Plain,
-        false,
-        last,
-    );
+    let tag = leaf::bare_word(tree, room, context, levels, last);
     let gap = tag.push(room, context, b" ");
     expression::format_expression(tree, room, context, levels, true, gap)
 }
@@ -91,14 +81,9 @@ fn format_behind_size(
         return size;
     };
     let gap = size.push(room, context, b" ");
-    let printed = expression::format_arguments(
-        tree,
-        room,
-        context,
-        levels,
-        Arguments::Expressions,
-        gap.moved_to(values),
-    );
+    let of = Arguments::Expressions;
+    let back = gap.moved_to(values);
+    let printed = expression::format_arguments(tree, room, context, levels, of, back);
     printed.moved_to(end)
 }
 
@@ -141,16 +126,7 @@ fn format_data(
         return last;
     };
     let skipped = record::skip(tree, levels, Class::ExpressionArguments, true, last);
-    let size = leaf::format_leaf(
-        tree,
-        room,
-        context,
-        levels,
-        Class::DataSize,
-        Style::DataSize,
-        false,
-        skipped,
-    );
+    let size = leaf::data_size(tree, room, context, levels, skipped);
     format_behind_size(tree, room, context, levels, values, size)
 }
 
@@ -165,16 +141,7 @@ fn format_file(
     ensures { λ r.
         ⌜ PrintsNode r (now (room .exit)) last (now (room .entry)) context kind.File 0 levels (now (tree .entry)) ⌝ }
 {
-    let tag = leaf::format_leaf(
-        tree,
-        room,
-        context,
-        levels,
-        Class::Word,
-        Style::Plain,
-        false,
-        last,
-    );
+    let tag = leaf::bare_word(tree, room, context, levels, last);
     let gap = tag.push(room, context, b" ");
     strings::format_string(tree, room, context, levels, true, gap)
 }
@@ -238,16 +205,7 @@ fn format_instruction(
         ⌜ PrintsNode r (now (room .exit)) last (now (room .entry)) context kind.Instruction bits levels
         (now (tree .entry)) ⌝ }
 {
-    let mnemonic = leaf::format_leaf(
-        tree,
-        room,
-        context,
-        levels,
-        Class::Mnemonic,
-        Style::Mnemonic,
-        false,
-        last,
-    );
+    let mnemonic = leaf::mnemonic(tree, room, context, levels, last);
     format_behind_mnemonic(tree, room, context, levels, bits, mnemonic)
 }
 
@@ -263,44 +221,11 @@ fn format_macro_invocation(
         ⌜ PrintsNode r (now (room .exit)) last (now (room .entry)) context kind.MacroInvocation 0 levels
         (now (tree .entry)) ⌝ }
 {
-    let id = leaf::format_leaf(
-        tree,
-        room,
-        context,
-        levels,
-        Class::Word,
-        Style::Plain,
-        false,
-        last,
-    );
-    let lparen = leaf::format_leaf(
-        tree,
-        room,
-        context,
-        levels,
-        Class::Char,
-        Style::Plain,
-        true,
-        id,
-    );
-    let args = expression::format_arguments(
-        tree,
-        room,
-        context,
-        levels,
-        Arguments::Expressions,
-        lparen,
-    );
-    leaf::format_leaf(
-        tree,
-        room,
-        context,
-        levels,
-        Class::Char,
-        Style::Plain,
-        true,
-        args,
-    )
+    let id = leaf::bare_word(tree, room, context, levels, last);
+    let lparen = leaf::character(tree, room, context, levels, id);
+    let of = Arguments::Expressions;
+    let args = expression::format_arguments(tree, room, context, levels, of, lparen);
+    leaf::character(tree, room, context, levels, args)
 }
 
 // `* = ..`
@@ -315,27 +240,9 @@ fn format_program_counter_definition(
         ⌜ PrintsNode r (now (room .exit)) last (now (room .entry)) context kind.ProgramCounterDefinition 0 levels
         (now (tree .entry)) ⌝ }
 {
-    let star = leaf::format_leaf(
-        tree,
-        room,
-        context,
-        levels,
-        Class::Char,
-        Style::Plain,
-        false,
-        last,
-    );
+    let star = leaf::bare_character(tree, room, context, levels, last);
     let gap = star.push(room, context, b" ");
-    let eq = leaf::format_leaf(
-        tree,
-        room,
-        context,
-        levels,
-        Class::Char,
-        Style::Plain,
-        true,
-        gap,
-    );
+    let eq = leaf::character(tree, room, context, levels, gap);
     let space = eq.push(room, context, b" ");
     expression::format_expression(tree, room, context, levels, true, space)
 }
@@ -352,27 +259,9 @@ fn format_text(
     ensures { λ r.
         ⌜ PrintsNode r (now (room .exit)) last (now (room .entry)) context kind.Text bits levels (now (tree .entry)) ⌝ }
 {
-    let tag = leaf::format_leaf(
-        tree,
-        room,
-        context,
-        levels,
-        Class::Word,
-        Style::Plain,
-        false,
-        last,
-    );
+    let tag = leaf::bare_word(tree, room, context, levels, last);
     let gap = tag.spc_if_next();
-    let encoding = leaf::format_optional_leaf(
-        tree,
-        room,
-        context,
-        levels,
-        Class::TextEncoding,
-        Style::Encoding,
-        record::stands(bits, 1),
-        gap,
-    );
+    let encoding = leaf::encoding(tree, room, context, levels, record::stands(bits, 1), gap);
     let pending = encoding.spc_if_next();
     expression::format_expression(tree, room, context, levels, true, pending)
 }
@@ -390,45 +279,14 @@ fn format_trace(
         ⌜ PrintsNode r (now (room .exit)) last (now (room .entry)) context kind.Trace bits levels
         (now (tree .entry)) ⌝ }
 {
-    let tag = leaf::format_leaf(
-        tree,
-        room,
-        context,
-        levels,
-        Class::Word,
-        Style::Plain,
-        false,
-        last,
-    );
+    let tag = leaf::bare_word(tree, room, context, levels, last);
     let gap = tag.spc_if_next();
-    let lparen = leaf::format_optional_leaf(
-        tree,
-        room,
-        context,
-        levels,
-        Class::Char,
-        Style::Plain,
-        record::stands(bits, 1),
-        gap,
-    );
-    let args = expression::format_arguments(
-        tree,
-        room,
-        context,
-        levels,
-        Arguments::Expressions,
-        lparen,
-    );
-    leaf::format_optional_leaf(
-        tree,
-        room,
-        context,
-        levels,
-        Class::Char,
-        Style::Plain,
-        record::stands(bits, 3),
-        args,
-    )
+    let opens = record::stands(bits, 1);
+    let lparen = leaf::optional_character(tree, room, context, levels, opens, gap);
+    let of = Arguments::Expressions;
+    let args = expression::format_arguments(tree, room, context, levels, of, lparen);
+    let closes = record::stands(bits, 3);
+    leaf::optional_character(tree, room, context, levels, closes, args)
 }
 
 // `.const` or `.var`, a name and a value.
@@ -443,38 +301,11 @@ fn format_variable_definition(
         ⌜ PrintsNode r (now (room .exit)) last (now (room .entry)) context kind.VariableDefinition 0 levels
         (now (tree .entry)) ⌝ }
 {
-    let ty = leaf::format_leaf(
-        tree,
-        room,
-        context,
-        levels,
-        Class::VariableType,
-        Style::VariableType,
-        false,
-        last,
-    );
+    let ty = leaf::variable_type(tree, room, context, levels, last);
     let gap = ty.push(room, context, b" ");
-    let id = leaf::format_leaf(
-        tree,
-        room,
-        context,
-        levels,
-        Class::Word,
-        Style::Plain,
-        true,
-        gap,
-    );
+    let id = leaf::word(tree, room, context, levels, gap);
     let space = id.push(room, context, b" ");
-    let eq = leaf::format_leaf(
-        tree,
-        room,
-        context,
-        levels,
-        Class::Char,
-        Style::Plain,
-        true,
-        space,
-    );
+    let eq = leaf::character(tree, room, context, levels, space);
     let behind = eq.push(room, context, b" ");
     expression::format_expression(tree, room, context, levels, true, behind)
 }
@@ -497,34 +328,16 @@ pub(crate) fn format_plain_token(
         kinds::ALIGN => format_tagged(tree, room, context, levels, last),
         kinds::ASSERT => format_assert(tree, room, context, levels, bits, last),
         kinds::DATA => format_data(tree, room, context, levels, last),
-        kinds::ERROR => leaf::format_leaf(
-            tree,
-            room,
-            context,
-            levels,
-            Class::Word,
-            Style::Plain,
-            false,
-            last,
-        ),
-        kinds::EXPRESSION => expression::format_expression(
-            tree,
-            room,
-            context,
-            levels,
-            false,
-            last,
-        ),
+        kinds::ERROR => leaf::bare_word(tree, room, context, levels, last),
+        kinds::EXPRESSION => {
+            expression::format_expression(tree, room, context, levels, false, last)
+        }
         kinds::FILE => format_file(tree, room, context, levels, last),
         kinds::INSTRUCTION => format_instruction(tree, room, context, levels, bits, last),
         kinds::MACRO_INVOCATION => format_macro_invocation(tree, room, context, levels, last),
-        kinds::PROGRAM_COUNTER_DEFINITION => format_program_counter_definition(
-            tree,
-            room,
-            context,
-            levels,
-            last,
-        ),
+        kinds::PROGRAM_COUNTER_DEFINITION => {
+            format_program_counter_definition(tree, room, context, levels, last)
+        }
         kinds::TEXT => format_text(tree, room, context, levels, bits, last),
         kinds::TRACE => format_trace(tree, room, context, levels, bits, last),
         kinds::VARIABLE_DEFINITION => format_variable_definition(tree, room, context, levels, last),

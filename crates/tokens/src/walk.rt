@@ -6,7 +6,6 @@ use leads::Lead;
 use leaves::leaf;
 use leaves::record;
 use leaves::record::Opened;
-use leaves::texts::Style;
 use options::BracePosition;
 use printing::Context;
 use printing::Printed;
@@ -102,30 +101,12 @@ fn open_block(
     let position = braces.position;
     match position {
         BracePosition::SameLine => {
-            let lparen = leaf::format_leaf(
-                tree,
-                room,
-                context,
-                levels,
-                Class::OpenBrace,
-                Style::Plain,
-                false,
-                last,
-            );
+            let lparen = leaf::open_brace(tree, room, context, levels, last);
             lparen.push(room, context, b"\n")
         }
         BracePosition::NewLine => {
             let line = last.push(room, context, b"\n");
-            let lparen = leaf::format_leaf(
-                tree,
-                room,
-                context,
-                levels,
-                Class::OpenBrace,
-                Style::Plain,
-                false,
-                line,
-            );
+            let lparen = leaf::open_brace(tree, room, context, levels, line);
             lparen.push(room, context, b"\n")
         }
     }
@@ -152,30 +133,12 @@ fn format_else(
     match position {
         BracePosition::SameLine => {
             let gap = last.push(room, context, b" ");
-            let tag = leaf::format_leaf(
-                tree,
-                room,
-                context,
-                levels,
-                Class::Word,
-                Style::Plain,
-                true,
-                gap,
-            );
+            let tag = leaf::word(tree, room, context, levels, gap);
             tag.push(room, context, b" ")
         }
         BracePosition::NewLine => {
             let line = last.push(room, context, b"\n");
-            leaf::format_leaf(
-                tree,
-                room,
-                context,
-                levels,
-                Class::Word,
-                Style::Plain,
-                true,
-                line,
-            )
+            leaf::word(tree, room, context, levels, line)
         }
     }
 }
@@ -325,16 +288,8 @@ fn format_block(
         ⌜ PrintsField r (now (room .exit)) last (now (room .entry)) context (Trees.leaf plain) true levels
         (now (tree .entry)) class.BlockRecord stands ⌝ }
 {
-    let opened = record::open(
-        tree,
-        room,
-        context,
-        levels,
-        Class::BlockRecord,
-        stands,
-        true,
-        last,
-    );
+    let class = Class::BlockRecord;
+    let opened = record::open(tree, room, context, levels, class, stands, true, last);
     let Opened::Record(own, state) = opened else {
         return record::closed(opened);
     };
@@ -343,16 +298,7 @@ fn format_block(
     let inner = format_tokens(tree, room, deeper(context), levels - 1, true, lparen);
     let trimmed = inner.trim_newlines();
     let line = trimmed.push(room, context, b"\n");
-    leaf::format_leaf(
-        tree,
-        room,
-        context,
-        levels - 1,
-        Class::CloseBrace,
-        Style::Plain,
-        false,
-        line,
-    )
+    leaf::close_brace(tree, room, context, levels - 1, line)
 }
 
 // A token list: the file's, or that of a block, whose first newlines are dropped and whose `}` stands for an end.

@@ -1,12 +1,11 @@
 -- The key, a space, the sign and a space are what stands before the value, each going on from the one before.
 use Rattle.printing.proofs.Running.{_thence_}
-use Rattle.leaves.proofs.Classes.{char-leaf, word-leaf}
 use borrow.Author.Needs.{needs}
 use Rattle.tokens.proofs.fronts.config_pair_front.Statement.{statement}
 use Rattle.tokens.proofs.fronts.config_pair_front.Tie as tie
 
-format-leaf-requires : tie.Need-format-leaf-requires
-format-leaf-requires c κs = search needs
+bare-word-requires : tie.Need-bare-word-requires
+bare-word-requires c κs = search needs
 
 slice-aggregate-push : tie.Need-slice-aggregate-push
 slice-aggregate-push c = search needs
@@ -14,8 +13,8 @@ slice-aggregate-push c = search needs
 push-requires : tie.Need-push-requires
 push-requires c κs = search needs
 
-format-leaf-requires-2 : tie.Need-format-leaf-requires-2
-format-leaf-requires-2 c κs = search needs
+character-requires : tie.Need-character-requires
+character-requires c κs = search needs
 
 slice-aggregate-push-2 : tie.Need-slice-aggregate-push-2
 slice-aggregate-push-2 c = search needs
@@ -34,9 +33,9 @@ returns c =
     let at-key = at-gap .before .before .before .before .before in
     record {
       from = λ at here.
-          let key = at-key .format-leaf .ensures .1 word-leaf .from at here in
+          let key = at-key .bare-word .ensures .from at here in
           let gap = at-gap .push .ensures .from _ (key .next) in
-          let eq = at-eq .format-leaf2 .ensures .1 char-leaf .from _ (gap .next) in
+          let eq = at-eq .character .ensures .from _ (gap .next) in
           let space = at-space .push2 .ensures .from _ (eq .next) in
           key thence gap thence eq thence space;
     }
@@ -45,10 +44,10 @@ pub config-pair-front-spec : {M : Type 1} → statement M
 config-pair-front-spec =
     tie.close
     (tie.spec
-    format-leaf-requires
+    bare-word-requires
     slice-aggregate-push
     push-requires
-    format-leaf-requires-2
+    character-requires
     slice-aggregate-push-2
     push-requires-2
     same-length

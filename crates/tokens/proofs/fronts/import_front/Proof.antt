@@ -1,13 +1,12 @@
 -- The tag, the arguments, the source and the filename are printed with spaces between them, each going on from the one before.
 use mathlib.Core.Path.{_∙_}
 use Rattle.printing.proofs.Running.{_thence_}
-use Rattle.leaves.proofs.Classes.{word-leaf}
 use borrow.Author.Needs.{needs}
 use Rattle.tokens.proofs.fronts.import_front.Statement.{statement}
 use Rattle.tokens.proofs.fronts.import_front.Tie as tie
 
-format-leaf-requires : tie.Need-format-leaf-requires
-format-leaf-requires c κs = search needs
+bare-word-requires : tie.Need-bare-word-requires
+bare-word-requires c κs = search needs
 
 slice-aggregate-push : tie.Need-slice-aggregate-push
 slice-aggregate-push c = search needs
@@ -24,8 +23,8 @@ slice-aggregate-push-2 c = search needs
 push-requires-2 : tie.Need-push-requires-2
 push-requires-2 c κs = search needs
 
-format-leaf-requires-2 : tie.Need-format-leaf-requires-2
-format-leaf-requires-2 c κs = search needs
+word-requires : tie.Need-word-requires
+word-requires c κs = search needs
 
 slice-aggregate-push-3 : tie.Need-slice-aggregate-push-3
 slice-aggregate-push-3 c = search needs
@@ -50,11 +49,11 @@ same-length c =
     let at-tag = at-gap .before .before .before .before .before in
     at-filename .format-string .kept .1 .0
     ∙ at-source-gap .push3 .kept .1 .0
-    ∙ at-source .format-leaf2 .kept .1 .0
+    ∙ at-source .word .kept .1 .0
     ∙ at-imported-gap .push2 .kept .1 .0
     ∙ at-imported .format-arguments .kept .1 .0
     ∙ at-gap .push .kept .1 .0
-    ∙ at-tag .format-leaf .kept .1 .0
+    ∙ at-tag .bare-word .kept .1 .0
 
 returns : tie.Need-returns
 returns c =
@@ -67,11 +66,11 @@ returns c =
     let at-tag = at-gap .before .before .before .before .before in
     record {
       from = λ at here.
-          let tag = at-tag .format-leaf .ensures .1 word-leaf .from at here in
+          let tag = at-tag .bare-word .ensures .from at here in
           let gap = at-gap .push .ensures .from _ (tag .next) in
           let imported = at-imported .format-arguments .ensures .from _ (gap .next) in
           let imported-gap = at-imported-gap .push2 .ensures .from _ (imported .next) in
-          let source = at-source .format-leaf2 .ensures .1 word-leaf .from _ (imported-gap .next) in
+          let source = at-source .word .ensures .from _ (imported-gap .next) in
           let source-gap = at-source-gap .push3 .ensures .from _ (source .next) in
           let filename = at-filename .format-string .ensures .from _ (source-gap .next) in
           let pending = c .spc-if-next .ensures _ .from _ (filename .next) in
@@ -82,13 +81,13 @@ pub import-front-spec : {M : Type 1} → statement M
 import-front-spec =
     tie.close
     (tie.spec
-    format-leaf-requires
+    bare-word-requires
     slice-aggregate-push
     push-requires
     format-arguments-requires
     slice-aggregate-push-2
     push-requires-2
-    format-leaf-requires-2
+    word-requires
     slice-aggregate-push-3
     push-requires-3
     format-string-requires

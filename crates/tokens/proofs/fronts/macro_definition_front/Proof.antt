@@ -2,7 +2,6 @@
 use mathlib.Core.Path.{refl}
 use Rattle.printing.specs.Running.{run}
 use Rattle.printing.proofs.Running.{_thence_, alike}
-use Rattle.leaves.proofs.Classes.{char-leaf}
 use borrow.Author.Needs.{needs}
 use Rattle.tokens.proofs.fronts.macro_definition_front.Statement.{statement}
 use Rattle.tokens.proofs.fronts.macro_definition_front.Tie as tie
@@ -10,14 +9,14 @@ use Rattle.tokens.proofs.fronts.macro_definition_front.Tie as tie
 tag-and-name-requires : tie.Need-tag-and-name-requires
 tag-and-name-requires c κs = search needs
 
-format-leaf-requires : tie.Need-format-leaf-requires
-format-leaf-requires c κs = search needs
+character-requires : tie.Need-character-requires
+character-requires c κs = search needs
 
 format-arguments-requires : tie.Need-format-arguments-requires
 format-arguments-requires c κs = search needs
 
-format-leaf-requires-2 : tie.Need-format-leaf-requires-2
-format-leaf-requires-2 c κs = search needs
+character-requires-2 : tie.Need-character-requires-2
+character-requires-2 c κs = search needs
 
 spc-if-next-requires : tie.Need-spc-if-next-requires
 spc-if-next-requires c κs = search needs
@@ -35,9 +34,9 @@ returns c =
     record {
       from = λ at here.
           let name = at-name .tag-and-name .ensures .from at here in
-          let lparen = at-lparen .format-leaf .ensures .1 char-leaf .from _ (name .next) in
+          let lparen = at-lparen .character .ensures .from _ (name .next) in
           let parameters = at-parameters .format-arguments .ensures .from _ (lparen .next) in
-          let rparen = at-rparen .format-leaf2 .ensures .1 char-leaf .from _ (parameters .next) in
+          let rparen = at-rparen .character2 .ensures .from _ (parameters .next) in
           let pending = c .spc-if-next .ensures _ .from _ (rparen .next) in
           alike (λ x. refl) (name thence lparen thence parameters thence rparen thence pending);
     }
@@ -47,9 +46,9 @@ macro-definition-front-spec =
     tie.close
     (tie.spec
     tag-and-name-requires
-    format-leaf-requires
+    character-requires
     format-arguments-requires
-    format-leaf-requires-2
+    character-requires-2
     spc-if-next-requires
     same-length
     returns)

@@ -1,12 +1,11 @@
 -- The tag, a space and the name are printed, each going on from the one before.
 use Rattle.printing.proofs.Running.{_thence_}
-use Rattle.leaves.proofs.Classes.{word-leaf}
 use borrow.Author.Needs.{needs}
 use Rattle.tokens.proofs.fronts.tag_and_name.Statement.{statement}
 use Rattle.tokens.proofs.fronts.tag_and_name.Tie as tie
 
-format-leaf-requires : tie.Need-format-leaf-requires
-format-leaf-requires c κs = search needs
+bare-word-requires : tie.Need-bare-word-requires
+bare-word-requires c κs = search needs
 
 slice-aggregate-push : tie.Need-slice-aggregate-push
 slice-aggregate-push c = search needs
@@ -14,8 +13,8 @@ slice-aggregate-push c = search needs
 push-requires : tie.Need-push-requires
 push-requires c κs = search needs
 
-format-leaf-requires-2 : tie.Need-format-leaf-requires-2
-format-leaf-requires-2 c κs = search needs
+word-requires : tie.Need-word-requires
+word-requires c κs = search needs
 
 same-length : tie.Need-same-length
 same-length c = search needs
@@ -27,9 +26,9 @@ returns c =
     let at-tag = at-gap .before .before .before .before .before in
     record {
       from = λ at here.
-          let tag = at-tag .format-leaf .ensures .1 word-leaf .from at here in
+          let tag = at-tag .bare-word .ensures .from at here in
           let gap = at-gap .push .ensures .from _ (tag .next) in
-          let name = at-name .format-leaf2 .ensures .1 word-leaf .from _ (gap .next) in
+          let name = at-name .word .ensures .from _ (gap .next) in
           tag thence gap thence name;
     }
 
@@ -37,9 +36,9 @@ pub tag-and-name-spec : {M : Type 1} → statement M
 tag-and-name-spec =
     tie.close
     (tie.spec
-    format-leaf-requires
+    bare-word-requires
     slice-aggregate-push
     push-requires
-    format-leaf-requires-2
+    word-requires
     same-length
     returns)

@@ -1,12 +1,11 @@
 -- The tag and the name are printed, each with a space to come, each going on from the one before.
 use Rattle.printing.proofs.Running.{_thence_}
-use Rattle.leaves.proofs.Classes.{word-leaf}
 use borrow.Author.Needs.{needs}
 use Rattle.tokens.proofs.fronts.test_front.Statement.{statement}
 use Rattle.tokens.proofs.fronts.test_front.Tie as tie
 
-format-leaf-requires : tie.Need-format-leaf-requires
-format-leaf-requires c κs = search needs
+bare-word-requires : tie.Need-bare-word-requires
+bare-word-requires c κs = search needs
 
 spc-if-next-requires : tie.Need-spc-if-next-requires
 spc-if-next-requires c κs = search needs
@@ -27,7 +26,7 @@ returns c =
     let at-tag = at-gap .before .before .before in
     record {
       from = λ at here.
-          let tag = at-tag .format-leaf .ensures .1 word-leaf .from at here in
+          let tag = at-tag .bare-word .ensures .from at here in
           let gap = at-gap .spc-if-next .ensures _ .from _ (tag .next) in
           let name = at-name .format-expression .ensures .from _ (gap .next) in
           let pending = c .spc-if-next2 .ensures _ .from _ (name .next) in
@@ -38,7 +37,7 @@ pub test-front-spec : {M : Type 1} → statement M
 test-front-spec =
     tie.close
     (tie.spec
-    format-leaf-requires
+    bare-word-requires
     spc-if-next-requires
     format-expression-requires
     spc-if-next-requires-2

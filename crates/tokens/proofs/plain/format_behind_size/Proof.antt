@@ -36,8 +36,8 @@ same-length c = search needs
 returns-2 : tie.Need-returns-2
 returns-2 c =
     let at-format-arguments = c .before .before .before in
-    let at-moved-to = at-format-arguments .before in
-    let at-push = at-moved-to .before .before .before .before in
+    let at-moved-to = at-format-arguments .before .before in
+    let at-push = at-moved-to .before .before .before in
     let at-size = at-push .before .before .before .before in
     let gap = at-push .push .ensures .from _ refl in
     let back = at-moved-to .moved-to .ensures _ .from _ (gap .next) in

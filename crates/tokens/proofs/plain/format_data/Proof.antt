@@ -4,7 +4,6 @@ use Rattle.tree.specs.Tree.{built}
 use Rattle.printing.proofs.Running.{_thence_, refused-before, done-before}
 use Rattle.events.specs.Trees.{eventsIn}
 use Rattle.leaves.specs.Records.{fieldTrees, fieldsEnd}
-use Rattle.leaves.proofs.Classes.{data-size-leaf}
 use borrow.Author.Needs.{needs}
 use Rattle.tokens.proofs.plain.format_data.Statement.{statement}
 use Rattle.tokens.proofs.plain.format_data.Tie as tie
@@ -21,8 +20,8 @@ returns c = refused-before (c .enum-told .given .1)
 skip-requires : tie.Need-skip-requires
 skip-requires c κs = search needs
 
-format-leaf-requires : tie.Need-format-leaf-requires
-format-leaf-requires c κs = search needs
+data-size-requires : tie.Need-data-size-requires
+data-size-requires c κs = search needs
 
 format-behind-size-requires : tie.Need-format-behind-size-requires
 format-behind-size-requires c κs = search needs
@@ -34,11 +33,11 @@ returns-2 : tie.Need-returns-2
 unfolding built fieldTrees fieldsEnd eventsIn
 returns-2 c =
     let at-behind = c .before .before in
-    let at-format-leaf = at-behind .before .before .before .before in
-    let at-skip = at-format-leaf .before .before in
+    let at-data-size = at-behind .before .before .before .before in
+    let at-skip = at-data-size .before .before in
     let at-last = at-skip .before .before in
     let skipped = at-skip .skip .ensures .from _ .from _ refl in
-    let size = at-format-leaf .format-leaf .ensures .1 data-size-leaf .from _ (skipped .next) in
+    let size = at-data-size .data-size .ensures .from _ (skipped .next) in
     let behind = at-behind .format-behind-size .ensures .from _ (size .next) in
     done-before (at-last .last .given .1) (skipped thence size thence behind)
 
@@ -50,7 +49,7 @@ format-data-spec =
     enum-told
     returns
     skip-requires
-    format-leaf-requires
+    data-size-requires
     format-behind-size-requires
     same-length
     returns-2)

@@ -3,7 +3,6 @@ use mathlib.Core.Path.{refl}
 use Rattle.tree.specs.Tree.{built}
 use Rattle.events.specs.Trees.{eventsIn}
 use Rattle.leaves.specs.Records.{fieldTrees, fieldsEnd}
-use Rattle.leaves.proofs.Classes.{word-leaf}
 use Rattle.tokens.proofs.PlainTokens.{kind-named, end-left}
 use borrow.Author.Needs.{needs}
 use Rattle.tokens.proofs.plain.format_plain_token.Statement.{statement}
@@ -18,8 +17,8 @@ format-assert-requires c κs = search needs
 format-data-requires : tie.Need-format-data-requires
 format-data-requires c κs = search needs
 
-format-leaf-requires : tie.Need-format-leaf-requires
-format-leaf-requires c κs = search needs
+bare-word-requires : tie.Need-bare-word-requires
+bare-word-requires c κs = search needs
 
 format-expression-requires : tie.Need-format-expression-requires
 format-expression-requires c κs = search needs
@@ -81,7 +80,7 @@ returns-4 : tie.Need-returns-4
 unfolding built fieldTrees fieldsEnd eventsIn
 returns-4 c =
     let at-printed = c .before .before in
-    λ among kind known. rw (kind-named (at-printed .before .before .match .keys4) refl known) (at-printed .format-leaf .ensures .1 word-leaf)
+    λ among kind known. rw (kind-named (at-printed .before .before .match .keys4) refl known) (at-printed .bare-word .ensures)
 
 same-length-5 : tie.Need-same-length-5
 same-length-5 c = search needs
@@ -170,7 +169,7 @@ format-plain-token-spec =
     format-tagged-requires
     format-assert-requires
     format-data-requires
-    format-leaf-requires
+    bare-word-requires
     format-expression-requires
     format-file-requires
     format-instruction-requires

@@ -3,13 +3,12 @@ use Rattle.tree.specs.Tree.{built}
 use Rattle.printing.proofs.Running.{_thence_}
 use Rattle.events.specs.Trees.{eventsIn}
 use Rattle.leaves.specs.Records.{fieldTrees, fieldsEnd}
-use Rattle.leaves.proofs.Classes.{char-leaf}
 use borrow.Author.Needs.{needs}
 use Rattle.tokens.proofs.plain.format_program_counter_definition.Statement.{statement}
 use Rattle.tokens.proofs.plain.format_program_counter_definition.Tie as tie
 
-format-leaf-requires : tie.Need-format-leaf-requires
-format-leaf-requires c κs = search needs
+bare-character-requires : tie.Need-bare-character-requires
+bare-character-requires c κs = search needs
 
 slice-aggregate-push : tie.Need-slice-aggregate-push
 slice-aggregate-push c = search needs
@@ -17,8 +16,8 @@ slice-aggregate-push c = search needs
 push-requires : tie.Need-push-requires
 push-requires c κs = search needs
 
-format-leaf-requires-2 : tie.Need-format-leaf-requires-2
-format-leaf-requires-2 c κs = search needs
+character-requires : tie.Need-character-requires
+character-requires c κs = search needs
 
 slice-aggregate-push-2 : tie.Need-slice-aggregate-push-2
 slice-aggregate-push-2 c = search needs
@@ -37,14 +36,14 @@ unfolding built fieldTrees fieldsEnd eventsIn
 returns c =
     let at-format-expression = c .before .before in
     let at-push2 = at-format-expression .before .before .before .before in
-    let at-format-leaf2 = at-push2 .before .before .before .before .before in
-    let at-push = at-format-leaf2 .before .before .before .before in
-    let at-format-leaf = at-push .before .before .before .before .before in
+    let at-character = at-push2 .before .before .before .before .before in
+    let at-push = at-character .before .before .before .before in
+    let at-bare-character = at-push .before .before .before .before .before in
     record {
       from = λ at here.
-          let star = at-format-leaf .format-leaf .ensures .1 char-leaf .from at here in
+          let star = at-bare-character .bare-character .ensures .from at here in
           let gap = at-push .push .ensures .from _ (star .next) in
-          let sign = at-format-leaf2 .format-leaf2 .ensures .1 char-leaf .from _ (gap .next) in
+          let sign = at-character .character .ensures .from _ (gap .next) in
           let space = at-push2 .push2 .ensures .from _ (sign .next) in
           let value = at-format-expression .format-expression .ensures .from _ (space .next) in
           star thence gap thence sign thence space thence value;
@@ -54,10 +53,10 @@ pub format-program-counter-definition-spec : {M : Type 1} → statement M
 format-program-counter-definition-spec =
     tie.close
     (tie.spec
-    format-leaf-requires
+    bare-character-requires
     slice-aggregate-push
     push-requires
-    format-leaf-requires-2
+    character-requires
     slice-aggregate-push-2
     push-requires-2
     format-expression-requires

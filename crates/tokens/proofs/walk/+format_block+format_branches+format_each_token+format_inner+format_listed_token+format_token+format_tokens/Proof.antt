@@ -22,7 +22,6 @@ use Rattle.events.specs.Views.{bitAt}
 use Rattle.events.specs.Trees.{leaf, eventsIn}
 use Rattle.leaves.specs.Lists.{itemsEnd}
 use Rattle.leaves.specs.Records.{fieldTrees, fieldsEnd}
-use Rattle.leaves.proofs.Classes.{close-brace-leaf}
 use Rattle.leaves.proofs.Fielded.{opened-levels, opened-one, opened-kind, shown-closed}
 use Rattle.tokens.specs.Tokens.{eachEvents}
 use Rattle.tokens.proofs.Cycle.{stays-refused, inside-shown, label-alone, label-block, not-nothing, plain-number, one-branch, both-branches, token-rule, token-opened, tokens-shown}
@@ -57,7 +56,7 @@ use Rattle.leads.proofs.format_lead_in.Reads as format-lead-in-reads
 use Rattle.leads.proofs.format_lead_out.Reads as format-lead-out-reads
 use Rattle.leads.proofs.over.Reads as over-reads
 use Rattle.leads.specs.Leads.{overBy}
-use Rattle.leaves.proofs.leaf.format_leaf.Reads as format-leaf-reads
+use Rattle.leaves.proofs.leaf.close_brace.Reads as close-brace-reads
 use Rattle.leaves.proofs.record.closed.Reads as closed-reads
 use Rattle.leaves.proofs.record.open.Reads as open-reads
 use Rattle.leaves.proofs.record.stands.Reads as stands-reads
@@ -160,8 +159,8 @@ format-block-claims t = (
   trim-newlines-reads.Learnt,
   push-reads.Asked,
   push-reads.Learnt,
-  format-leaf-reads.Asked,
-  format-leaf-reads.Learnt,
+  close-brace-reads.Asked,
+  close-brace-reads.Learnt,
 )
 
 abbrev format-branches-claims : ℕ → format-branches-lts.Claims
@@ -307,31 +306,31 @@ format-block-slice-aggregate-push t c = search needs
 format-block-push-requires : (t : ℕ) → format-block-lts.Need-push-requires (format-block-claims t) (format-block-at t) format-block.Post
 format-block-push-requires t c κs = search needs
 
-format-block-sub-format-leaf : (t : ℕ) → format-block-lts.Need-sub-format-leaf (format-block-claims t) (format-block-at t) format-block.Post
-format-block-sub-format-leaf t c =
+format-block-sub-close-brace : (t : ℕ) → format-block-lts.Need-sub-close-brace (format-block-claims t) (format-block-at t) format-block.Post
+format-block-sub-close-brace t c =
     let at-inner = c .before .before .before .before .before .before .before .before .before in
     let at-opened = at-inner .before .before .before .before .before .before .before .before in
     let at-open = at-opened .before .before .before .before in
     opened-levels (at-open .«open» .ensures .0) (at-opened .opened .given .1)
 
-format-block-format-leaf-requires : (t : ℕ) → format-block-lts.Need-format-leaf-requires (format-block-claims t) (format-block-at t) format-block.Post
-format-block-format-leaf-requires t c κs = search needs
+format-block-close-brace-requires : (t : ℕ) → format-block-lts.Need-close-brace-requires (format-block-claims t) (format-block-at t) format-block.Post
+format-block-close-brace-requires t c κs = search needs
 
 format-block-same-length-2 : (t : ℕ) → format-block-lts.Need-same-length-2 (format-block-claims t) (format-block-at t) format-block.Post
 format-block-same-length-2 t c =
-    let at-format-leaf = c .before .before in
-    let at-push = at-format-leaf .before .before .before .before in
+    let at-close-brace = c .before .before in
+    let at-push = at-close-brace .before .before .before .before in
     let at-format-tokens = at-push .before .before .before .before .before .before in
     let at-open-block = at-format-tokens .before .before .before .before .before in
     let at-open = at-open-block .before .before .before .before .before .before .before in
-    at-format-leaf .format-leaf .kept .1 .0 ∙ at-push .push .kept .1 .0 ∙ at-format-tokens .format-tokens .kept .1 .0 ∙ at-open-block .open-block .kept .1 .0
+    at-close-brace .close-brace .kept .1 .0 ∙ at-push .push .kept .1 .0 ∙ at-format-tokens .format-tokens .kept .1 .0 ∙ at-open-block .open-block .kept .1 .0
     ∙ at-open .«open» .kept .1 .0
 
 format-block-returns-2 : (t : ℕ) → format-block-lts.Need-returns-2 (format-block-claims t) (format-block-at t) format-block.Post
 unfolding built fieldTrees fieldsEnd eventsIn bitAt kindNumber storedWith
 format-block-returns-2 t c =
-    let at-format-leaf = c .before .before in
-    let at-push = at-format-leaf .before .before .before .before in
+    let at-close-brace = c .before .before in
+    let at-push = at-close-brace .before .before .before .before in
     let at-trim = at-push .before .before .before in
     let at-format-tokens = at-trim .before .before .before in
     let at-deeper = at-format-tokens .before in
@@ -348,7 +347,7 @@ format-block-returns-2 t c =
           let inner = listed .from _ (lparen .next) in
           let trimmed = at-trim .trim-newlines .ensures _ .from _ (inner .next) in
           let line = at-push .push .ensures .from _ (trimmed .next) in
-          let rparen = at-format-leaf .format-leaf .ensures .1 close-brace-leaf .from _ (line .next) in
+          let rparen = at-close-brace .close-brace .ensures .from _ (line .next) in
           lparen thence inner thence trimmed thence line thence rparen;
     })
 
@@ -997,8 +996,8 @@ pub +format-block+format-branches+format-each-token+format-inner+format-listed-t
     (format-block-trim-newlines-requires t)
     (format-block-slice-aggregate-push t)
     (format-block-push-requires t)
-    (format-block-sub-format-leaf t)
-    (format-block-format-leaf-requires t)
+    (format-block-sub-close-brace t)
+    (format-block-close-brace-requires t)
     (format-block-same-length-2 t)
     (format-block-returns-2 t))
     (λ t. format-branches-lts.spec (format-branches-claims t)

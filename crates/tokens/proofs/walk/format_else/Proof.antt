@@ -1,6 +1,5 @@
 -- The position of braces says whether the tag stands between spaces or on a new line.
 use Rattle.printing.proofs.Running.{_thence_}
-use Rattle.leaves.proofs.Classes.{word-leaf}
 use Rattle.tokens.proofs.FrontParts.{else-same, else-new}
 use borrow.Author.Needs.{needs}
 use Rattle.tokens.proofs.walk.format_else.Statement.{statement}
@@ -15,8 +14,8 @@ slice-aggregate-push c = search needs
 push-requires : tie.Need-push-requires
 push-requires c κs = search needs
 
-format-leaf-requires : tie.Need-format-leaf-requires
-format-leaf-requires c κs = search needs
+word-requires : tie.Need-word-requires
+word-requires c κs = search needs
 
 slice-aggregate-push-2 : tie.Need-slice-aggregate-push-2
 slice-aggregate-push-2 c = search needs
@@ -33,8 +32,8 @@ slice-aggregate-push-3 c = search needs
 push-requires-3 : tie.Need-push-requires-3
 push-requires-3 c κs = search needs
 
-format-leaf-requires-2 : tie.Need-format-leaf-requires-2
-format-leaf-requires-2 c κs = search needs
+word-requires-2 : tie.Need-word-requires-2
+word-requires-2 c κs = search needs
 
 same-length : tie.Need-same-length
 same-length c = search needs
@@ -48,7 +47,7 @@ returns c =
     record {
       from = λ at here.
           let gap = at-gap .push .ensures .from at here in
-          let tag = at-tag .format-leaf .ensures .1 word-leaf .from _ (gap .next) in
+          let tag = at-tag .word .ensures .from _ (gap .next) in
           let space = at-space .push2 .ensures .from _ (tag .next) in
           else-same (at-position .enum-told .given .1) (gap thence tag thence space);
     }
@@ -64,7 +63,7 @@ returns-2 c =
     record {
       from = λ at here.
           let line = at-line .push3 .ensures .from at here in
-          let tag = at-tag .format-leaf2 .ensures .1 word-leaf .from _ (line .next) in
+          let tag = at-tag .word2 .ensures .from _ (line .next) in
           else-new (at-position .enum-told2 .given .1) (line thence tag);
     }
 
@@ -75,13 +74,13 @@ format-else-spec =
     enum-told
     slice-aggregate-push
     push-requires
-    format-leaf-requires
+    word-requires
     slice-aggregate-push-2
     push-requires-2
     enum-told-2
     slice-aggregate-push-3
     push-requires-3
-    format-leaf-requires-2
+    word-requires-2
     same-length
     returns
     same-length-2

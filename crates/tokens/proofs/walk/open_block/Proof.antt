@@ -1,6 +1,5 @@
 -- The position of braces says whether a newline stands before the brace; behind it there is one.
 use Rattle.printing.proofs.Running.{_thence_}
-use Rattle.leaves.proofs.Classes.{open-brace-leaf}
 use Rattle.tokens.proofs.FrontParts.{opens-same, opens-new}
 use borrow.Author.Needs.{needs}
 use Rattle.tokens.proofs.walk.open_block.Statement.{statement}
@@ -9,8 +8,8 @@ use Rattle.tokens.proofs.walk.open_block.Tie as tie
 enum-told : tie.Need-enum-told
 enum-told c = search needs
 
-format-leaf-requires : tie.Need-format-leaf-requires
-format-leaf-requires c κs = search needs
+open-brace-requires : tie.Need-open-brace-requires
+open-brace-requires c κs = search needs
 
 slice-aggregate-push : tie.Need-slice-aggregate-push
 slice-aggregate-push c = search needs
@@ -27,8 +26,8 @@ slice-aggregate-push-2 c = search needs
 push-requires-2 : tie.Need-push-requires-2
 push-requires-2 c κs = search needs
 
-format-leaf-requires-2 : tie.Need-format-leaf-requires-2
-format-leaf-requires-2 c κs = search needs
+open-brace-requires-2 : tie.Need-open-brace-requires-2
+open-brace-requires-2 c κs = search needs
 
 slice-aggregate-push-3 : tie.Need-slice-aggregate-push-3
 slice-aggregate-push-3 c = search needs
@@ -46,7 +45,7 @@ returns c =
     let at-position = at-brace .before .before in
     record {
       from = λ at here.
-          let brace = at-brace .format-leaf .ensures .1 open-brace-leaf .from at here in
+          let brace = at-brace .open-brace .ensures .from at here in
           let line = at-line .push .ensures .from _ (brace .next) in
           opens-same (at-position .enum-told .given .1) (brace thence line);
     }
@@ -63,7 +62,7 @@ returns-2 c =
     record {
       from = λ at here.
           let break = at-break .push2 .ensures .from at here in
-          let brace = at-brace .format-leaf2 .ensures .1 open-brace-leaf .from _ (break .next) in
+          let brace = at-brace .open-brace2 .ensures .from _ (break .next) in
           let line = at-line .push3 .ensures .from _ (brace .next) in
           opens-new (at-position .enum-told2 .given .1) (break thence brace thence line);
     }
@@ -73,13 +72,13 @@ open-block-spec =
     tie.close
     (tie.spec
     enum-told
-    format-leaf-requires
+    open-brace-requires
     slice-aggregate-push
     push-requires
     enum-told-2
     slice-aggregate-push-2
     push-requires-2
-    format-leaf-requires-2
+    open-brace-requires-2
     slice-aggregate-push-3
     push-requires-3
     same-length
