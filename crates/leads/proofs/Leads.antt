@@ -2,8 +2,8 @@
 use mathlib.Core.Path.{_≡_, refl, sym, ap, _∙_}
 use mathlib.Core.List.{List}
 use mathlib.Core.Bool.{Bool, false}
-use Prim.Native.Nat.{ℕ, _/_, _≤_}
-use lib.ListN.{length, getD, List·getD-eq-default}
+use Prim.Native.Nat.{ℕ, _/_}
+use lib.ListN.{getD}
 use Rattle.answers.specs.declared.Refusal.{Refusal}
 use Rattle.answers.specs.declared.Checked.the-variants.{Failed}
 use Rattle.tree.specs.Own.{readOwn, refusalOf}
@@ -31,10 +31,6 @@ use Rattle.leaves.proofs.Leaves.{full-refused}
 use Rattle.leads.specs.Leads.{leadIn, Led, LeadsAt, LeadsIn}
 use Rattle.leads.specs.declared.Lead.{Lead}
 use Rattle.leads.specs.declared.Lead.the-variants.{Over}
-
--- past the end there is no byte
-pub past-end : (bytes : List ℕ) (place : ℕ) → length bytes ≤ place → 0 ≡ getD bytes place 0
-past-end bytes place past = sym (List·getD-eq-default bytes 0 past)
 
 -- ---- what is met on the way to a token's head
 

@@ -14,7 +14,6 @@ use tree::parts;
 use tree::parts::HeadRead;
 ghost use mathlib.Core.Path.{_≡_};
 ghost use mathlib.Core.List.{[], _∷_};
-ghost use lib.ListN.{getD};
 ghost use Rattle.tree.specs.Reading.{read};
 ghost use Rattle.tree.specs.declared.grammar.Class.the-variants as class;
 ghost use Rattle.printing.specs.Running.{going, run, Prints};
@@ -161,16 +160,6 @@ fn list_trivia(
     trivia::format_trivia(tree, own.trivia, own.trivia_count, context, room, state)
 }
 
-// The byte at a place; 0 past the end.
-pub fn byte_at(tree: &[u8], at: usize) -> usize
-    ensures { λ r. ⌜ r ≡ getD (now (tree .entry)) at 0 ⌝ }
-{
-    if tree.len() <= at {
-        return 0;
-    }
-    numbers::wide(tree[at])
-}
-
 // What stands before a token: the trivia of its head, then a newline by the rule. What is read of the token on the way is handed on.
 pub fn format_lead_in(
     tree: &[u8],
@@ -210,7 +199,7 @@ pub fn format_lead_in(
     let OwnRead::Record(own) = opened else {
         return Lead::Over(Printed::Refused(own::refusal_of(opened)));
     };
-    let number = byte_at(tree, at);
+    let number = numbers::byte_at(tree, at);
     let block = has_block(number, token.map / 2);
     let shown = list_trivia(tree, room, context, own, drops, state);
     let next = break_before(room, context, stood, number, block, shown);

@@ -7,7 +7,7 @@ use crate::uses::Seen;
 use answers::Checked;
 use answers::Reason;
 use answers::Refusal;
-use leads;
+use text::numbers;
 use tree::check;
 use tree::check::Part;
 use tree::grammar::Class;
@@ -66,7 +66,7 @@ fn search(
     let Seen::Shown(shown) = used else {
         return Searched::Refused(uses::refused_use(used, at));
     };
-    let below = listed_below(leads::byte_at(tree, at), listed);
+    let below = listed_below(numbers::byte_at(tree, at), listed);
     let mut place = own.end;
     let mut seen = shown;
     let mut plan = check::plan_of(class, own);

@@ -4,8 +4,8 @@ use crate::firsts::Firsts;
 use crate::places;
 use answers::Reason;
 use answers::Refusal;
-use leads;
 use leaves::record;
+use text::numbers;
 use tree::codes;
 use tree::grammar::Class;
 use tree::kinds;
@@ -178,7 +178,7 @@ fn index_of(tree: &[u8], leaf: Own) -> usize
     ensures { λ r. ⌜ r ≡ indexIn (now (tree .entry)) leaf ⌝ }
 {
     if leaf.text < leaf.end {
-        return leads::byte_at(tree, leaf.text);
+        return numbers::byte_at(tree, leaf.text);
     }
     0
 }
@@ -230,7 +230,7 @@ pub(crate) fn record_uses(
     requires { ⌜ 0 < levels ⌝ }
     ensures { λ r. ⌜ TakesRecord r firsts from levels (now (tree .entry)) class at own listed ⌝ }
 {
-    let number = leads::byte_at(tree, at);
+    let number = numbers::byte_at(tree, at);
     let spot = own_spot(class, number, listed);
     let by_own = own_use(tree, own, at, spot, from, firsts);
     let head = head_spot(class, number, listed);

@@ -1,6 +1,7 @@
-// Numbers of two bytes, the low byte first.
+// Bytes as numbers, and numbers of two bytes, the low byte first.
 ghost use mathlib.Core.Path.{_≡_};
 ghost use Prim.Native.Nat.{_<_};
+ghost use lib.ListN.{getD};
 ghost use Rattle.text.specs.Numbers.{readNumber};
 ghost use Rattle.text.specs.Stores.{numberEnd, numberBuffer};
 
@@ -25,6 +26,16 @@ pub fn wide(b: u8) -> usize
     ensures { λ r. ⌜ (r ≡ b) × (r < 256) ⌝ }
 {
     b as usize
+}
+
+// The byte at a place; 0 past the end.
+pub fn byte_at(bytes: &[u8], at: usize) -> usize
+    ensures { λ r. ⌜ r ≡ getD (now (bytes .entry)) at 0 ⌝ }
+{
+    if bytes.len() <= at {
+        return 0;
+    }
+    wide(bytes[at])
 }
 
 // The number at a place.

@@ -9,6 +9,7 @@ use leaves::record::Opened;
 use options::BracePosition;
 use printing::Context;
 use printing::Printed;
+use text::numbers;
 use tree::grammar::Class;
 use tree::kinds;
 ghost use mathlib.Core.Path.{_≡_};
@@ -167,7 +168,7 @@ fn format_token(
     let Opened::Record(own, state) = opened else {
         return record::closed(opened);
     };
-    let number = leads::byte_at(tree, at);
+    let number = numbers::byte_at(tree, at);
     let start = Printed::Done(state, own.end);
     format_inner(tree, room, context, levels - 1, number, own.map / 2, start)
 }
@@ -197,7 +198,7 @@ fn format_listed_token(
     let Lead::Ready(own, head, state) = lead else {
         return leads::over(lead);
     };
-    let number = leads::byte_at(tree, at);
+    let number = numbers::byte_at(tree, at);
     let below = levels - 1;
     let bits = own.map / 2;
     if number == kinds::INSTRUCTION {
@@ -354,7 +355,7 @@ fn format_each_token(
         answer = format_listed_token(tree, room, context, levels - 1, drops, before, answer);
         before = Before {
             first: false,
-            previous: leads::byte_at(tree, at),
+            previous: numbers::byte_at(tree, at),
         };
         left -= 1;
     }

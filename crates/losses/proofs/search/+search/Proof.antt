@@ -14,10 +14,10 @@ use borrow.Fn.PlainCycle.{Measures, is, falls, and}
 use Rattle.losses.proofs.search.search.Reads as search′
 use Rattle.losses.proofs.search.search.Kinds as search-kinds
 use Rattle.losses.proofs.search.+search.Lts-search as search-lts
-use Rattle.leads.proofs.byte_at.Reads as byte-at-reads
 use Rattle.losses.proofs.search.listed_below.Reads as listed-below-reads
 use Rattle.losses.proofs.uses.record_uses.Reads as record-uses-reads
 use Rattle.losses.proofs.uses.refused_use.Reads as refused-use-reads
+use Rattle.text.proofs.numbers.byte_at.Reads as byte-at-reads
 use Rattle.tree.proofs.check.next_part.Reads as next-part-reads
 use Rattle.tree.proofs.check.plan_of.Reads as plan-of-reads
 use Rattle.tree.proofs.own.read_own.Reads as read-own-reads

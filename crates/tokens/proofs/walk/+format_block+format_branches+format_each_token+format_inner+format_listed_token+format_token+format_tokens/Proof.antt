@@ -51,7 +51,6 @@ use Rattle.tokens.proofs.walk.+format_block+format_branches+format_each
 use Rattle.tokens.proofs.walk.format_tokens.Reads as format-tokens
 use Rattle.tokens.proofs.walk.format_tokens.Kinds as format-tokens-kinds
 use Rattle.tokens.proofs.walk.+format_block+format_branches+format_each_token+format_inner+format_listed_token+format_token+format_tokens.Lts-format_tokens as format-tokens-lts
-use Rattle.leads.proofs.byte_at.Reads as byte-at-reads
 use Rattle.leads.proofs.format_lead_in.Reads as format-lead-in-reads
 use Rattle.leads.proofs.format_lead_out.Reads as format-lead-out-reads
 use Rattle.leads.proofs.over.Reads as over-reads
@@ -63,6 +62,7 @@ use Rattle.leaves.proofs.record.stands.Reads as stands-reads
 use Rattle.printing.proofs.Printed.push.Reads as push-reads
 use Rattle.printing.proofs.Printed.settled.Reads as settled-reads
 use Rattle.printing.proofs.Printed.trim_newlines.Reads as trim-newlines-reads
+use Rattle.text.proofs.numbers.byte_at.Reads as byte-at-reads
 use Rattle.tokens.proofs.fronts.format_listed_label.Reads as format-listed-label-reads
 use Rattle.tokens.proofs.fronts.format_token_front.Reads as format-token-front-reads
 use Rattle.tokens.proofs.plain.format_listed_instruction.Reads as format-listed-instruction-reads

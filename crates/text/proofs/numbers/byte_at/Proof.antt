@@ -1,12 +1,13 @@
 -- A place past the end has no byte.
+use mathlib.Core.Path.{sym}
 use native.Mathlib.Omega.{arith}
-use Rattle.leads.proofs.Leads.{past-end}
+use lib.ListN.{List·getD-eq-default}
 use borrow.Author.Needs.{needs}
-use Rattle.leads.proofs.byte_at.Statement.{statement}
-use Rattle.leads.proofs.byte_at.Tie as tie
+use Rattle.text.proofs.numbers.byte_at.Statement.{statement}
+use Rattle.text.proofs.numbers.byte_at.Tie as tie
 
 returns : tie.Need-returns
-returns c = past-end (c .before .before .args .tree .now) (c .before .before .args .at) (omega arith)
+returns c = sym (List·getD-eq-default (c .before .before .args .bytes .now) 0 (omega arith))
 
 shared-slice-read-wide : tie.Need-shared-slice-read-wide
 shared-slice-read-wide c = search needs
