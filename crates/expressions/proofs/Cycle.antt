@@ -13,7 +13,6 @@ use borrow.Author.Tests.{eqb-true, eqb-false, eq-eqb, leb-true, leb-false}
 use denote.Enum.Declared.{tagOf}
 use types.Run.{OneOf}
 use Rattle.text.proofs.Choices.{by-test, true-false, and-true-left, and-true-right}
-use Rattle.answers.specs.declared.Refusal.{Refusal}
 use Rattle.tree.specs.Tree.{absent, built, chain}
 use Rattle.tree.specs.Grammar.{rule, fields}
 use Rattle.tree.specs.Own.{readOwn, mayStand}
@@ -29,13 +28,12 @@ use Rattle.tree.specs.declared.own.OwnRead.{OwnRead}
 use Rattle.tree.specs.declared.own.OwnRead.the-variants as own-is
 use Rattle.tree.proofs.KindLayout.{kindNumber, kind-number}
 use Rattle.tree.proofs.grammar.Kind as kinds
-use Rattle.printing.specs.Events.{Events, nothing, clear, _▹_}
-use Rattle.printing.specs.Running.{Run, run, placeOf, outcome, Shown}
+use Rattle.printing.specs.Events.{nothing, clear, _▹_}
+use Rattle.printing.specs.Running.{Run, run, outcome, Shown}
 use Rattle.printing.specs.declared.CodeFormatter.{CodeFormatter}
 use Rattle.printing.specs.declared.Context.{Context}
 use Rattle.printing.specs.declared.Printed.{Printed}
-use Rattle.printing.specs.declared.Printed.the-variants.{Done, Refused}
-use Rattle.printing.proofs.Running.{alike, refused-before, _thence_}
+use Rattle.printing.proofs.Running.{alike, _thence_, some-place}
 use Rattle.events.specs.Printed.{plain, operator}
 use Rattle.events.specs.Trees.{oneOf, leaf, blank, skipping, eventsIn}
 use Rattle.events.specs.Views.{view, bitAt}
@@ -50,20 +48,6 @@ use Rattle.expressions.proofs.Stands.{field-stands}
 use Rattle.expressions.specs.Expressions.{expressionClass, listClass, itemClass, valueClass, listPlace, tagEvents, tagsEnd}
 use Rattle.expressions.specs.declared.expression.Arguments.{Arguments}
 use Rattle.expressions.specs.declared.expression.Arguments.the-variants.{Expressions, Identifiers, Imports}
-
--- ---- places
-
--- an answer ends at some place
-some-place : (last : Printed) → (at : ℕ) × (placeOf last at ≡ at)
-some-place (Done state at) = (at, refl)
-some-place (Refused why) = (0, refl)
-
--- what was refused stays refused
-pub stays-refused : {answer : Printed} {room : List ℕ} {events : Events} {end : ℕ} {why : Refusal} → answer ≡ Refused why
-    → Shown answer room events (outcome answer room) end
-stays-refused {answer} {events = events} {end = end} is =
-    let there = some-place answer in
-    refused-before {events = λ at. events} {end = λ at. end} is .from (there .0) (there .1)
 
 -- ---- the classes
 

@@ -1,5 +1,5 @@
 -- Laws of strings: a list's kind, an item by its kind, and the items one behind the other.
-use mathlib.Core.Path.{_≡_, refl, ap, _∙_}
+use mathlib.Core.Path.{_≡_, refl, _∙_}
 use mathlib.Core.List.{List, [], _∷_}
 use mathlib.Core.Bool.{Bool, true, false, _&&_}
 use Prim.Native.Nat.{ℕ, zero, suc, _-_, _≤_, _<_}
@@ -11,7 +11,6 @@ use lib.Seq.{slice}
 use borrow.Author.Tests.{eqb-true, eqb-false, leb-true}
 use types.Run.{OneOf, miss}
 use denote.Enum.Declared.{tagOf}
-use Rattle.answers.specs.declared.Refusal.{Refusal}
 use Rattle.text.proofs.Choices.{by-test, and-true-left, and-true-right}
 use Rattle.tree.specs.Tree.{node, built, chain, Leaf, PathItem}
 use Rattle.tree.specs.Own.{readOwn}
@@ -24,13 +23,12 @@ use Rattle.tree.specs.declared.own.Own.{Own}
 use Rattle.tree.specs.declared.own.OwnRead.the-variants as own-is
 use Rattle.tree.proofs.grammar.Kind.{the-type}
 use Rattle.tree.proofs.KindLayout.{kindNumber, kind-number}
-use Rattle.printing.specs.Events.{Events, nothing, _▹_}
-use Rattle.printing.specs.Running.{Run, outcome, placeOf, Shown}
+use Rattle.printing.specs.Events.{nothing, _▹_}
+use Rattle.printing.specs.Running.{Run, Shown}
 use Rattle.printing.specs.declared.CodeFormatter.{CodeFormatter}
 use Rattle.printing.specs.declared.Context.{Context}
 use Rattle.printing.specs.declared.Printed.{Printed}
-use Rattle.printing.specs.declared.Printed.the-variants.{Done, Refused}
-use Rattle.printing.proofs.Running.{refused-before}
+use Rattle.printing.proofs.Running.{some-place}
 use Rattle.events.specs.Printed.{plain}
 use Rattle.events.specs.Trees.{leaf, inString, eventsIn}
 use Rattle.events.proofs.OwnParts.{record-headed}
@@ -42,11 +40,6 @@ use Rattle.leaves.proofs.Records.{read-record}
 use Rattle.leaves.proofs.Fielded.{opened-range, opened-by-number}
 
 -- ---- a list
-
--- an answer ends at some place
-some-place : (last : Printed) → (at : ℕ) × (placeOf last at ≡ at)
-some-place (Done state at) = (at, refl)
-some-place (Refused why) = (0, refl)
 
 -- a string's items are a list
 pub opened-items : {context : Context} {shown : Bool} {levels : ℕ} {bytes : List ℕ} {stands : Bool} {left room : List ℕ} {last : Printed} {opened : Opened} {own : Own} {state : CodeFormatter}
@@ -107,11 +100,6 @@ module _ (bytes : List ℕ) (levels : ℕ) (own : Own) where
   path-read kind at is = rw (read-record bytes class.StringItem at levels own is .1, kind) (refl, refl)
 
 -- ---- items
-
--- what was refused stays refused
-pub stays-refused : {answer : Printed} {room : List ℕ} {events : Events} {end : ℕ} {why : Refusal} → answer ≡ Refused why → Shown answer room events (outcome answer room) end
-stays-refused {answer} {room} {events} {end} is =
-    refused-before {events = λ at. events} {end = λ at. end} is .from 0 (ap (λ (a : Printed). placeOf a 0) is)
 
 module _ (context : Context) (levels : ℕ) (bytes : List ℕ) {answer : Printed} {room : List ℕ} {before : Run} where
   -- where none is left nothing is printed

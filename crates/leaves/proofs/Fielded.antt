@@ -26,12 +26,12 @@ use Rattle.tree.specs.declared.own.Own.{Own}
 use Rattle.tree.specs.declared.own.OwnRead.the-variants.{Record}
 use Rattle.tree.proofs.KindLayout.{kindNumber, kind-number}
 use Rattle.tree.proofs.OwnBytes.{leafNumber}
-use Rattle.printing.specs.Running.{placeOf, outcome, Shown, Prints}
+use Rattle.printing.specs.Running.{outcome, Shown, Prints}
 use Rattle.printing.specs.declared.CodeFormatter.{CodeFormatter}
 use Rattle.printing.specs.declared.Context.{Context}
 use Rattle.printing.specs.declared.Printed.{Printed}
-use Rattle.printing.specs.declared.Printed.the-variants.{Done, Refused}
-use Rattle.printing.proofs.Running.{told, _then_}
+use Rattle.printing.specs.declared.Printed.the-variants.{Done}
+use Rattle.printing.proofs.Running.{told, _then_, some-place}
 use Rattle.events.specs.Views.{bitAt}
 use Rattle.events.specs.Trees.{Place, eventsIn}
 use Rattle.events.proofs.OwnParts.{Fielded, record-headed, record-parts}
@@ -163,11 +163,6 @@ list-read bytes class item at levels own is same items =
     rw (read-record bytes class at levels own is .1, same, items, done .0, done .1) (refl, refl)
 
 -- ---- a record that was opened
-
--- an answer ends at some place
-some-place : (last : Printed) → (at : ℕ) × (placeOf last at ≡ at)
-some-place (Done state at) = (at, refl)
-some-place (Refused why) = (0, refl)
 
 module _ {context : Context} {shown : Bool} {levels : ℕ} {bytes : List ℕ} {class : Class} {stands : Bool} {left room : List ℕ} {last : Printed} {opened : Opened}
     (opens : Opens opened left last room context shown levels bytes class stands)

@@ -197,6 +197,11 @@ finish {answer} {room} {events} {before} {at} {end} {state} all answered place =
 
 -- ---- what goes on from an answer
 
+-- an answer ends at some place
+pub some-place : (last : Printed) → (at : ℕ) × (placeOf last at ≡ at)
+some-place (Done state at) = (at, refl)
+some-place (Refused why) = (0, refl)
+
 -- an answer is shown, and what goes on from it
 infixr 50 _thence_
 pub _thence_ : {answer last : Printed} {room left : List ℕ} {first next : Events} {before : Run} {end behind : ℕ}
@@ -223,6 +228,13 @@ refused-before {room = room} {events} {end} {why} is = record {
 pub refused-anew : {before : Printed} {room : List ℕ} {events : ℕ → Events} {end : ℕ → ℕ} {why : Refusal} → before ≡ Refused why
     → Prints (Refused why) room before room events end
 refused-anew {before} {room} {events} {end} is = subst (λ (answer : Printed). Prints answer room before room events end) is (refused-before is)
+
+-- whatever the events are, and wherever they end
+pub stays-refused : {answer : Printed} {room : List ℕ} {events : Events} {end : ℕ} {why : Refusal} → answer ≡ Refused why
+    → Shown answer room events (outcome answer room) end
+stays-refused {answer} {events = events} {end = end} is =
+    let there = some-place answer in
+    refused-before {events = λ at. events} {end = λ at. end} is .from (there .0) (there .1)
 
 -- what was done goes on
 pub done-before : {answer before : Printed} {room left : List ℕ} {events : ℕ → Events} {end : ℕ → ℕ} {state : CodeFormatter} {place : ℕ} → before ≡ Done state place

@@ -35,7 +35,7 @@ use Rattle.printing.specs.declared.CodeFormatter.{CodeFormatter}
 use Rattle.printing.specs.declared.Context.{Context}
 use Rattle.printing.specs.declared.Printed.{Printed}
 use Rattle.printing.specs.declared.Printed.the-variants.{Done, Refused}
-use Rattle.printing.proofs.Running.{shows, alike, run-ended, refused-before, done-before, _thence_}
+use Rattle.printing.proofs.Running.{shows, alike, run-ended, done-before, _thence_, some-place}
 use Rattle.events.specs.Printed.{plain}
 use Rattle.events.specs.Trees.{first, tokens, leaf, oneOf, elseEvents, closingEvents, eventsIn}
 use Rattle.events.specs.Views.{tokenNumber, bitAt}
@@ -56,19 +56,7 @@ use Rattle.tokens.specs.declared.walk.Inner.{Inner}
 use Rattle.tokens.specs.declared.walk.Inner.the-variants.{Nothing, Block, Token, Branches}
 use Rattle.tokens.proofs.walk.Inner as inners
 
--- ---- places
-
--- an answer ends at some place
-some-place : (last : Printed) → (at : ℕ) × (placeOf last at ≡ at)
-some-place (Done state at) = (at, refl)
-some-place (Refused why) = (0, refl)
-
--- what was refused stays refused
-pub stays-refused : {answer : Printed} {room : List ℕ} {events : Events} {end : ℕ} {why : Refusal} → answer ≡ Refused why
-    → Shown answer room events (outcome answer room) end
-stays-refused {answer} {events = events} {end = end} is =
-    let there = some-place answer in
-    refused-before {events = λ at. events} {end = λ at. end} is .from (there .0) (there .1)
+-- ---- a run that has ended
 
 -- where a run has ended all events are alike
 ended-alike : {answer : Printed} {room left : List ℕ} {events others : Events} {why : Refusal} {end : ℕ} → Shown answer room events (ended left why) end

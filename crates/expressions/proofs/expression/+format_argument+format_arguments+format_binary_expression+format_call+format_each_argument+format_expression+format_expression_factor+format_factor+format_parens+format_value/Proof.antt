@@ -15,7 +15,7 @@ use Rattle.tree.specs.declared.grammar.Kind.the-variants as variant
 use Rattle.tree.proofs.KindLayout.{kindNumber}
 use Rattle.printing.specs.Running.{placeOf, outcome, Shown}
 use Rattle.printing.specs.declared.Printed.{Printed}
-use Rattle.printing.proofs.Running.{_then_, _thence_, ran-printer, place-behind, refused-before, done-before, handed-on}
+use Rattle.printing.proofs.Running.{_then_, _thence_, ran-printer, place-behind, refused-before, done-before, handed-on, stays-refused}
 use Rattle.events.specs.Printed.{plain}
 use Rattle.events.specs.Views.{bitAt}
 use Rattle.events.specs.Trees.{leaf, eventsIn}
@@ -23,7 +23,7 @@ use Rattle.leaves.specs.Lists.{itemTrees, itemsEnd}
 use Rattle.leaves.specs.Records.{fieldTrees, fieldsEnd}
 use Rattle.leaves.proofs.Fielded.{opened-levels, opened-one, opened-kind, opened-list, shown-closed}
 use Rattle.expressions.specs.Expressions.{itemClass, listPlace}
-use Rattle.expressions.proofs.Cycle.{stays-refused, item-rule, factor-is, counter-is, list-is, list-items}
+use Rattle.expressions.proofs.Cycle.{item-rule, factor-is, counter-is, list-is, list-items}
 use Rattle.expressions.proofs.Cycle.{or-first, or-second, unsigned-shown, signed-shown, binary-shown, none-left, one-left}
 use Prim.Native.Nat.{ℕ, _<_, _+_, _*_}
 use borrow.Fn.Kinds.{In}

@@ -10,10 +10,10 @@ use Rattle.tree.specs.Reading.{read}
 use Rattle.tree.specs.declared.grammar.Class.the-variants.{StringItem}
 use Rattle.printing.specs.Running.{placeOf, outcome, Shown}
 use Rattle.printing.specs.declared.Printed.{Printed}
-use Rattle.printing.proofs.Running.{_thence_}
+use Rattle.printing.proofs.Running.{_thence_, stays-refused}
 use Rattle.events.specs.Trees.{inString, eventsIn}
 use Rattle.leaves.specs.Lists.{itemTrees, itemsEnd}
-use Rattle.expressions.proofs.StringItems.{stays-refused, items-none, items-next}
+use Rattle.expressions.proofs.StringItems.{items-none, items-next}
 use borrow.Author.Needs.{needs}
 use Rattle.expressions.proofs.strings.format_each_item.Statement.{statement}
 use Rattle.expressions.proofs.strings.format_each_item.Tie as tie

@@ -16,7 +16,7 @@ use Rattle.tree.specs.declared.grammar.Kind.the-variants as variant
 use Rattle.tree.proofs.KindLayout.{kindNumber}
 use Rattle.printing.specs.Running.{placeOf, outcome, Shown}
 use Rattle.printing.specs.declared.Printed.{Printed}
-use Rattle.printing.proofs.Running.{_thence_, refused-before, done-before}
+use Rattle.printing.proofs.Running.{_thence_, refused-before, done-before, stays-refused}
 use Rattle.events.specs.Printed.{plain}
 use Rattle.events.specs.Views.{bitAt}
 use Rattle.events.specs.Trees.{leaf, eventsIn}
@@ -24,7 +24,7 @@ use Rattle.leaves.specs.Lists.{itemsEnd}
 use Rattle.leaves.specs.Records.{fieldTrees, fieldsEnd}
 use Rattle.leaves.proofs.Fielded.{opened-levels, opened-one, opened-kind, shown-closed}
 use Rattle.tokens.specs.Tokens.{eachEvents}
-use Rattle.tokens.proofs.Cycle.{stays-refused, inside-shown, label-alone, label-block, not-nothing, plain-number, one-branch, both-branches, token-rule, token-opened, tokens-shown}
+use Rattle.tokens.proofs.Cycle.{inside-shown, label-alone, label-block, not-nothing, plain-number, one-branch, both-branches, token-rule, token-opened, tokens-shown}
 use Rattle.tokens.proofs.Cycle.{only-in, not-in, restEvents, all-left, block-left, file-left, one-left, rest-from}
 use Rattle.tokens.proofs.Listed.{listed-number, listed-over, listed-opens, head-text, listed-shown, listed-instruction, listed-label, listed-data}
 use Prim.Native.Nat.{ℕ, _<_, _+_, _*_, _-_}
