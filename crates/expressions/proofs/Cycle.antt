@@ -12,7 +12,7 @@ use native.Mathlib.Numerals.{sub-one}
 use borrow.Author.Tests.{eqb-true, eqb-false, eq-eqb, leb-true, leb-false}
 use denote.Enum.Declared.{tagOf}
 use types.Run.{OneOf}
-use Rattle.text.proofs.Choices.{by-test, true-false, and-true-left, and-true-right}
+use Rattle.text.proofs.Choices.{by-test, true-false, and-true-left, and-true-right, neither}
 use Rattle.tree.specs.Tree.{absent, built, chain}
 use Rattle.tree.specs.Grammar.{rule, fields}
 use Rattle.tree.specs.Own.{readOwn, mayStand}
@@ -261,11 +261,6 @@ or-first false b e = true-false (sym e)
 pub or-second : (a b : Bool) → a ≡ false → b ≡ (a || b)
 or-second true b e = true-false e
 or-second false b e = refl
-
--- of two that are not both are not
-neither : (a b : Bool) → (a || b) ≡ false → (a ≡ false) × (b ≡ false)
-neither true b e = true-false e
-neither false b e = (refl, e)
 
 -- ---- fields in another order
 

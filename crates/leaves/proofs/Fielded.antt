@@ -10,7 +10,7 @@ use lib.ListN.{length, getD, replicate}
 use native.Mathlib.Omega.{arith}
 use lib.Dec.{eqb, leb}
 use borrow.Author.Tests.{leb-true}
-use Rattle.text.proofs.Choices.{by-test, true-false, and-true-left, and-true-right}
+use Rattle.text.proofs.Choices.{by-test, true-false, and-true-left, and-true-right, neither}
 use Rattle.tree.specs.Tree.{Tree, node, built, chain}
 use Rattle.tree.specs.Grammar.{Slot, must, may, kindOf, rule, fields}
 use Rattle.tree.specs.Own.{fieldsFit, mayStand, readOwn}
@@ -42,11 +42,6 @@ use Rattle.leaves.specs.declared.record.Opened.the-variants as opened-is
 use Rattle.leaves.proofs.Records.{read-record}
 
 -- ---- fields
-
--- of two that are not both are not
-neither : (a b : Bool) → (a || b) ≡ false → (a ≡ false) × (b ≡ false)
-neither true b e = true-false e
-neither false b e = (refl, e)
 
 -- fields whose bits fit are read one behind the other
 fields-read : (reader : Reader) (slots : List Slot) (bits at : ℕ) → fieldsFit slots bits ≡ true

@@ -5,7 +5,7 @@ use mathlib.Core.List.{List, [], _∷_, append-nil}
 use mathlib.Core.Bool.{Bool, true, false, _||_}
 use Prim.Native.Nat.{ℕ}
 use Rattle.text.specs.Ink.{inks}
-use Rattle.text.proofs.Choices.{by-test, true-false}
+use Rattle.text.proofs.Choices.{by-test, true-false, neither}
 use Rattle.tree.specs.Tree.{Tree, absent, refused, node, nil, cons, Align, Assert, Braces, Config, ConfigPair, Data, Definition, Eof, Error}
 use Rattle.tree.specs.Tree.{Expression, If, Import, File, Instruction, Label, Loop, MacroDefinition, MacroInvocation, ProgramCounterDefinition}
 use Rattle.tree.specs.Tree.{Segment, Test, Text, Trace, VariableDefinition, Vec, Leaf, PathItem, Block, BinaryExpression, Factor}
@@ -324,11 +324,6 @@ none-harmless : (used : List Use) → NoneOfSeven used → harmless used ≡ tru
 unfolding harmless
 none-harmless [] none = refl
 none-harmless (other ∷ others) none = first-harmless (other .place) (other .spot) others none (λ rest. none-harmless others rest)
-
--- of a choice that is false both parts are
-neither : (first second : Bool) → (first || second) ≡ false → (first ≡ false) × (second ≡ false)
-neither true second none = true-false none
-neither false second none = (refl, none)
 
 -- a tree that loses no ink uses none of the seven
 keeps-harmless : (tree : Tree) → losesInk tree ≡ false → harmless (placesIn false tree) ≡ true
