@@ -1,7 +1,7 @@
 -- Laws of storing a chunk into a room.
 use mathlib.Core.Path.{_≡_, refl, sym, _∙_}
 use mathlib.Core.List.{List, _++_, append-nil}
-use mathlib.Core.Bool.{Bool, true, false, cond, _||_}
+use mathlib.Core.Bool.{Bool, true, false, cond}
 use Prim.Native.Nat.{ℕ, suc, _+_, _≤_, _<_}
 use native.Mathlib.Omega.{arith}
 use native.Mathlib.Numerals.{add-one}
@@ -12,6 +12,7 @@ use borrow.Author.Tests.{lt-ltb, le-ltb, le-leb, eq-eqb, ne-eqb}
 use Rattle.text.specs.Numbers.{twoBytes}
 use Rattle.text.specs.Stores.{storedBuffer, numberBuffer}
 use Rattle.text.proofs.Buffers.{sets-append}
+use Rattle.text.proofs.Choices.{or-right}
 use Rattle.chunks.specs.Stored.{Chunk, typeBits, indentBit, storedIndent, storedHead, storedChunk, WellFormed}
 use Rattle.chunks.specs.Appending.{withSpace, withColon, capacity, unstorable, appended, roomAfter}
 use Rattle.chunks.specs.Steps.{byteIf}
@@ -94,11 +95,6 @@ module _ (spaced : Bool) (text : List ℕ) (colon : Bool) where
       third)
 
 -- ---- the answers, each with what the room then holds
-
--- a disjunction is true where its right part is
-or-right : (a b : Bool) → b ≡ true → (a || b) ≡ true
-or-right true b e = refl
-or-right false b e = e
 
 -- what appending a chunk answers, and the room then
 abbrev pub Appends : List ℕ → ℕ → Chunk → Appended → List ℕ → Type 0

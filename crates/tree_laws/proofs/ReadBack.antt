@@ -14,7 +14,7 @@ use Rattle.answers.specs.declared.Checked.the-variants.{Passed}
 use Rattle.text.specs.Numbers.{twoBytes}
 use Rattle.text.specs.Accepted.{acceptedText}
 use Rattle.text.specs.Ink.{flat}
-use Rattle.text.proofs.Choices.{by-test, true-false}
+use Rattle.text.proofs.Choices.{by-test, true-false, or-right}
 use Rattle.tree.specs.Grammar.{Slot, must, may, kindOf, rule, fields}
 use Rattle.tree.specs.Tree.{Tree, Trivium, absent, node, Vec, Leaf, PathItem, chain, built}
 use Rattle.tree.specs.Own.{mayStand, fieldsFit, textFits, elseFits, mapFits, textEnd, restOf, readOwn, ownOf}
@@ -237,16 +237,11 @@ some-bytes (suc levels) class at tree formed = formed-some formed
 
 -- ---- a record
 
--- a choice of tests is true where the second is
-or-true : (first second : Bool) → second ≡ true → (first || second) ≡ true
-or-true true second e = refl
-or-true false second e = e
-
 -- trivia stand only where they may
 trivia-may : {located : Bool} {items : List Trivium} → TriviaFit located items → (allowed : Bool) → (located ≡ true → allowed ≡ true)
     → (bit : ℕ) → bit ≡ triviaBit items → (eqb bit 0 || allowed) ≡ true
 trivia-may well.without allowed located bit is = rw is
-trivia-may (well.with count each) allowed located bit is = or-true (eqb bit 0) allowed (located refl)
+trivia-may (well.with count each) allowed located bit is = or-right (eqb bit 0) allowed (located refl)
 
 -- a bit of trivia and other bits
 pub bit-below : (items : List Trivium) (bits : ℕ) → ((triviaBit items + 2 * bits) % 2 ≡ triviaBit items) × ((triviaBit items + 2 * bits) / 2 ≡ bits)
@@ -427,7 +422,7 @@ module _ (bytes : List ℕ) (levels : ℕ) (class : Class) (at : ℕ) where
       formed-found (well.leaf {trivia} {text} within trivia-fit text-fit) here =
           leaf-found text refl refl within trivia-fit (λ e. rw e) text-fit (rw (leaf-form at 25 variant.Leaf trivia text refl refl) at here)
       formed-found (well.path {trivia} {text} within trivia-fit text-fit) here =
-          leaf-found text refl refl within trivia-fit (λ e. or-true (rule class .located) true refl) text-fit (rw (leaf-form at 26 variant.PathItem trivia text refl refl) at here)
+          leaf-found text refl refl within trivia-fit (λ e. or-right (rule class .located) true refl) text-fit (rw (leaf-form at 26 variant.PathItem trivia text refl refl) at here)
       formed-found (well.fielded {number} {kind} {trivia} {parts} known other within trivia-fit fits together) here =
           fielded-found known other within trivia-fit fits together
           (rw (fielded-form at number kind (rule class .value) trivia parts known other (parts-counted fits)) at here)
