@@ -7,12 +7,11 @@ use Prim.Native.Nat.{ℕ, _+_, _≤_}
 use native.Mathlib.Omega.{arith}
 use lib.ListN.{length, take, drop, take-append-drop}
 use lib.Dec.{eqb, ltb}
-use borrow.Author.Tests.{eqb-true}
-use Rattle.text.specs.Ink.{ink, inks, blank, allBlank, spaces}
+use Rattle.text.specs.Ink.{ink, inks, allBlank, spaces}
 use Rattle.text.specs.Lines.{onto, isNewline}
 use Rattle.text.proofs.Choices.{cond-both, by-test, true-false, and-true-left, and-true-right}
 use Rattle.text.proofs.Ink.{ink-append, inks-append, ink-flat, ink-before, ink-behind, ink-blank, trim-ink}
-use Rattle.text.proofs.Lines.{ink-joined}
+use Rattle.text.proofs.Lines.{ink-joined, ink-newline}
 use Rattle.chunks.specs.Stored.{Chunk, AllWellFormed}
 use Rattle.chunks.specs.declared.stored.ChunkType.{ChunkType}
 use Rattle.chunks.specs.declared.stored.ChunkType.the-variants.{Code, Label, Comment}
@@ -32,19 +31,12 @@ ignored-newline Code margins n text e = and-true-left (isNewline text) _ e
 ignored-newline Label margins n text e = true-false (sym e)
 ignored-newline Comment margins n text e = true-false (sym e)
 
--- a newline has no ink
-newline-ink : (text : List ℕ) → isNewline text ≡ true → ink text ≡ []
-unfolding isNewline ink blank
-newline-ink [] e = refl
-newline-ink (b ∷ []) e = rw (eqb-true b 10 e)
-newline-ink (b ∷ c ∷ bs) e = true-false (sym e)
-
 -- a piece adds its ink
 added-ink : (margins : Margins) (n : ℕ) (piece : Piece) → ink (added margins n piece) ≡ ink (piece .text)
 unfolding ink ignored
 added-ink margins n piece =
     added-between (λ (bytes : List ℕ). ink bytes ≡ ink (piece .text)) margins n piece
-    (λ e. sym (newline-ink (piece .text) (ignored-newline (piece .ty) margins n (piece .text) e)))
+    (λ e. sym (ink-newline (piece .text) (ignored-newline (piece .ty) margins n (piece .text) e)))
     (λ _ before behind _. ink-before before (piece .text ++ spaces behind) ∙ ink-behind (piece .text) behind)
 
 add-ink : (margins : Margins) (line : Line) (piece : Piece) → ink (add margins line piece .bytes) ≡ ink (line .bytes) ++ ink (piece .text)

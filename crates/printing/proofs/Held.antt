@@ -5,11 +5,11 @@ use mathlib.Core.Bool.{Bool, true, false}
 use Prim.Native.Nat.{ℕ, _+_}
 use lib.ListN.{length}
 use lib.Dec.{ltb}
-use borrow.Author.Tests.{eqb-true}
 use Rattle.text.specs.Ink.{blank, ink, inks}
 use Rattle.text.specs.Lines.{isEmpty, isNewline}
 use Rattle.text.proofs.Choices.{by-test, true-false, cond-both}
 use Rattle.text.proofs.Ink.{inks-append}
+use Rattle.text.proofs.Lines.{ink-newline}
 use Rattle.chunks.specs.Stored.{Chunk, storedChunk}
 use Rattle.chunks.specs.Appending.{withSpace, capacity}
 use Rattle.printing.specs.Events.{Events, nothing, push, space, clear, trim, stop, _▹_}
@@ -28,13 +28,6 @@ ink-empty : (text : List ℕ) → isEmpty text ≡ true → ink text ≡ []
 unfolding ink
 ink-empty [] empty = refl
 ink-empty (b ∷ text) empty = true-false (sym empty)
-
--- nor a newline
-ink-newline : (text : List ℕ) → isNewline text ≡ true → ink text ≡ []
-unfolding ink blank isNewline
-ink-newline [] newline = refl
-ink-newline (b ∷ []) newline = rw (eqb-true b 10 newline)
-ink-newline (b ∷ c ∷ text) newline = true-false (sym newline)
 
 -- ---- chunks
 

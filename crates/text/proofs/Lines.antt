@@ -6,9 +6,9 @@ use Prim.Native.Nat.{ℕ, zero, suc, _<_}
 use native.Mathlib.Omega.{arith}
 use lib.ListN.{length}
 use lib.Dec.{eqb}
-use borrow.Author.Tests.{not-true}
+use borrow.Author.Tests.{not-true, eqb-true}
 use Rattle.text.specs.Ink.{blank, ink, inks, spaces}
-use Rattle.text.specs.Lines.{onto, parted, linesOf, hasNewline, newlineAt, plain, behind, joined}
+use Rattle.text.specs.Lines.{onto, parted, linesOf, isNewline, hasNewline, newlineAt, plain, behind, joined}
 use Rattle.text.proofs.Choices.{by-test, true-false, and-true-left, and-true-right}
 use Rattle.text.proofs.Ink.{ink-append}
 
@@ -37,6 +37,13 @@ pub newline-at-none : (xs : List ℕ) → hasNewline xs ≡ false → newlineAt 
 unfolding hasNewline newlineAt
 newline-at-none [] e = refl
 newline-at-none (x ∷ xs) e = by-test (eqb x 10) (λ q. true-false (rw q at e)) (λ q. rw q (omega (arith, newline-at-none xs (rw q at e))))
+
+-- a newline has no ink
+pub ink-newline : (text : List ℕ) → isNewline text ≡ true → ink text ≡ []
+unfolding isNewline ink blank
+ink-newline [] e = refl
+ink-newline (b ∷ []) e = rw (eqb-true b 10 e)
+ink-newline (b ∷ c ∷ bs) e = true-false (sym e)
 
 -- ---- joined lines
 
