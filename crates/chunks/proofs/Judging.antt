@@ -10,8 +10,8 @@ use lib.Dec.{eqb, ltb}
 use borrow.Author.Tests.{le-leb, lt-ltb, le-ltb, eq-eqb, ne-eqb, ltb-false, eqb-true}
 use Rattle.answers.specs.declared.Checked.{Checked}
 use Rattle.answers.specs.declared.Checked.the-variants.{Passed, Failed}
-use Rattle.answers.specs.declared.Refusal.{Refusal}
 use Rattle.answers.specs.declared.Reason.the-variants.{ChunkLayout, NotAscii}
+use Rattle.answers.proofs.Cases.{failed-passed}
 use Rattle.text.specs.Numbers.{numberAt}
 use Rattle.text.specs.Accepted.{acceptedText, faultAt}
 use Rattle.text.proofs.Choices.{by-test}
@@ -190,20 +190,16 @@ module _ (list : List ℕ) (short : length list ≤ 1048576) (accepted : accepte
 
 -- ---- what a judgement that is passed tells
 
--- a refusal is no acceptance
-passed-failed : {A : Type 0} {refusal : Refusal} → Failed refusal ≡ Passed → A
-passed-failed e = let z : _≡_ {A = ℕ} 0 1 = cc in absurd (omega arith)
-
 module _ (list : List ℕ) (passed : chunksChecked list ≡ Passed) where
   -- the list is within the limit
   pub passed-short : length list ≤ 1048576
   unfolding chunksChecked layoutChecked
-  passed-short = by-test (ltb 1048576 (length list)) (λ e. passed-failed (rw e at passed)) (λ e. ltb-false _ _ e)
+  passed-short = by-test (ltb 1048576 (length list)) (λ e. failed-passed (rw e at passed)) (λ e. ltb-false _ _ e)
 
   -- its chunks end where it does
   pub passed-end : endFrom 0 (storedChunks list 0) ≡ length list
   unfolding chunksChecked layoutChecked
-  passed-end = by-test (eqb (endFrom 0 (storedChunks list 0)) (length list)) (λ e. eqb-true _ _ e) (λ e. passed-failed (rw (le-ltb _ _ passed-short, e) at passed))
+  passed-end = by-test (eqb (endFrom 0 (storedChunks list 0)) (length list)) (λ e. eqb-true _ _ e) (λ e. failed-passed (rw (le-ltb _ _ passed-short, e) at passed))
 
   -- and no text is refused
   pub passed-texts : textsChecked list (storedChunks list 0) ≡ Passed
@@ -230,4 +226,4 @@ accepted-texts list [] passed = tt
 accepted-texts list (chunk ∷ chunks) passed =
     by-test (acceptedText (slice (chunk .start) (chunk .end) list))
     (λ e. (e, accepted-texts list chunks (rw e at passed)))
-    (λ e. passed-failed (rw e at passed))
+    (λ e. failed-passed (rw e at passed))

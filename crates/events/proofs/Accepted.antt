@@ -11,6 +11,7 @@ use lib.ListN.{length, replicate, length-append, length-take, length-replicate}
 use lib.Dec.{eqb, ltb}
 use borrow.Author.Tests.{ltb-false}
 use Rattle.answers.specs.declared.Checked.the-variants.{Passed}
+use Rattle.answers.proofs.Cases.{failed-passed}
 use Rattle.options.specs.declared.FormattingOptions.{FormattingOptions}
 use Rattle.text.specs.Accepted.{acceptedByte, acceptedText}
 use Rattle.text.specs.Lines.{isEmpty, isNewline}
@@ -22,7 +23,7 @@ use Rattle.chunks.specs.declared.stored.ChunkType.{ChunkType}
 use Rattle.chunks.proofs.RoundTrip.{chunks-stored, stored-accepted}
 use Rattle.tree.specs.Reading.{Placed}
 use Rattle.tree.specs.Checking.{readFile, lengthChecked, textsChecked, batchChecked}
-use Rattle.tree.proofs.Cases.{by-choice, failed-passed}
+use Rattle.tree.proofs.Cases.{by-choice}
 use Rattle.tree.proofs.Readings.{file-passed}
 use Rattle.printing.specs.Events.{Events}
 use Rattle.printing.specs.Running.{Run, going, ended, atStart, run, settled}

@@ -2,12 +2,13 @@
 use mathlib.Core.Path.{_≡_, refl}
 use Rattle.answers.specs.declared.Checked.the-variants.{Passed}
 use Rattle.answers.specs.Numbers.{andThen}
+use Rattle.answers.proofs.Cases.{failed-passed}
 use Rattle.tree.specs.Tree.{Tree, absent, refused, node, nil, cons, Align, Assert, Braces, Config, ConfigPair, Data, Definition, Eof, Error}
 use Rattle.tree.specs.Tree.{Expression, If, Import, File, Instruction, Label, Loop, MacroDefinition, MacroInvocation, ProgramCounterDefinition}
 use Rattle.tree.specs.Tree.{Segment, Test, Text, Trace, VariableDefinition, Vec, Leaf, PathItem, Block, BinaryExpression, Factor}
 use Rattle.tree.specs.Tree.{CurrentProgramCounter, ExprParens, FunctionCall, IdentifierValue, Number, StringFactor, InterpolatedString, Operand}
 use Rattle.tree.specs.Tree.{RegisterSuffix, ImportAs, ImportAll, SpecificImportArg, ArgItem}
-use Rattle.tree.proofs.Cases.{failed-passed, both-passed}
+use Rattle.tree.proofs.Cases.{both-passed}
 use Rattle.events.specs.Refusals.{firstRefusal, ownRefusal, headRefusal}
 
 -- its own bytes were read

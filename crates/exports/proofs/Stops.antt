@@ -9,6 +9,7 @@ use lib.Dec.{eqb}
 use Rattle.answers.specs.declared.Checked.{Checked}
 use Rattle.answers.specs.declared.Checked.the-variants.{Passed, Failed}
 use Rattle.answers.specs.Numbers.{andThen}
+use Rattle.answers.proofs.Cases.{failed-passed}
 use Rattle.options.specs.declared.BracePosition.{BracePosition}
 use Rattle.options.specs.declared.BracePosition.the-variants.{SameLine, NewLine}
 use Rattle.options.specs.declared.FormattingOptions.{FormattingOptions}
@@ -20,7 +21,7 @@ use Rattle.tree.specs.Tree.{CurrentProgramCounter, ExprParens, FunctionCall, Id
 use Rattle.tree.specs.Tree.{RegisterSuffix, ImportAs, ImportAll, SpecificImportArg, ArgItem}
 use Rattle.tree.specs.Checking.{readFile, batchChecked}
 use Rattle.tree.specs.declared.grammar.Class.the-variants.{Tokens}
-use Rattle.tree.proofs.Cases.{failed-passed, both-passed}
+use Rattle.tree.proofs.Cases.{both-passed}
 use Rattle.tree.proofs.Readings.{file-passed}
 use Rattle.printing.specs.Events.{Events}
 use Rattle.printing.specs.declared.Context.{Context}

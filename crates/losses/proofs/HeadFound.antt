@@ -5,6 +5,7 @@ use mathlib.Core.Bool.{Bool}
 use Prim.Native.Nat.{ℕ}
 use Rattle.answers.specs.declared.Refusal.{Refusal}
 use Rattle.answers.specs.declared.Checked.the-variants.{Passed}
+use Rattle.answers.proofs.Cases.{failed-passed}
 use Rattle.tree.specs.Own.{readOwn, Fits}
 use Rattle.tree.specs.Parts.{headAt}
 use Rattle.tree.specs.Reading.{triviaOf, read}
@@ -16,7 +17,6 @@ use Rattle.tree.specs.declared.own.OwnRead.the-variants.{Record, Refused}
 use Rattle.tree.specs.declared.parts.Head.{Head}
 use Rattle.tree.specs.declared.parts.HeadRead.{HeadRead}
 use Rattle.tree.specs.declared.parts.HeadRead.the-variants.{Found, NoHead}
-use Rattle.tree.proofs.Cases.{failed-passed}
 use Rattle.events.specs.Views.{view}
 use Rattle.events.specs.Refusals.{headRefusal}
 use Rattle.events.proofs.Heads.{head-is, head-missing, head-refused}

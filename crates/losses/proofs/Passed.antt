@@ -7,6 +7,7 @@ use Prim.Native.Nat.{ℕ}
 use native.Mathlib.Omega.{arith}
 use Rattle.answers.specs.declared.Refusal.{Refusal}
 use Rattle.answers.specs.declared.Checked.the-variants.{Passed}
+use Rattle.answers.proofs.Cases.{failed-passed}
 use Rattle.tree.specs.Own.{readOwn}
 use Rattle.tree.specs.Parts.{skipped}
 use Rattle.tree.specs.Reading.{read}
@@ -15,7 +16,6 @@ use Rattle.tree.specs.declared.own.Own.{Own}
 use Rattle.tree.specs.declared.own.OwnRead.{OwnRead}
 use Rattle.tree.specs.declared.own.OwnRead.the-variants.{Record, Refused}
 use Rattle.tree.specs.declared.parts.Skipped.the-variants.{Next, NotSkipped}
-use Rattle.tree.proofs.Cases.{failed-passed}
 use Rattle.events.specs.Views.{view, standsAt}
 use Rattle.events.proofs.Heads.{own-refused}
 use Rattle.events.proofs.Passed.{own-passed}

@@ -10,6 +10,7 @@ use lib.Dec.{eqb}
 use lib.Seq.{slice}
 use borrow.Author.Tests.{eqb-true, ne-eqb}
 use Rattle.answers.specs.declared.Checked.the-variants.{Passed}
+use Rattle.answers.proofs.Cases.{failed-passed}
 use Rattle.text.specs.Numbers.{numberAt}
 use Rattle.text.proofs.Choices.{by-test, true-false, and-true-left, and-true-right}
 use Rattle.tree.specs.Grammar.{Slot, must, may, kindOf, rule, fields}
@@ -25,7 +26,7 @@ use Rattle.tree.specs.declared.grammar.Items.the-variants.{NoList, ListOf}
 use Rattle.tree.specs.declared.own.Own.{Own}
 use Rattle.tree.specs.declared.own.OwnRead.the-variants.{Record}
 use Rattle.tree.specs.declared.own.TriviaSpan.{TriviaSpan}
-use Rattle.tree.proofs.Cases.{failed-passed, both-passed}
+use Rattle.tree.proofs.Cases.{both-passed}
 use Rattle.tree.proofs.KindLayout.{leaf-stored}
 use Rattle.tree.proofs.OwnBytes.{Headed, leafNumber, trivia-cases, own-cases}
 use Rattle.tree.proofs.RoundTrip.{no-items, node-fits}

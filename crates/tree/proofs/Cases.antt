@@ -7,6 +7,7 @@ use Rattle.answers.specs.declared.Refusal.{Refusal}
 use Rattle.answers.specs.declared.Checked.{Checked}
 use Rattle.answers.specs.declared.Checked.the-variants.{Passed, Failed}
 use Rattle.answers.specs.Numbers.{andThen}
+use Rattle.answers.proofs.Cases.{failed-passed}
 use Rattle.tree.specs.declared.own.Own.{Own}
 use Rattle.tree.specs.declared.own.OwnRead.the-variants.{Record, Refused}
 use Rattle.tree.specs.declared.own.Span.the-variants.{Behind, Broken}
@@ -30,10 +31,6 @@ broken-behind e = let z : _≡_ {A = ℕ} 0 1 = cc in absurd (omega arith)
 -- broken trivia are none
 pub broken-trivia : {R : Type 0} {trivia : TriviaSpan} → BrokenTrivia ≡ Trivia trivia → R
 broken-trivia e = let z : _≡_ {A = ℕ} 0 1 = cc in absurd (omega arith)
-
--- a judgement that failed did not pass
-pub failed-passed : {R : Type 0} {refusal : Refusal} → Failed refusal ≡ Passed → R
-failed-passed e = let z : _≡_ {A = ℕ} 0 1 = cc in absurd (omega arith)
 
 -- of two judgements that passed both did
 pub both-passed : (first second : Checked) → andThen first second ≡ Passed → (first ≡ Passed) × (second ≡ Passed)

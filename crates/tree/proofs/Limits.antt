@@ -9,6 +9,7 @@ use lib.ListN.{length}
 use lib.Dec.{eqb, ltb, eqb·suc-zero}
 use borrow.Author.Tests.{le-ltb, ltb-false}
 use Rattle.answers.specs.declared.Checked.the-variants.{Passed}
+use Rattle.answers.proofs.Cases.{failed-passed}
 use Rattle.tree.specs.Own.{readOwn}
 use Rattle.tree.specs.Reading.{Due, nothing, due, Reader, partsDue, readParts, recordOf, readOn, unread, read}
 use Rattle.tree.specs.Checking.{readFile, lengthChecked, treeChecked}
@@ -16,7 +17,7 @@ use Rattle.tree.specs.declared.grammar.Class.{Class}
 use Rattle.tree.specs.declared.grammar.Class.the-variants.{Tokens}
 use Rattle.tree.specs.declared.own.OwnRead.{OwnRead}
 use Rattle.tree.specs.declared.own.OwnRead.the-variants.{Record, Refused}
-use Rattle.tree.proofs.Cases.{by-choice, failed-passed, both-passed}
+use Rattle.tree.proofs.Cases.{by-choice, both-passed}
 use Rattle.tree.proofs.Readings.{no-record, file-passed}
 
 -- a record's own bytes are read alike at all levels but the last

@@ -11,6 +11,7 @@ use lib.Dec.{eqb, ltb, leb}
 use lib.Seq.{slice, slice-empty, length-slice, take-length}
 use borrow.Author.Tests.{ltb-true, ltb-false, leb-false, eqb-true, eqb-false}
 use Rattle.answers.specs.declared.Checked.the-variants.{Passed}
+use Rattle.answers.proofs.Cases.{failed-passed}
 use Rattle.text.specs.Numbers.{twoBytes, numberAt}
 use Rattle.text.specs.Ink.{flat}
 use Rattle.text.proofs.Choices.{by-test, true-false, and-true-left, and-true-right}
@@ -35,7 +36,7 @@ use Rattle.tree.specs.declared.own.OwnRead.the-variants.{Record}
 use Rattle.tree.specs.declared.own.Span.the-variants.{Behind}
 use Rattle.tree.specs.declared.own.TriviaSpan.{TriviaSpan}
 use Rattle.tree.specs.declared.own.TriviaRead.the-variants.{Trivia}
-use Rattle.tree.proofs.Cases.{by-choice, failed-passed, both-passed}
+use Rattle.tree.proofs.Cases.{by-choice, both-passed}
 use Rattle.tree.proofs.KindLayout.{kindNumber, node-stored, kind-number, forms-all, items-counted, items-stored, leaf-stored}
 use Rattle.tree.proofs.Places.{Stands, none-stands, both-stand, part-stands, byte-stands, number-stands}
 use Rattle.tree.proofs.OwnBytes.{TextHeld, ItemHeld, Headed, leafNumber, items-held, trivia-cases, own-cases}

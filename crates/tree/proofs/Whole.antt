@@ -6,13 +6,14 @@ use mathlib.Core.Bool.{true}
 use Prim.Native.Nat.{ℕ, zero, suc}
 use lib.ListN.{getD}
 use Rattle.answers.specs.declared.Checked.the-variants.{Passed}
+use Rattle.answers.proofs.Cases.{failed-passed}
 use Rattle.tree.specs.Tree.{Tree, absent, chain, built}
 use Rattle.tree.specs.Reading.{Due, nothing, due, Reader, partsDue, readParts, read}
 use Rattle.tree.specs.Measures.{whole}
 use Rattle.tree.specs.declared.grammar.Kind.{Kind}
 use Rattle.tree.specs.declared.grammar.Kind.the-variants as variant
 use Rattle.tree.specs.declared.grammar.Class.{Class}
-use Rattle.tree.proofs.Cases.{failed-passed, both-passed}
+use Rattle.tree.proofs.Cases.{both-passed}
 use Rattle.tree.proofs.Readings.{every-reading}
 
 -- whole items are a whole list

@@ -11,13 +11,14 @@ use lib.Dec.{eqb, ltb}
 use lib.Seq.{take-length}
 use borrow.Author.Tests.{ltb-false, le-ltb, ne-eqb}
 use Rattle.answers.specs.declared.Checked.the-variants.{Passed}
+use Rattle.answers.proofs.Cases.{failed-passed}
 use Rattle.tree.specs.Tree.{Tree}
 use Rattle.tree.specs.Reading.{read}
 use Rattle.tree.specs.Stored.{stored}
 use Rattle.tree.specs.Checking.{readFile, lengthChecked, treeChecked}
 use Rattle.tree.specs.declared.grammar.Class.{Class}
 use Rattle.tree.specs.declared.grammar.Class.the-variants.{Tokens}
-use Rattle.tree.proofs.Cases.{by-choice, failed-passed}
+use Rattle.tree.proofs.Cases.{by-choice}
 use Rattle.tree.proofs.Readings.{file-passed}
 use Rattle.tree.proofs.RoundTrip.{file-round-trip}
 use Rattle.tree_laws.specs.WellFormed.{WellFormed}

@@ -11,6 +11,7 @@ use lib.Dec.{eqb, leb}
 use lib.Seq.{slice, slice-empty}
 use borrow.Author.Tests.{eqb-true, lt-ltb, le-ltb, le-leb, lt-leb, eq-eqb, ne-eqb}
 use Rattle.answers.specs.declared.Checked.the-variants.{Passed}
+use Rattle.answers.proofs.Cases.{failed-passed}
 use Rattle.text.specs.Numbers.{twoBytes}
 use Rattle.text.specs.Accepted.{acceptedText}
 use Rattle.text.specs.Ink.{flat}
@@ -32,7 +33,7 @@ use Rattle.tree.specs.declared.grammar.Items.the-variants.{NoList, ListOf}
 use Rattle.tree.specs.declared.own.Own.{Own}
 use Rattle.tree.specs.declared.own.OwnRead.the-variants.{Record}
 use Rattle.tree.specs.declared.own.Span.the-variants.{Behind}
-use Rattle.tree.proofs.Cases.{by-choice, failed-passed}
+use Rattle.tree.proofs.Cases.{by-choice}
 use Rattle.tree.proofs.KindLayout.{kindNumber, formsFrom, node-stored, kind-number, forms-all, items-counted, items-stored, leaf-stored}
 use Rattle.tree.proofs.Places.{Stands}
 use Rattle.tree.proofs.OwnBytes.{leafNumber}

@@ -11,6 +11,7 @@ use lib.Dec.{eqb, ltb, leb}
 use lib.Seq.{slice, slice-empty, slice-cons, length-slice}
 use borrow.Author.Tests.{ltb-true, ltb-false, leb-true, leb-false, eqb-true, eqb-false, le-leb, ne-eqb}
 use Rattle.answers.specs.declared.Checked.the-variants.{Passed}
+use Rattle.answers.proofs.Cases.{failed-passed}
 use Rattle.text.specs.Numbers.{twoBytes, numberAt}
 use Rattle.text.specs.Accepted.{acceptedText}
 use Rattle.text.proofs.Choices.{by-test, true-false, and-true-left, and-true-right}
@@ -35,7 +36,7 @@ use Rattle.tree.specs.declared.own.Span.{Span}
 use Rattle.tree.specs.declared.own.Span.the-variants.{Behind, Broken}
 use Rattle.tree.specs.declared.own.TriviaSpan.{TriviaSpan}
 use Rattle.tree.specs.declared.own.TriviaRead.the-variants.{Trivia}
-use Rattle.tree.proofs.Cases.{by-choice, refused-record, broken-behind, failed-passed, both-passed}
+use Rattle.tree.proofs.Cases.{by-choice, refused-record, broken-behind, both-passed}
 use Rattle.tree.proofs.KindLayout.{kind-number}
 use Rattle.tree.proofs.OwnBytes.{TextHeld, Headed, leafNumber, text-held, item-held, items-held, trivia-cases, own-cases}
 use Rattle.tree.proofs.Readings.{every-reading}
