@@ -8,8 +8,7 @@ use mathlib.Core.Bool.{Bool, true, false}
 use Prim.Native.Nat.{ℕ, _+_, _≤_}
 use native.Mathlib.Omega.{arith}
 use lib.ListN.{length, replicate, length-append, length-take, length-replicate}
-use lib.Dec.{eqb, ltb}
-use borrow.Author.Tests.{ltb-false}
+use lib.Dec.{ltb}
 use Rattle.answers.specs.declared.Checked.the-variants.{Passed}
 use Rattle.answers.proofs.Cases.{failed-passed}
 use Rattle.options.specs.declared.FormattingOptions.{FormattingOptions}
@@ -22,8 +21,9 @@ use Rattle.chunks.specs.Appending.{withSpace, capacity}
 use Rattle.chunks.specs.declared.stored.ChunkType.{ChunkType}
 use Rattle.chunks.proofs.RoundTrip.{chunks-stored, stored-accepted}
 use Rattle.tree.specs.Reading.{Placed}
-use Rattle.tree.specs.Checking.{readFile, lengthChecked, textsChecked, batchChecked}
+use Rattle.tree.specs.Checking.{readFile, textsChecked, batchChecked}
 use Rattle.tree.proofs.Cases.{by-choice}
+use Rattle.tree.proofs.Limits.{length-passed}
 use Rattle.tree.proofs.Readings.{file-passed}
 use Rattle.printing.specs.Events.{Events}
 use Rattle.printing.specs.Running.{Run, going, ended, atStart, run, settled}
@@ -118,13 +118,6 @@ held-length room events fine {chunks} {pending} is =
     (rw (length-replicate {A = ℕ} room 0, is) at (same events fine (holds-nothing zeros)))
 
 -- ---- a file that passed
-
--- its length
-pub length-passed : (limit : ℕ) (bytes : List ℕ) → lengthChecked limit bytes ≡ Passed → length bytes ≤ limit
-length-passed limit bytes e =
-    by-choice (eqb (length bytes) 0) _ _ Passed e
-    (λ q f. failed-passed f)
-    (λ q f. by-choice (ltb limit (length bytes)) _ _ Passed f (λ long g. failed-passed g) (λ long g. ltb-false limit (length bytes) long))
 
 -- its texts
 texts-passed : (texts : List Placed) → textsChecked texts ≡ Passed → Holds (λ text. acceptedText text ≡ true) texts

@@ -22,9 +22,9 @@ use Rattle.chunks.proofs.Forms.{chunk-length}
 use Rattle.printing.specs.Events.{Events}
 use Rattle.printing.specs.Holding.{Held, held, refused, heldLength, holdChunk, withoutNewlines, hold, Storable}
 use Rattle.printing.proofs.Stops.{Free, none, pushes, spaces, clears, trims, _and_}
-use Rattle.events.proofs.Accepted.{length-passed}
 use Rattle.events.proofs.Storable.{file-storable}
 use Rattle.tree.specs.Checking.{batchChecked}
+use Rattle.tree.proofs.Limits.{length-passed}
 use Rattle.tree.proofs.Readings.{file-passed}
 use Rattle.tokens.specs.Chunks.{fileEvents, heldUnless, heldWith, chunksHeld}
 use Rattle.exports.proofs.Within.{Within}

@@ -27,9 +27,9 @@ use Rattle.tree.specs.declared.own.OwnRead.the-variants.{Record, Refused}
 use Rattle.tree.specs.declared.parts.HeadRead.{HeadRead}
 use Rattle.tree.specs.declared.parts.HeadRead.the-variants.{Found, NoHead}
 use Rattle.tree.proofs.Cases.{both-passed}
+use Rattle.tree.proofs.Limits.{length-passed}
 use Rattle.tree.proofs.Readings.{every-reading, no-record, file-passed}
 use Rattle.events.specs.Views.{view, ownTrivia, headOf, standsAt, tokenNumber, indexOf}
-use Rattle.events.proofs.Accepted.{length-passed}
 use Rattle.events.proofs.OwnParts.{record-headed}
 use Rattle.events.proofs.Heads.{head-is}
 use Rattle.leaves.proofs.Records.{read-record}

@@ -15,6 +15,7 @@ use Rattle.options.specs.declared.FormattingOptions.{FormattingOptions}
 use Rattle.options.specs.declared.OptionsRead.the-variants as options-are
 use Rattle.chunks.specs.Stored.{storedList}
 use Rattle.tree.specs.Checking.{batchChecked}
+use Rattle.tree.proofs.Limits.{length-passed}
 use Rattle.tree.proofs.Readings.{file-passed}
 use Rattle.printing.specs.Running.{going, ended, atStart, run, settled, outcome}
 use Rattle.printing.specs.Holding.{Held, held, refused, hold, Same}
@@ -23,7 +24,7 @@ use Rattle.printing.specs.declared.Printed.{Printed}
 use Rattle.printing.specs.declared.Printed.the-variants.{Done, Refused}
 use Rattle.printing.proofs.Holding.{holds-nothing, same}
 use Rattle.events.proofs.Storable.{file-storable}
-use Rattle.events.proofs.Accepted.{length-passed, file-accepted}
+use Rattle.events.proofs.Accepted.{file-accepted}
 use Rattle.tokens.specs.Chunks.{fileEvents, heldWith, chunksAnswer, RoomHolds, roomWith}
 use Rattle.tokens.specs.Settling.{Walks, printedAnswer}
 

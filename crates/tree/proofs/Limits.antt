@@ -57,6 +57,13 @@ same-read (suc levels) (suc more) bytes within class at e =
     rw (same-own bytes at class levels more)
     (same-record bytes (read levels bytes) (read more bytes) (same-read levels more bytes (omega arith)) class at (readOwn bytes at class (suc levels)) e)
 
+-- a length that passed is within the limit
+pub length-passed : (limit : ℕ) (bytes : List ℕ) → lengthChecked limit bytes ≡ Passed → length bytes ≤ limit
+length-passed limit bytes e =
+    by-choice (eqb (length bytes) 0) _ _ Passed e
+    (λ q f. failed-passed f)
+    (λ q f. by-choice (ltb limit (length bytes)) _ _ Passed f (λ long g. failed-passed g) (λ long g. ltb-false limit (length bytes) long))
+
 -- a greater length is allowed
 more-length : (limit more : ℕ) (bytes : List ℕ) → limit ≤ more → lengthChecked limit bytes ≡ Passed → lengthChecked more bytes ≡ Passed
 more-length limit more bytes within e =

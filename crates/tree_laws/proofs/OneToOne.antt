@@ -4,21 +4,19 @@
 --   stored-injective : .. WellFormed levels class at first → WellFormed levels class at second → stored first ≡ stored second → first ≡ second
 use mathlib.Core.Path.{_≡_, sym, _∙_}
 use mathlib.Core.List.{List, [], _++_}
-use Prim.Native.Nat.{ℕ, _+_, _≤_}
+use Prim.Native.Nat.{ℕ, _+_}
 use native.Mathlib.Omega.{arith}
 use lib.ListN.{length, replicate, length-replicate}
-use lib.Dec.{eqb, ltb}
 use lib.Seq.{take-length}
-use borrow.Author.Tests.{ltb-false, le-ltb, ne-eqb}
+use borrow.Author.Tests.{le-ltb, ne-eqb}
 use Rattle.answers.specs.declared.Checked.the-variants.{Passed}
-use Rattle.answers.proofs.Cases.{failed-passed}
 use Rattle.tree.specs.Tree.{Tree}
 use Rattle.tree.specs.Reading.{read}
 use Rattle.tree.specs.Stored.{stored}
-use Rattle.tree.specs.Checking.{readFile, lengthChecked, treeChecked}
+use Rattle.tree.specs.Checking.{readFile, treeChecked}
 use Rattle.tree.specs.declared.grammar.Class.{Class}
 use Rattle.tree.specs.declared.grammar.Class.the-variants.{Tokens}
-use Rattle.tree.proofs.Cases.{by-choice}
+use Rattle.tree.proofs.Limits.{length-passed}
 use Rattle.tree.proofs.Readings.{file-passed}
 use Rattle.tree.proofs.RoundTrip.{file-round-trip}
 use Rattle.tree_laws.specs.WellFormed.{WellFormed}
@@ -49,13 +47,6 @@ accepted limit levels tree within =
     let some = some-bytes levels Tokens 0 tree (within .formed) in
     rw (ne-eqb size 0 (omega arith), le-ltb limit size (within .long), found .passed, found .endIs, le-ltb size size (omega arith), found .accepted)
 
--- bytes whose length passed are within the limit
-within-limit : (limit : ℕ) (bytes : List ℕ) → lengthChecked limit bytes ≡ Passed → length bytes ≤ limit
-within-limit limit bytes passed =
-    by-choice (eqb (length bytes) 0) _ _ Passed passed
-    (λ q f. failed-passed f)
-    (λ q f. by-choice (ltb limit (length bytes)) _ _ Passed f (λ long g. failed-passed g) (λ long g. ltb-false limit (length bytes) long))
-
 -- storing and reading are inverse to each other between well-formed trees and accepted bytes within the limits
 pub one-to-one : (limit levels : ℕ) → Inverse (TreeWithin limit levels) (AcceptedWithin limit levels) stored (λ bytes. readFile levels bytes .tree)
 one-to-one limit levels = record {
@@ -64,7 +55,7 @@ one-to-one limit levels = record {
       let passed = file-passed limit levels bytes (within .passed) in
       record {
         formed = read-formed levels bytes (within .small) Tokens 0 (passed .layout) (passed .texts);
-        long = rw (file-round-trip limit levels bytes (within .small) (within .passed)) (within-limit limit bytes (passed .size));
+        long = rw (file-round-trip limit levels bytes (within .small) (within .passed)) (length-passed limit bytes (passed .size));
       };
   thereAndBack = λ tree within. file-read levels tree (within .formed) .treeIs;
   backAndThere = λ bytes within. file-round-trip limit levels bytes (within .small) (within .passed);
