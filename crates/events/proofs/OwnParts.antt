@@ -11,7 +11,7 @@ use native.Mathlib.Omega.{arith}
 use lib.ListN.{getD}
 use lib.Dec.{eqb}
 use borrow.Author.Tests.{eqb-true, eq-eqb}
-use Rattle.text.proofs.Choices.{by-test, true-false}
+use Rattle.text.proofs.Choices.{true-false}
 use Rattle.tree.specs.Grammar.{kindOf, rule, fields}
 use Rattle.tree.specs.Own.{fieldsFit, elseFits, ownOf, readOwn}
 use Rattle.tree.specs.Reading.{fieldsDue, partsDue}
@@ -25,7 +25,7 @@ use Rattle.tree.specs.declared.own.Own.{Own}
 use Rattle.tree.specs.declared.own.OwnRead.the-variants.{Record}
 use Rattle.tree.specs.declared.own.TriviaSpan.{TriviaSpan}
 use Rattle.tree.proofs.KindLayout.{kindNumber, kind-number}
-use Rattle.tree.proofs.OwnBytes.{Headed, leafNumber, own-cases}
+use Rattle.tree.proofs.OwnBytes.{Headed, leafNumber, own-cases, leaf-other}
 use Rattle.tree.proofs.RoundTrip.{no-items, node-fits}
 use Rattle.events.specs.Views.{view, tokenNumber, bitAt}
 
@@ -81,13 +81,6 @@ number-built variant.ArgItem text trees = refl
 -- so it has the byte of its kind
 pub token-number : (number : ℕ) (kind : Kind) (text : List ℕ) (trees : List Tree) → kindOf number ≡ Known kind → tokenNumber (built kind text trees) ≡ number
 token-number number kind text trees known = number-built kind text trees ∙ kind-number number kind known
-
--- a leaf is no list
-pub leaf-other : (number : ℕ) → leafNumber number ≡ true → eqb number 24 ≡ false
-leaf-other number leaf =
-    by-test (eqb number 25)
-    (λ q. rw (eqb-true number 25 q))
-    (λ q. let is : number ≡ 26 = eqb-true number 26 (rw q at leaf) in rw is)
 
 -- both fields behind the first branch of an `If` stand or none
 pub both-stand : (bits : ℕ) → elseFits 10 bits ≡ true → bitAt 3 bits ≡ bitAt 4 bits

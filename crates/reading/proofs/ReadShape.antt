@@ -28,11 +28,11 @@ use Rattle.tree.specs.declared.own.OwnRead.the-variants.{Record}
 use Rattle.tree.specs.declared.own.TriviaSpan.{TriviaSpan}
 use Rattle.tree.proofs.Cases.{both-passed}
 use Rattle.tree.proofs.KindLayout.{leaf-stored}
-use Rattle.tree.proofs.OwnBytes.{Headed, leafNumber, trivia-cases, own-cases}
+use Rattle.tree.proofs.OwnBytes.{Headed, leafNumber, trivia-cases, own-cases, leaf-other}
 use Rattle.tree.proofs.RoundTrip.{no-items, node-fits}
 use Rattle.tree.proofs.Readings.{every-reading}
 use Rattle.events.specs.Views.{view, tokenNumber, stands, bitAt}
-use Rattle.events.proofs.OwnParts.{token-number, leaf-other, both-stand}
+use Rattle.events.proofs.OwnParts.{token-number, both-stand}
 use Rattle.reading.proofs.Shape.{Allowed, TriviaAllowed, noTrivia, itemIn, Given, Shaped}
 
 -- ---- a tree of a kind

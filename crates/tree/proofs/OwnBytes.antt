@@ -185,6 +185,13 @@ trivia-of {bytes} {at} {class} {kind} {trivia} headed = trivia-held bytes (at + 
 abbrev pub leafNumber : ℕ → Bool
 leafNumber number = eqb number 25 || eqb number 26
 
+-- a leaf is no list
+pub leaf-other : (number : ℕ) → leafNumber number ≡ true → eqb number 24 ≡ false
+leaf-other number leaf =
+    by-test (eqb number 25)
+    (λ q. rw (eqb-true number 25 q))
+    (λ q. let is : number ≡ 26 = eqb-true number 26 (rw q at leaf) in rw is)
+
 -- what holds of the own bytes of lists, of leaves with a text, and of all others, holds of own bytes that were read
 module _ (bytes : List ℕ) (at : ℕ) (class : Class) (P : Own → Type 0)
     (list : (kind : Kind) (trivia : TriviaSpan) → Headed bytes at class kind trivia → getD bytes at 0 ≡ 24 → trivia .end + 2 ≤ length bytes

@@ -15,7 +15,7 @@ use Rattle.answers.proofs.Cases.{failed-passed}
 use Rattle.text.specs.Numbers.{twoBytes}
 use Rattle.text.specs.Accepted.{acceptedText}
 use Rattle.text.specs.Ink.{flat}
-use Rattle.text.proofs.Choices.{by-test, true-false, or-right}
+use Rattle.text.proofs.Choices.{by-test, or-right}
 use Rattle.tree.specs.Grammar.{Slot, must, may, kindOf, rule, fields}
 use Rattle.tree.specs.Tree.{Tree, Trivium, absent, node, Vec, Leaf, PathItem, chain, built}
 use Rattle.tree.specs.Own.{mayStand, fieldsFit, textFits, elseFits, mapFits, textEnd, restOf, readOwn, ownOf}
@@ -36,7 +36,7 @@ use Rattle.tree.specs.declared.own.Span.the-variants.{Behind}
 use Rattle.tree.proofs.Cases.{by-choice}
 use Rattle.tree.proofs.KindLayout.{kindNumber, formsFrom, node-stored, kind-number, forms-all, items-counted, items-stored, leaf-stored}
 use Rattle.tree.proofs.Places.{Stands}
-use Rattle.tree.proofs.OwnBytes.{leafNumber}
+use Rattle.tree.proofs.OwnBytes.{leafNumber, leaf-other}
 use Rattle.tree_laws.specs.WellFormed.{TriviaFit, TextFits, FieldsFit, standing, leftOut, ItemsFit, Formed, ElseFits, Within, WellFormed}
 use Rattle.tree_laws.specs.WellFormed as well
 use Rattle.tree_laws.proofs.Standing.{ends, apart, byte-at, number-at, Sized, sized}
@@ -276,10 +276,6 @@ text-read {bytes} {at} {end} byte text (well.one {low} {high} low-is high-is acc
     let letter = byte-at byte [] (sized .letters) in
     rw (le-leb (at + 2) (length bytes) (sized .room), sized .count, lt-ltb (at + 2) (length bytes) (letter .1), letter .0, le-leb low byte low-is, le-leb byte high high-is, last)
 
--- a leaf's number is no list's
-pub leaf-number : (number : ℕ) → leafNumber number ≡ true → eqb number 24 ≡ false
-leaf-number number leaf = by-test (eqb number 24) (λ q. true-false (sym (rw (eqb-true number 24 q) at leaf))) (λ q. q)
-
 -- the bits of an `If` are those of parts that stand together
 else-may : (number : ℕ) (kind : Kind) (bits : ℕ) → kindOf number ≡ Known kind → (kind ≡ variant.If → bits / 8 % 2 ≡ bits / 16 % 2) → elseFits number bits ≡ true
 else-may number kind bits known together =
@@ -340,13 +336,13 @@ module _ (bytes : List ℕ) (levels : ℕ) (class : Class) (at : ℕ) where
   text-found {number} {flags} {end} {kind} {trivia} [] fits head flags-are leaf known own =
       let last : head .trivia .span .end ≡ end = omega (arith, head .trivia .last, ends (head .behind)) in
       let low : leb 2 flags ≡ false = lt-leb 2 flags (omega (arith, bit-below trivia 0 .0)) in
-      leaf-own end head leaf known (own ∙ rw (leaf-number number leaf, leaf, low, last)) (slice-empty end bytes) (text-accepted fits)
+      leaf-own end head leaf known (own ∙ rw (leaf-other number leaf, leaf, low, last)) (slice-empty end bytes) (text-accepted fits)
   text-found {number} {flags} {end} {kind} {trivia} (byte ∷ text) fits head flags-are leaf known own =
       let start : head .trivia .span .end ≡ at + 2 + length (storedTrivia trivia) = head .trivia .last in
       let high : leb 2 flags ≡ true = le-leb 2 flags (omega arith) in
       let letters = sized (byte ∷ text) (head .behind) in
       leaf-own (at + 2 + length (storedTrivia trivia) + 2) head leaf known
-      (own ∙ rw (leaf-number number leaf, leaf, high, start, text-read byte text fits letters)) (sym (letters .letters .same)) (text-accepted fits)
+      (own ∙ rw (leaf-other number leaf, leaf, high, start, text-read byte text fits letters)) (sym (letters .letters .same)) (text-accepted fits)
 
   -- a leaf or path item
   leaf-found : {number end : ℕ} {kind : Kind} {located : Bool} {trivia : List Trivium} (text : List ℕ)
@@ -358,7 +354,7 @@ module _ (bytes : List ℕ) (levels : ℕ) (class : Class) (at : ℕ) where
       let bits : ℕ = partBits (storedText text ∷ []) in
       let flags : ℕ = triviaBit trivia + 2 * bits in
       let below = bit-below trivia bits in
-      let not-list = leaf-number number leaf in
+      let not-list = leaf-other number leaf in
       let head = head-read number flags trivia (storedText text) trivia-fit (rw (append-nil (storedText text)) at here) in
       let stands : mayStand (rule class) number ≡ true = rw (not-list, le-leb (rule class .first) number (within .0), le-leb number (rule class .last) (within .1)) in
       let fits : mapFits (rule class) number kind flags ≡ true =

@@ -38,14 +38,14 @@ use Rattle.tree.specs.declared.own.TriviaSpan.{TriviaSpan}
 use Rattle.tree.specs.declared.own.TriviaRead.the-variants.{Trivia}
 use Rattle.tree.proofs.Cases.{by-choice, refused-record, broken-behind, both-passed}
 use Rattle.tree.proofs.KindLayout.{kind-number}
-use Rattle.tree.proofs.OwnBytes.{TextHeld, Headed, leafNumber, text-held, item-held, items-held, trivia-cases, own-cases}
+use Rattle.tree.proofs.OwnBytes.{TextHeld, Headed, leafNumber, text-held, item-held, items-held, trivia-cases, own-cases, leaf-other}
 use Rattle.tree.proofs.Readings.{every-reading}
 use Rattle.tree.proofs.RoundTrip.{round-trip}
 use Rattle.tree_laws.specs.WellFormed.{TriviumFits, EachFits, TriviaFit, TextFits, FieldsFit, ItemsFit, Within, ElseFits, Formed, WellFormed}
 use Rattle.tree_laws.specs.WellFormed as well
 use Rattle.tree_laws.specs.Correspondence.{AllBytes}
 use Rattle.tree_laws.proofs.Heads.{own-read}
-use Rattle.tree_laws.proofs.ReadBack.{leaf-number, only-fields}
+use Rattle.tree_laws.proofs.ReadBack.{only-fields}
 
 -- where a text and those behind it are accepted, each is
 texts-one : (text : Placed) (texts : List Placed) → textsChecked (text ∷ texts) ≡ Passed → (acceptedText (text .bytes) ≡ true) × (textsChecked texts ≡ Passed)
@@ -414,7 +414,7 @@ module _ (bytes : List ℕ) (small : AllBytes bytes) (levels : ℕ) (below : (cl
     leaf-formed kind trivia text parts headed leaf accepted fits =
         let number : ℕ = getD bytes at 0 in
         let flags : ℕ = getD bytes (at + 1) 0 in
-        let other = leaf-number number leaf in
+        let other = leaf-other number leaf in
         let told = map-told (rule class) number kind flags (headed .fits) other in
         let within = within-told class number (headed .standing) other in
         by-test (eqb number 25)
@@ -439,7 +439,7 @@ module _ (bytes : List ℕ) (small : AllBytes bytes) (levels : ℕ) (below : (cl
     text-own kind trivia end headed leaf high held own passed texts =
         let number : ℕ = getD bytes at 0 in
         let flags : ℕ = getD bytes (at + 1) 0 in
-        let rest = rw (leaf-number number leaf, leaf, le-leb 2 flags high) at (sym (own-read levels headed) ∙ own) in
+        let rest = rw (leaf-other number leaf, leaf, le-leb 2 flags high) at (sym (own-read levels headed) ∙ own) in
         let is : textEnd bytes (trivia .end) (rule class .text) ≡ Behind end = leaf-end at kind flags trivia end (textEnd bytes (trivia .end) (rule class .text)) rest in
         leaf-formed kind trivia (slice (trivia .end + 2) end bytes) _ headed leaf (texts .trivia) (text-formed bytes small (rule class .text) (trivia .end) end is (texts .text))
 
