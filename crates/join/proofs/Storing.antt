@@ -3,7 +3,7 @@ use mathlib.Core.Path.{_≡_, refl, sym, ap, _∙_}
 use mathlib.Core.List.{List, [], _∷_, _++_}
 use Prim.Native.Nat.{ℕ, zero, suc, _+_, _-_, _/_, _≤_, _<_}
 use native.Mathlib.Omega.{arith}
-use lib.ListN.{length, getD, take, drop, set, take-append-drop, length-append, length-replicate}
+use lib.ListN.{length, getD, take, drop, set, take-append-drop, length-replicate}
 use lib.Seq.{slice, sets, sets-eq, length-sets, length-slice, length-take-le, take-all, take-take, take-suc, take-set-le, drop-set-lt, drop-append-le}
 use borrow.Author.Tests.{le-leb}
 use Rattle.text.specs.Ink.{spaces}
@@ -14,7 +14,7 @@ use Rattle.join.specs.Walk.{puts}
 use Rattle.join.specs.declared.piece.Step.{Step}
 use Rattle.join.specs.declared.line.Window.{Window}
 use Rattle.join.proofs.Pieces.{slice-one}
-use Rattle.join.proofs.Windows.{stepBytes, puts-slice}
+use Rattle.join.proofs.Windows.{stepBytes, puts-slice, step-length}
 
 -- what stands before a run is left
 take-sets : (bytes text : List ℕ) (at n : ℕ) → n ≤ at → take n (sets text at bytes) ≡ take n text
@@ -131,11 +131,6 @@ sets-step text place list step inside e f g =
     rw (g, f, e, part-slice (step .from) (step .to) list, ← (length-slice (step .from) (step .to) list inside))
     (sym (sets-append text place (spaces (step .before)) (part ++ spaces (step .behind)) ∙ rw (length-replicate {A = ℕ} (step .before) 32) behind))
 
--- how many bytes it has
-step-size : (list : List ℕ) (step : Step) → step .to ≤ length list → length (stepBytes list step) ≡ step .before + (step .to - step .from) + step .behind
-step-size list step inside =
-    simp (length-append, length-replicate, length-slice (step .from) (step .to) list inside) (omega arith)
-
 -- bytes of which the window shows all are stored as they are
 puts-all : (text : List ℕ) (window : Window) (at : ℕ) (bytes : List ℕ) → window .low ≤ at → at + length bytes ≤ window .high
     → sets text (window .base + (at - window .low)) bytes ≡ puts text window at bytes
@@ -148,4 +143,4 @@ pub step-shown : (text : List ℕ) (window : Window) (at : ℕ) (list : List ℕ
     → at + step .before + (step .to - step .from) + step .behind ≤ window .high
     → stored ≡ sets text (window .base + (at - window .low)) (stepBytes list step) → stored ≡ puts text window at (stepBytes list step)
 step-shown text window at list step inside before within e =
-    e ∙ puts-all text window at (stepBytes list step) before (omega (arith, step-size list step inside))
+    e ∙ puts-all text window at (stepBytes list step) before (omega (arith, step-length list step inside))

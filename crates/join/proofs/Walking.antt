@@ -4,8 +4,7 @@ use mathlib.Core.List.{List, [], _++_, append-nil, append-assoc}
 use mathlib.Core.Bool.{Bool, true, false, cond}
 use Prim.Native.Nat.{ℕ, _+_, _-_, _*_, _≤_, _<_}
 use native.Mathlib.Omega.{arith}
-use lib.ListN.{length, length-append, length-replicate}
-use lib.Seq.{length-slice}
+use lib.ListN.{length, length-append}
 use lib.Dec.{eqb}
 use Rattle.text.specs.Ink.{allBlank, leadingBlanks, trimEnd}
 use Rattle.text.proofs.Choices.{by-test, true-false}
@@ -19,11 +18,7 @@ use Rattle.columns.specs.declared.Indent.the-variants.{Unset, Set}
 use Rattle.join.specs.declared.line.Measure.{Measure}
 use Rattle.join.specs.declared.line.Window.{Window}
 use Rattle.join.proofs.Measures.{inked-behind}
-use Rattle.join.proofs.Windows.{stepBytes, puts-append}
-
--- how many bytes a step has
-step-length : (list : List ℕ) (step : Step) → step .to ≤ length list → length (stepBytes list step) ≡ step .before + (step .to - step .from) + step .behind
-step-length list step inside = simp (length-append, length-replicate, length-slice (step .from) (step .to) list inside) (omega arith)
+use Rattle.join.proofs.Windows.{stepBytes, puts-append, step-length}
 
 -- a line that was walked from its spot up to another: its rest goes on from there, or it has ended there
 pub record Walking (margins : Margins) (list : List ℕ) (spot : Spot) (line : Line) (here : Spot) (ended : Bool) : Type 0 where

@@ -5,7 +5,7 @@ use mathlib.Core.Bool.{and-false}
 use Prim.Native.Nat.{ℕ, suc, _+_, _-_, _≤_, _<_, min, max}
 use native.Mathlib.Omega.{arith}
 use native.Mathlib.Nat.{le-refl, le-trans, add-le-add, min-le-left}
-use lib.ListN.{length, take, drop, set, length-replicate, replicate-append-replicate, length-take}
+use lib.ListN.{length, take, drop, set, length-append, length-replicate, replicate-append-replicate, length-take}
 use lib.Seq.{slice, sets, drop-nil, take-nil, drop-at, take-at, take-all, take-length, length-slice, slice-empty}
 use lib.Dec.{ltb, leb}
 use borrow.Author.Tests.{ltb-true, ltb-false, leb-true, leb-false}
@@ -125,6 +125,10 @@ spaces-shown text window at count {from} {to} first last some =
 -- the bytes of a step
 abbrev pub stepBytes : List ℕ → Step → List ℕ
 stepBytes list step = spaces (step .before) ++ (slice (step .from) (step .to) list ++ spaces (step .behind))
+
+-- how many these are
+pub step-length : (list : List ℕ) (step : Step) → step .to ≤ length list → length (stepBytes list step) ≡ step .before + (step .to - step .from) + step .behind
+step-length list step inside = simp (length-append, length-replicate, length-slice (step .from) (step .to) list inside) (omega arith)
 
 -- its spaces before, its text and its spaces behind, written one behind the other
 pub puts-step : (text : List ℕ) (window : Window) (at : ℕ) (list : List ℕ) (step : Step) {padded laid written : List ℕ} → step .to ≤ length list
