@@ -46,7 +46,7 @@ cut-past texts (place ∷ next ∷ places) zero past = absurd (omega arith)
 cut-past texts (place ∷ next ∷ places) (suc index) past = cut-past texts (next ∷ places) index (omega arith)
 
 -- before it a text stands between its place and the next
-cut-between : (texts places : List ℕ) (index : ℕ) → suc index < length places → getD (cuts texts places) index [] ≡ slice (getD places index 0) (getD places (suc index) 0) texts
+pub cut-between : (texts places : List ℕ) (index : ℕ) → suc index < length places → getD (cuts texts places) index [] ≡ slice (getD places index 0) (getD places (suc index) 0) texts
 unfolding cuts
 cut-between texts [] index inside = absurd (omega arith)
 cut-between texts (place ∷ []) index inside = absurd (omega arith)

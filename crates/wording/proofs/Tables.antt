@@ -1,27 +1,19 @@
 -- Laws of the texts of tables: names that stand one behind the other, cut at the places where they begin and end.
 use mathlib.Core.Path.{_≡_, refl, _∙_}
 use mathlib.Core.List.{List, [], _∷_, _++_, map}
-use Prim.Native.Nat.{ℕ, zero, suc, _+_, _-_, _<_}
+use Prim.Native.Nat.{ℕ, _+_, _-_, _<_}
 use Prim.Native.String.{String}
 use native.Mathlib.Numerals.{add-one}
 use native.Mathlib.Omega.{arith}
 use lib.ListN.{length, getD, take, drop, List·getD-map}
-use lib.Seq.{slice}
 use Rattle.text.specs.Literals.{ascii}
 use Rattle.text.proofs.Parts.{part-slice}
 use Rattle.leaves.specs.Texts.{cuts}
+use Rattle.leaves.proofs.Tables.{cut-between}
 use Rattle.wording.specs.Lines.{Line, puts, say}
 use Rattle.wording.specs.Names.{reasons, tokenKinds, partKinds, triviaNames}
 
--- a text stands between its place and the next
-cut-between : (texts places : List ℕ) (index : ℕ) → suc index < length places → getD (cuts texts places) index [] ≡ slice (getD places index 0) (getD places (suc index) 0) texts
-unfolding cuts
-cut-between texts [] index inside = absurd (omega arith)
-cut-between texts (place ∷ []) index inside = absurd (omega arith)
-cut-between texts (place ∷ next ∷ places) zero inside = refl
-cut-between texts (place ∷ next ∷ places) (suc index) inside = cut-between texts (next ∷ places) index (omega arith)
-
--- so it is the part that the code lends
+-- a text that stands between its place and the next is the part that the code lends
 pub cut-text : (texts places : List ℕ) (index : ℕ) → index + 1 < length places
     → getD (cuts texts places) index [] ≡ take (getD places (index + 1) 0 - getD places index 0) (drop (getD places index 0) texts)
 cut-text texts places index inside = rw (add-one, part-slice) (cut-between texts places index (omega arith))
