@@ -3,7 +3,7 @@
 use mathlib.Core.Path.{_≡_, refl}
 use mathlib.Core.List.{List, [], _∷_}
 use mathlib.Core.Bool.{Bool, true, false}
-use Prim.Native.Nat.{ℕ, zero, suc, _+_, _≤_}
+use Prim.Native.Nat.{ℕ, _+_, _≤_}
 use native.Mathlib.Omega.{arith}
 use lib.ListN.{length}
 use lib.Dec.{ltb}
@@ -16,9 +16,9 @@ use Rattle.options.specs.declared.OptionsRead.{OptionsRead}
 use Rattle.options.specs.declared.OptionsRead.the-variants.{Options, Refused}
 use Rattle.text.specs.Lines.{isEmpty, isNewline}
 use Rattle.text.proofs.Choices.{cond-both}
-use Rattle.chunks.specs.Stored.{Chunk, storedIndent, storedChunk}
+use Rattle.chunks.specs.Stored.{Chunk, storedChunk}
 use Rattle.chunks.specs.Appending.{withSpace, capacity}
-use Rattle.chunks.proofs.Forms.{chunk-length}
+use Rattle.chunks.proofs.Forms.{chunk-length, indent-length}
 use Rattle.printing.specs.Events.{Events}
 use Rattle.printing.specs.Holding.{Held, held, refused, heldLength, holdChunk, withoutNewlines, hold, Storable}
 use Rattle.printing.proofs.Stops.{Free, none, pushes, spaces, clears, trims, _and_}
@@ -41,12 +41,6 @@ HeldWithin (refused why) = why .place ≤ 1114116
 spaced-length : (pending : Bool) (text : List ℕ) → length (withSpace pending text) ≤ 1 + length text
 spaced-length true text = omega arith
 spaced-length false text = omega arith
-
--- a stored indent is two bytes, or none
-indent-length : (indent : ℕ) → length (storedIndent indent) ≤ 2
-unfolding storedIndent
-indent-length zero = omega arith
-indent-length (suc indent) = omega arith
 
 -- a chunk more
 chunk-within : (room : ℕ) (chunks : List Chunk) (chunk : Chunk) → heldLength chunks ≤ 1048576 → length (chunk .text) ≤ 65535 → HeldWithin (holdChunk room chunks chunk)
