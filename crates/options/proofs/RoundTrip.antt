@@ -17,6 +17,7 @@ use borrow.Author.Tests.{ltb-true, ltb-false, eqb-true, eqb-false, le-ltb, eq-eq
 use Rattle.answers.specs.declared.Refusal.{Refusal}
 use Rattle.answers.specs.declared.Checked.{Checked}
 use Rattle.answers.specs.declared.Checked.the-variants.{Passed, Failed}
+use Rattle.answers.proofs.Bytes.{one-more}
 use Rattle.options.specs.Stored.{bit, standing, placeOf, defaults, largest, mapOf, valueOf, valuesChecked, storedOptions, accepted, readOptions}
 use Rattle.options.specs.Forms.{bitsOf, valuesOf, storedForm, FieldsFit, EightFields, fieldAt, fieldsFrom, fieldsOf, chosen, fieldOptions, AllBytes}
 use Rattle.options.specs.Forms as form
@@ -135,11 +136,6 @@ held-options stored =
     rw (value-at stored 0, value-at stored 1, value-at stored 2, value-at stored 3, value-at stored 4, value-at stored 5, value-at stored 6, value-at stored 7)
 
 -- ---- their bytes
-
--- a byte before others
-one-more : (byte : ℕ) (bytes : List ℕ) → byte < 256 → AllBytes bytes → AllBytes (byte ∷ bytes)
-one-more byte bytes small rest zero = small
-one-more byte bytes small rest (suc i) = rest i
 
 -- the bits of so many fields are small
 bits-small : (fields : List (Option ℕ)) → bitsOf fields < 2 ^ length fields

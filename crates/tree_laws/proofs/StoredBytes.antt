@@ -8,6 +8,7 @@ use native.Mathlib.Omega.{arith}
 use lib.ListN.{length, getD, length-map}
 use lib.Dec.{eqb, leb}
 use borrow.Author.Tests.{leb-true}
+use Rattle.answers.proofs.Bytes.{one-more}
 use Rattle.text.specs.Numbers.{twoBytes}
 use Rattle.text.specs.Accepted.{acceptedByte, acceptedText}
 use Rattle.text.specs.Ink.{flat}
@@ -31,11 +32,6 @@ use Rattle.tree_laws.proofs.ReadBack.{parts-counted, list-form, leaf-fo
 -- no bytes
 no-byte : AllBytes []
 no-byte i = omega arith
-
--- a byte before them
-one-more : (byte : ℕ) (bytes : List ℕ) → byte < 256 → AllBytes bytes → AllBytes (byte ∷ bytes)
-one-more byte bytes small rest zero = small
-one-more byte bytes small rest (suc i) = rest i
 
 -- one list behind the other
 joined : (first second : List ℕ) → AllBytes first → AllBytes second → AllBytes (first ++ second)
