@@ -14,6 +14,7 @@ use lib.ListN.{length, getD, drop}
 use lib.Dec.{eqb, ltb}
 use lib.Seq.{drop-length, drop-cons, drop-drop, getD-drop}
 use borrow.Author.Tests.{ltb-true, ltb-false, eqb-true, eqb-false, le-ltb, eq-eqb, ne-eqb}
+use borrow.Table.Steps.{cases}
 use Rattle.answers.specs.declared.Refusal.{Refusal}
 use Rattle.answers.specs.declared.Checked.{Checked}
 use Rattle.answers.specs.declared.Checked.the-variants.{Passed, Failed}
@@ -188,11 +189,6 @@ stored-read fields fits =
 
 -- ---- bytes that were read
 
--- whichever way a test goes
-by-test : {P : Type 0} (test : Bool) → (test ≡ true → P) → (test ≡ false → P) → P
-by-test true yes-way no-way = yes-way refl
-by-test false yes-way no-way = no-way refl
-
 -- a refusal is no options
 refused-options : {P : Type 0} {refusal : Refusal} {options : FormattingOptions} → Refused refusal ≡ Options options → P
 refused-options e = let z : _≡_ {A = ℕ} 0 1 = cc in absurd (omega arith)
@@ -212,9 +208,9 @@ record ReadFrom (stored : List ℕ) (options : FormattingOptions) : Type 0 where
 read-from : (stored : List ℕ) (options : FormattingOptions) → readOptions stored ≡ Options options → ReadFrom stored options
 unfolding readOptions
 read-from stored options e =
-    by-test (eqb (length stored) 0)
+    cases (eqb (length stored) 0)
     (λ q. refused-options (rw q at e))
-    (λ q. by-test (eqb (length stored) (1 + standing (mapOf stored) 8))
+    (λ q. cases (eqb (length stored) (1 + standing (mapOf stored) 8))
     (λ long.
     let told = accepted-told (valuesChecked stored 0 8) (storedOptions stored) options (rw (q, long) at e) in
     record { long = eqb-true (length stored) (1 + standing (mapOf stored) 8) long; passed = told .0; same = told .1 })
@@ -223,7 +219,7 @@ read-from stored options e =
 -- whether field k stands or not
 by-bit : {P : Type 0} (stored : List ℕ) (k : ℕ) → (bit (mapOf stored) k ≡ 0 → P) → (bit (mapOf stored) k ≡ 1 → P) → P
 by-bit stored k clear set =
-    by-test (eqb (bit (mapOf stored) k) 1)
+    cases (eqb (bit (mapOf stored) k) 1)
     (λ q. set (eqb-true (bit (mapOf stored) k) 1 q))
     (λ q. clear (omega (arith, eqb-false (bit (mapOf stored) k) 1 q)))
 
