@@ -3,13 +3,12 @@ use mathlib.Core.Path.{_≡_, refl, sym, ap, _∙_}
 use mathlib.Core.List.{List, []}
 use mathlib.Core.Bool.{Bool, true, false, cond, _&&_}
 use Prim.Native.Nat.{ℕ, zero, suc, _≤_}
-use native.Mathlib.Omega.{arith}
 use lib.Dec.{eqb, leb}
 use lib.ListN.{length, getD}
 use lib.Seq.{slice}
-use borrow.Author.Tests.{ne-eqb, leb-true}
+use borrow.Author.Tests.{ne-eqb}
 use Rattle.answers.specs.declared.Refusal.{Refusal}
-use Rattle.text.proofs.Choices.{by-test, true-false, and-true-left, and-true-right}
+use Rattle.text.proofs.Choices.{by-test, true-false, no-other}
 use Rattle.tree.specs.Tree.{built}
 use Rattle.tree.specs.Grammar.{kindOf, rule}
 use Rattle.tree.specs.Own.{mayStand, readOwn, refusalOf, Fits, OwnFits, ownEnd}
@@ -58,9 +57,7 @@ leaf-number class leaves number stands =
     (λ list. true-false (sym (rw list at ruled)))
     (λ other.
     let within : (leb 25 number && leb number 25) ≡ true = rw other at ruled in
-    let low = leb-true 25 number (and-true-left (leb 25 number) (leb number 25) within) in
-    let high = leb-true number 25 (and-true-right (leb 25 number) (leb number 25) within) in
-    omega arith)
+    no-other 25 number within)
 
 module _ (bytes : List ℕ) (class : Class) (leaves : LeafClass class) (at : ℕ) where
   -- so the kind is

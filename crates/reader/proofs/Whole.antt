@@ -5,16 +5,16 @@
 --   some-behind : map found rows ≡ map wanted rows
 use mathlib.Core.Path.{_≡_, refl, sym, ap, _∙_}
 use mathlib.Core.List.{List, [], _∷_, _++_, map}
-use mathlib.Core.Bool.{Bool, true, cond, _&&_}
+use mathlib.Core.Bool.{Bool, true, cond}
 use Prim.Native.Nat.{ℕ, zero, suc, _≤_, _<_}
 use native.Mathlib.Omega.{arith}
 use lib.ListN.{getD, replicate}
-use lib.Dec.{eqb, ltb, leb}
-use borrow.Author.Tests.{ltb-false, leb-true, eqb-true}
+use lib.Dec.{eqb, ltb}
+use borrow.Author.Tests.{ltb-false, eqb-true}
 use Rattle.answers.specs.Numbers.{andThen}
 use Rattle.answers.specs.declared.Checked.{Checked}
 use Rattle.answers.specs.declared.Checked.the-variants.{Passed, Failed}
-use Rattle.text.proofs.Choices.{by-test, cond-both, and-true-left, and-true-right}
+use Rattle.text.proofs.Choices.{by-test, cond-both, no-other}
 use Rattle.tree.specs.Grammar.{kindOf}
 use Rattle.tree.specs.Own.{fieldsFit, mapFits, sizedEnd, triviumEnd, triviaEnd, triviaRead, textEnd, restOf}
 use Rattle.tree.specs.Own.{layout, ownAt, readOwn}
@@ -56,18 +56,12 @@ row-parts bytes at (suc count) =
 -- ---- the list
 
 -- only a list may stand there
-list-number : (number : ℕ) → (leb 24 number && leb number 24) ≡ true → number ≡ 24
-list-number number within =
-    let low = leb-true 24 number (and-true-left (leb 24 number) (leb number 24) within) in
-    let high = leb-true number 24 (and-true-right (leb 24 number) (leb number 24) within) in
-    omega (arith, low, high)
-
 list-headed : {bytes : List ℕ} {at : ℕ} {kind : Kind} {trivia : TriviaSpan} → Headed bytes at Tokens kind trivia
     → kind ≡ kind-is.Vec
 list-headed {bytes} {at} {kind} headed =
     let is : getD bytes at 0 ≡ 24 =
     by-test (eqb (getD bytes at 0) 24) (λ q. eqb-true _ _ q)
-    (λ other. list-number _ (rw other at (headed .standing))) in
+    (λ other. no-other 24 _ (rw other at (headed .standing))) in
     let same : Known kind ≡ Known kind-is.Vec = sym (headed .kindIs) ∙ ap kindOf is in
     cc
 

@@ -6,12 +6,12 @@ use mathlib.Core.List.{List, [], _∷_}
 use mathlib.Core.Bool.{Bool, true, false, cond, _&&_}
 use Prim.Native.Nat.{ℕ, zero, suc, _-_, _/_, _%_, _<_, _≤_}
 use lib.ListN.{getD, replicate}
-use lib.Dec.{eqb, leb}
+use lib.Dec.{eqb}
 use native.Mathlib.Omega.{arith}
-use borrow.Author.Tests.{eqb-true, eqb-false, leb-true}
+use borrow.Author.Tests.{eqb-true, eqb-false}
 use denote.Enum.Declared.{tagOf}
 use types.Run.{OneOf}
-use Rattle.text.proofs.Choices.{by-test, and-true-left, and-true-right}
+use Rattle.text.proofs.Choices.{by-test, no-other}
 use Rattle.answers.specs.declared.Refusal.{Refusal}
 use Rattle.options.specs.declared.BracePosition.{BracePosition}
 use Rattle.options.specs.declared.BracePosition.the-variants.{SameLine, NewLine}
@@ -348,13 +348,6 @@ unfolding partsDue fieldsDue built
 tokens-end bytes at levels own is same =
     rw (read-record bytes Tokens at levels own is .1, same, items-end (read (levels - 1) bytes) BareToken (own .count) (own .end))
 
--- only a list may stand there
-list-number : (number : ℕ) → (leb 24 number && leb number 24) ≡ true → number ≡ 24
-list-number number within =
-    let low = leb-true 24 number (and-true-left (leb 24 number) (leb number 24) within) in
-    let high = leb-true number 24 (and-true-right (leb 24 number) (leb number 24) within) in
-    omega (arith, low, high)
-
 module _ {context : Context} {levels : ℕ} {bytes : List ℕ} {left room : List ℕ} {last : Printed} {opened : Opened} {own : Own} {state : CodeFormatter} where
   -- so what was opened is one
   list-is : Opens opened left last room context true levels bytes Tokens true → opened ≡ opened-is.Record own state → own .kind ≡ variant.Vec
@@ -364,7 +357,7 @@ module _ {context : Context} {levels : ℕ} {bytes : List ℕ} {left room : List
       let headed = record-headed bytes (there .0) Tokens levels own (open-there .from (there .0) (there .1) .1) .1 in
       let number = kind-number (getD bytes (there .0) 0) (own .kind) (headed .kindIs) in
       let same : getD bytes (there .0) 0 ≡ 24 =
-      by-test (eqb (getD bytes (there .0) 0) 24) (λ q. eqb-true _ _ q) (λ other. list-number _ (rw other at (headed .standing))) in
+      by-test (eqb (getD bytes (there .0) 0) 24) (λ q. eqb-true _ _ q) (λ other. no-other 24 _ (rw other at (headed .standing))) in
       opened-by-number opens is 24 variant.Vec (number ∙ same) refl
 
   -- what is shown of its tokens is shown of the list
