@@ -61,7 +61,8 @@ fn store_indent(room: &mut [u8], at: usize, indent: usize) -> usize
 
 // What stands before a chunk's text; the place behind it.
 fn store_head(room: &mut [u8], at: usize, ty: ChunkType, indent: usize, count: usize) -> usize
-    requires { ⌜ (indent ≤ 4096) × (count ≤ 65535) × (at + length (storedHead ty indent count) ≤ length (now room)) ⌝ }
+    requires { ⌜ (indent ≤ 4096) × (count ≤ 65535)
+        × (at + length (storedHead ty indent count) ≤ length (now room)) ⌝ }
     ensures answer { λ r. ⌜ r ≡ at + length (storedHead ty indent count) ⌝ }
     ensures room { λ _. ⌜ now (room .exit) ≡ sets (now (room .entry)) at (storedHead ty indent count) ⌝ }
 {

@@ -27,7 +27,8 @@ pub struct Measure {
 // `count` spaces more.
 pub(crate) fn add_blanks(measure: Measure, count: usize) -> Measure
     requires { ⌜ Fits measure count ⌝ }
-    ensures measured { λ r. ⌜ ((bytes : List ℕ) → Measured measure bytes → Measured r (bytes ++ spaces count)) ⌝ }
+    ensures measured { λ r.
+        ⌜ ((bytes : List ℕ) → Measured measure bytes → Measured r (bytes ++ spaces count)) ⌝ }
     ensures length { λ r. ⌜ (r .length ≡ measure .length + count) × (r .leading ≤ r .length) ⌝ }
 {
     if measure.ink_end == 0 {
@@ -47,8 +48,10 @@ pub(crate) fn add_blanks(measure: Measure, count: usize) -> Measure
 // The bytes of a text more.
 pub(crate) fn add_text(measure: Measure, bytes: &[u8]) -> Measure
     requires { ⌜ Fits measure (length (now bytes)) ⌝ }
-    ensures measured { λ r. ⌜ ((line : List ℕ) → Measured measure line → Measured r (line ++ now (bytes .entry))) ⌝ }
-    ensures length { λ r. ⌜ (r .length ≡ measure .length + length (now (bytes .entry))) × (r .leading ≤ r .length) ⌝ }
+    ensures measured { λ r.
+        ⌜ ((line : List ℕ) → Measured measure line → Measured r (line ++ now (bytes .entry))) ⌝ }
+    ensures length { λ r.
+        ⌜ (r .length ≡ measure .length + length (now (bytes .entry))) × (r .leading ≤ r .length) ⌝ }
 {
     let ink_end = scans::ink_end(bytes);
     if ink_end == 0 {
@@ -70,7 +73,8 @@ pub(crate) fn add_text(measure: Measure, bytes: &[u8]) -> Measure
 
 // A step's spaces and text more, behind ink: the blanks before the first ink stay as they are.
 pub(crate) fn add_inked(measure: Measure, list: &[u8], step: Step) -> Measure
-    requires { ⌜ (step .from ≤ step .to) × (step .to ≤ length (now list)) × (measure .«ink_end» ≡ 0 → ⊥) ⌝ }
+    requires { ⌜ (step .from ≤ step .to) × (step .to ≤ length (now list))
+        × (measure .«ink_end» ≡ 0 → ⊥) ⌝ }
     requires { ⌜ Fits measure (step .before + (step .to - step .from) + step .behind) ⌝ }
     ensures measured { λ r.
         let text = slice (step .from) (step .to) (now (list .entry)) in
@@ -187,7 +191,8 @@ pub(crate) fn measure_run(list: &[u8], margins: Margins, measure: Measure, spot:
     requires { ⌜ Narrow margins × Standing (now list) spot × (spot .at < length (now list))
         × (length (now list) ≤ 1048576) ⌝ }
     requires { ⌜ (measure .leading ≤ measure .length) × (measure .length ≤ 512 * spot .at) ⌝ }
-    ensures { λ r. ⌜ ((n : ℕ) → Ran margins (now (list .entry)) spot measure (Set n) (r .measure) (r .spot)) ⌝ }
+    ensures { λ r.
+        ⌜ ((n : ℕ) → Ran margins (now (list .entry)) spot measure (Set n) (r .measure) (r .spot)) ⌝ }
 {
     let mut reached = measure;
     let mut here = spot;
@@ -317,7 +322,8 @@ pub(crate) fn put_bytes(text: &mut [u8], window: Window, at: usize, bytes: &[u8]
 
 // Writes what the window shows of a step that stands at `at` of the line; the place behind it.
 pub(crate) fn put_step(text: &mut [u8], window: Window, at: usize, list: &[u8], step: Step) -> usize
-    requires { ⌜ Room window (length (now text)) × (step .from ≤ step .to) × (step .to ≤ length (now list)) ⌝ }
+    requires { ⌜ Room window (length (now text)) × (step .from ≤ step .to)
+        × (step .to ≤ length (now list)) ⌝ }
     requires { ⌜ at + (step .before + (step .to - step .from) + step .behind) < 4294967296 ⌝ }
     ensures answer { λ r. ⌜ r ≡ at + (step .before + (step .to - step .from) + step .behind) ⌝ }
     ensures buffer { λ _.
@@ -337,7 +343,8 @@ pub(crate) fn put_step(text: &mut [u8], window: Window, at: usize, list: &[u8], 
 
 // `put_step`, which is left out where there is nothing to write.
 pub(crate) fn put_some(text: &mut [u8], window: Window, at: usize, list: &[u8], step: Step)
-    requires { ⌜ Room window (length (now text)) × (step .from ≤ step .to) × (step .to ≤ length (now list)) ⌝ }
+    requires { ⌜ Room window (length (now text)) × (step .from ≤ step .to)
+        × (step .to ≤ length (now list)) ⌝ }
     requires { ⌜ at + (step .before + (step .to - step .from) + step .behind) < 4294967296 ⌝ }
     ensures { λ _.
         let piece = slice (step .from) (step .to) (now (list .entry)) in
@@ -372,7 +379,8 @@ pub(crate) fn write_line(text: &mut [u8], window: Window, list: &[u8], margins: 
 
 // `put_step`, with one question for the whole step where the window shows all of it, as it most often does.
 pub(crate) fn put_shown(text: &mut [u8], window: Window, at: usize, list: &[u8], step: Step)
-    requires { ⌜ Room window (length (now text)) × (step .from ≤ step .to) × (step .to ≤ length (now list)) ⌝ }
+    requires { ⌜ Room window (length (now text)) × (step .from ≤ step .to)
+        × (step .to ≤ length (now list)) ⌝ }
     requires { ⌜ at + (step .before + (step .to - step .from) + step .behind) < 4294967296 ⌝ }
     ensures { λ _.
         let piece = slice (step .from) (step .to) (now (list .entry)) in

@@ -43,7 +43,8 @@ fn store_few(text: &mut [u8], place: usize, bytes: &[u8])
 // Four bytes. All are read before one is stored: so they are compiled to be moved at once.
 fn store_four(text: &mut [u8], place: usize, bytes: &[u8], at: usize)
     requires { ⌜ (at + 4 ≤ length (now bytes)) × (place + 4 ≤ length (now text)) ⌝ }
-    ensures { λ _. ⌜ now (text .exit) ≡ sets (now (text .entry)) place (slice at (at + 4) (now (bytes .entry))) ⌝ }
+    ensures { λ _.
+        ⌜ now (text .exit) ≡ sets (now (text .entry)) place (slice at (at + 4) (now (bytes .entry))) ⌝ }
 {
     let a = bytes[at];
     let b = bytes[at + 1];
@@ -58,7 +59,8 @@ fn store_four(text: &mut [u8], place: usize, bytes: &[u8], at: usize)
 // The same for eight.
 fn store_eight(text: &mut [u8], place: usize, bytes: &[u8], at: usize)
     requires { ⌜ (at + 8 ≤ length (now bytes)) × (place + 8 ≤ length (now text)) ⌝ }
-    ensures { λ _. ⌜ now (text .exit) ≡ sets (now (text .entry)) place (slice at (at + 8) (now (bytes .entry))) ⌝ }
+    ensures { λ _.
+        ⌜ now (text .exit) ≡ sets (now (text .entry)) place (slice at (at + 8) (now (bytes .entry))) ⌝ }
 {
     let a = bytes[at];
     let b = bytes[at + 1];

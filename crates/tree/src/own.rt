@@ -340,7 +340,8 @@ pub(crate) enum Judged {
 // A record's first two bytes. They are judged in a function of their own, so that the reading behind them is compiled as one.
 fn judge(tree: &[u8], at: usize, rule: Rule, number: usize) -> Judged
     requires { ⌜ at < length (now tree) ⌝ }
-    ensures { λ r. ⌜ judgedOn (now (tree .entry)) at rule number r ≡ firstBytes (now (tree .entry)) at rule number ⌝ }
+    ensures { λ r.
+        ⌜ judgedOn (now (tree .entry)) at rule number r ≡ firstBytes (now (tree .entry)) at rule number ⌝ }
 {
     if !may_stand(rule, number) {
         return Judged::Unfit;

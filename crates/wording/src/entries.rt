@@ -46,7 +46,8 @@ pub(crate) fn form_of(class: Class) -> Form
 }
 
 fn put_mnemonic(line: &mut [u8], at: usize, index: usize) -> usize
-    ensures { λ r. ⌜ lineIn (now (line .exit)) r ≡ puts (entry Mnemonics index) (lineIn (now (line .entry)) at) ⌝ }
+    ensures { λ r.
+        ⌜ lineIn (now (line .exit)) r ≡ puts (entry Mnemonics index) (lineIn (now (line .entry)) at) ⌝ }
 {
     if 55 < index {
         return at;
@@ -59,42 +60,48 @@ fn put_mnemonic(line: &mut [u8], at: usize, index: usize) -> usize
 }
 
 fn put_register(line: &mut [u8], at: usize, index: usize) -> usize
-    ensures { λ r. ⌜ lineIn (now (line .exit)) r ≡ puts (entry Registers index) (lineIn (now (line .entry)) at) ⌝ }
+    ensures { λ r.
+        ⌜ lineIn (now (line .exit)) r ≡ puts (entry Registers index) (lineIn (now (line .entry)) at) ⌝ }
 {
     let places = [0usize, 1, 2];
     lines::put_entry(line, at, b"xy", &places, index)
 }
 
 fn put_modifier(line: &mut [u8], at: usize, index: usize) -> usize
-    ensures { λ r. ⌜ lineIn (now (line .exit)) r ≡ puts (entry Modifiers index) (lineIn (now (line .entry)) at) ⌝ }
+    ensures { λ r.
+        ⌜ lineIn (now (line .exit)) r ≡ puts (entry Modifiers index) (lineIn (now (line .entry)) at) ⌝ }
 {
     let places = [0usize, 1, 2];
     lines::put_entry(line, at, b"><", &places, index)
 }
 
 fn put_variable_type(line: &mut [u8], at: usize, index: usize) -> usize
-    ensures { λ r. ⌜ lineIn (now (line .exit)) r ≡ puts (entry VariableTypes index) (lineIn (now (line .entry)) at) ⌝ }
+    ensures { λ r.
+        ⌜ lineIn (now (line .exit)) r ≡ puts (entry VariableTypes index) (lineIn (now (line .entry)) at) ⌝ }
 {
     let places = [0usize, 6, 10];
     lines::put_entry(line, at, b".const.var", &places, index)
 }
 
 fn put_number_type(line: &mut [u8], at: usize, index: usize) -> usize
-    ensures { λ r. ⌜ lineIn (now (line .exit)) r ≡ puts (entry NumberTypes index) (lineIn (now (line .entry)) at) ⌝ }
+    ensures { λ r.
+        ⌜ lineIn (now (line .exit)) r ≡ puts (entry NumberTypes index) (lineIn (now (line .entry)) at) ⌝ }
 {
     let places = [0usize, 1, 8, 9];
     lines::put_entry(line, at, b"$nothing%", &places, index)
 }
 
 fn put_data_size(line: &mut [u8], at: usize, index: usize) -> usize
-    ensures { λ r. ⌜ lineIn (now (line .exit)) r ≡ puts (entry DataSizes index) (lineIn (now (line .entry)) at) ⌝ }
+    ensures { λ r.
+        ⌜ lineIn (now (line .exit)) r ≡ puts (entry DataSizes index) (lineIn (now (line .entry)) at) ⌝ }
 {
     let places = [0usize, 5, 10, 16];
     lines::put_entry(line, at, b".byte.word.dword", &places, index)
 }
 
 fn put_operator(line: &mut [u8], at: usize, index: usize) -> usize
-    ensures { λ r. ⌜ lineIn (now (line .exit)) r ≡ puts (entry Operators index) (lineIn (now (line .entry)) at) ⌝ }
+    ensures { λ r.
+        ⌜ lineIn (now (line .exit)) r ≡ puts (entry Operators index) (lineIn (now (line .entry)) at) ⌝ }
 {
     let places = [
         0usize,
@@ -119,7 +126,8 @@ fn put_operator(line: &mut [u8], at: usize, index: usize) -> usize
 }
 
 fn put_encoding(line: &mut [u8], at: usize, index: usize) -> usize
-    ensures { λ r. ⌜ lineIn (now (line .exit)) r ≡ puts (entry Encodings index) (lineIn (now (line .entry)) at) ⌝ }
+    ensures { λ r.
+        ⌜ lineIn (now (line .exit)) r ≡ puts (entry Encodings index) (lineIn (now (line .entry)) at) ⌝ }
 {
     let places = [0usize, 5, 12, 21, 28];
     lines::put_entry(line, at, b"asciipetsciipetscreennothing", &places, index)

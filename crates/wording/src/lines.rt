@@ -13,7 +13,8 @@ ghost use Rattle.wording.specs.Lines.{lineIn, puts, spaces, digits, deci
 
 // Puts bytes behind what a line holds.
 pub fn put(line: &mut [u8], at: usize, bytes: &[u8]) -> usize
-    ensures { λ r. ⌜ lineIn (now (line .exit)) r ≡ puts (now (bytes .entry) ∷ []) (lineIn (now (line .entry)) at) ⌝ }
+    ensures { λ r.
+        ⌜ lineIn (now (line .exit)) r ≡ puts (now (bytes .entry) ∷ []) (lineIn (now (line .entry)) at) ⌝ }
 {
     let stored = stores::copy(bytes, line, at);
     match stored {

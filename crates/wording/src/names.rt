@@ -90,7 +90,8 @@ fn put_part(line: &mut [u8], at: usize, number: usize) -> usize
 
 // A kind, by its number.
 pub(crate) fn put_kind(line: &mut [u8], at: usize, number: usize) -> usize
-    ensures { λ r. ⌜ lineIn (now (line .exit)) r ≡ puts (say (kindName number)) (lineIn (now (line .entry)) at) ⌝ }
+    ensures { λ r.
+        ⌜ lineIn (now (line .exit)) r ≡ puts (say (kindName number)) (lineIn (now (line .entry)) at) ⌝ }
 {
     if number < kinds::VEC {
         return put_token(line, at, number);

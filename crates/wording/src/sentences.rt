@@ -49,7 +49,8 @@ fn put_in_tree(line: &mut [u8], at: usize, tree: &[u8], place: usize) -> usize
 
 // The need of work room at the push that did not fit.
 fn put_work_room(line: &mut [u8], at: usize, limit: usize) -> usize
-    ensures { λ r. ⌜ lineIn (now (line .exit)) r ≡ puts (atPush ++ limited limit) (lineIn (now (line .entry)) at) ⌝ }
+    ensures { λ r.
+        ⌜ lineIn (now (line .exit)) r ≡ puts (atPush ++ limited limit) (lineIn (now (line .entry)) at) ⌝ }
 {
     let first = lines::put(
         line,
