@@ -45,7 +45,8 @@ pub(crate) fn add_blanks(measure: Measure, count: usize) -> Measure
     }
 }
 
-// The bytes of a text more.
+// The bytes of a text more. Their first inked byte tells that they have ink; only where they have some is its end looked
+// for.
 pub(crate) fn add_text(measure: Measure, bytes: &[u8]) -> Measure
     requires { ⌜ Fits measure (length (now bytes)) ⌝ }
     ensures measured { λ r.
@@ -53,10 +54,10 @@ pub(crate) fn add_text(measure: Measure, bytes: &[u8]) -> Measure
     ensures length { λ r.
         ⌜ (r .length ≡ measure .length + length (now (bytes .entry))) × (r .leading ≤ r .length) ⌝ }
 {
-    let ink_end = scans::ink_end(bytes);
-    if ink_end == 0 {
+    if !scans::has_ink(bytes) {
         return add_blanks(measure, bytes.len());
     }
+    let ink_end = scans::ink_end(bytes);
     if measure.ink_end == 0 {
         return Measure {
             length: measure.length + bytes.len(),
@@ -71,7 +72,9 @@ pub(crate) fn add_text(measure: Measure, bytes: &[u8]) -> Measure
     }
 }
 
-// A step's spaces and text more, behind ink: the blanks before the first ink stay as they are.
+// A step's spaces and text more, behind ink: the blanks before the first ink stay as they are. That the line has ink is
+// known and not asked again. What is looked for is where the ink ends, since trailing blanks are cut: that scan has to
+// start at the end.
 pub(crate) fn add_inked(measure: Measure, list: &[u8], step: Step) -> Measure
     requires { ⌜ (step .from ≤ step .to) × (step .to ≤ length (now list))
         × (measure .«ink_end» ≡ 0 → ⊥) ⌝ }

@@ -2,10 +2,27 @@
 use crate::blanks;
 use crate::characters;
 ghost use mathlib.Core.Path.{_≡_};
+ghost use mathlib.Core.Bool.{not};
 ghost use Prim.Native.Nat.{max};
-ghost use Rattle.text.specs.Ink.{leadingBlanks, inkEnd};
+ghost use Rattle.text.specs.Ink.{allBlank, leadingBlanks, inkEnd};
 ghost use Rattle.text.specs.Lines.{newlineAt};
 ghost use Rattle.text.specs.Accepted.{faultAt, acceptedText};
+
+// Whether a line has ink. The scan stops at the first inked byte, so that it takes no longer for what stands behind it.
+pub fn has_ink(line: &[u8]) -> bool
+    ensures { λ r. ⌜ r ≡ not (allBlank (now (line .entry))) ⌝ }
+{
+    let mut i = 0;
+    loop {
+        if line.len() <= i {
+            break false;
+        }
+        if !blanks::is_blank(line[i]) {
+            break true;
+        }
+        i += 1;
+    }
+}
 
 // How many blanks stand before the first ink.
 pub fn leading_blanks(bytes: &[u8]) -> usize

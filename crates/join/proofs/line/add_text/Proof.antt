@@ -1,79 +1,96 @@
 -- A text without ink counts as so many spaces, and one with ink ends the ink of the line, whose blanks it ends where there was none before.
-use mathlib.Core.Path.{refl, sym, _∙_}
+use mathlib.Core.Path.{_≡_, refl, sym, _∙_}
+use mathlib.Core.List.{List}
+use mathlib.Core.Bool.{Bool, true, false, not}
+use Prim.Native.Nat.{ℕ}
 use native.Mathlib.Omega.{arith}
 use lib.ListN.{length, length-replicate}
 use borrow.Author.Needs.{needs}
-use Rattle.text.specs.Ink.{spaces}
+use borrow.Author.Tests.{not-true, not-false}
+use Rattle.text.specs.Ink.{allBlank, spaces}
 use Rattle.text.proofs.Ink.{spaces-blank, ink-end-le, leading-lt}
-use Rattle.join.proofs.Measures.{end-blank, end-ink, ink-behind-blanks, ink-behind-ink, blanks-alike}
+use Rattle.join.proofs.Measures.{ink-behind-blanks, ink-behind-ink, blanks-alike}
 use Rattle.join.proofs.line.add_text.Statement.{statement}
 use Rattle.join.proofs.line.add_text.Tie as tie
 
-ink-end-requires : tie.Need-ink-end-requires
-ink-end-requires c κs = search needs
+has-ink-requires : tie.Need-has-ink-requires
+has-ink-requires c κs = search needs
 
 add-blanks-requires : tie.Need-add-blanks-requires
 add-blanks-requires c κs = search needs
 
 returns : tie.Need-returns
 returns c =
-    let bytes = c .before .before .before .before .args .bytes .now in
-    let blank = end-blank bytes (sym (c .before .before .ink-end .ensures) ∙ c .before .if1 .taken) in (
+    let scan = c .before .before in
+    let bytes = scan .before .before .args .bytes .now in
+    let blank = not-false (allBlank bytes) (sym (scan .has-ink .ensures) ∙ not-true _ (c .before .if1 .taken)) in (
       λ line known. blanks-alike _ line (spaces (length bytes)) bytes (spaces-blank (length bytes)) blank (length-replicate (length bytes) 32) (c .add-blanks .ensures .0 line known),
       c .add-blanks .ensures .1,
     )
 
-add-t7 : tie.Need-add-t7
-add-t7 c = search needs
+ink-end-requires : tie.Need-ink-end-requires
+ink-end-requires c κs = search needs
+
+add-t8 : tie.Need-add-t8
+add-t8 c = search needs
 
 leading-blanks-requires : tie.Need-leading-blanks-requires
 leading-blanks-requires c κs = search needs
 
-add-t9 : tie.Need-add-t9
-add-t9 c =
-    let test = c .before .before .before .before .before in
-    let bytes = test .before .before .before .args .bytes .now in
-    omega (arith, c .before .leading-blanks .ensures, leading-lt bytes (end-ink bytes (λ e. test .if1 .left (test .before .ink-end .ensures ∙ e))))
+-- where the scan found ink there is some
+found : {answer : Bool} (bytes : List ℕ) → answer ≡ not (allBlank bytes) → not answer ≡ false → allBlank bytes ≡ false
+found bytes e left = not-true (allBlank bytes) (sym e ∙ not-false _ left)
 
 add-t10 : tie.Need-add-t10
 add-t10 c =
-    let step = c .before .before .before .before .before .before .before in
-    omega (arith, step .ink-end .ensures, ink-end-le (step .before .before .args .bytes .now))
+    let test = c .before .before .before .before .before .before in
+    let bytes = test .before .before .before .args .bytes .now in
+    omega (arith, c .before .leading-blanks .ensures, leading-lt bytes (found bytes (test .before .has-ink .ensures) (test .if1 .left)))
+
+add-t11 : tie.Need-add-t11
+add-t11 c =
+    let step = c .before .before .before .before .before .before in
+    omega (arith, step .ink-end .ensures, ink-end-le (step .before .before .before .before .args .bytes .now))
 
 returns-2 : tie.Need-returns-2
 returns-2 c =
-    let test = c .before .before .before .before .before .before in
+    let step = c .before .before .before .before .before .before in
+    let test = step .before in
     let bytes = test .before .before .before .args .bytes .now in
-    let ink = end-ink bytes (λ e. test .if1 .left (test .before .ink-end .ensures ∙ e)) in (
-      λ line known. ink-behind-blanks known bytes (c .before .before .before .before .if2 .taken) ink (c .before .before .leading-blanks .ensures) (test .before .ink-end .ensures),
+    let ink = found bytes (test .before .has-ink .ensures) (test .if1 .left) in (
+      λ line known. ink-behind-blanks known bytes (c .before .before .before .before .if2 .taken) ink (c .before .before .leading-blanks .ensures) (step .ink-end .ensures),
       (refl, omega (arith, c .before .before .leading-blanks .ensures, leading-lt bytes ink)),
     )
 
-add-t12 : tie.Need-add-t12
-add-t12 c = search needs
-
 add-t13 : tie.Need-add-t13
-add-t13 c = omega (arith, c .before .before .before .before .before .ink-end .ensures, ink-end-le (c .before .before .before .before .before .before .before .args .bytes .now))
+add-t13 c = search needs
+
+add-t14 : tie.Need-add-t14
+add-t14 c =
+    let step = c .before .before .before .before in
+    omega (arith, step .ink-end .ensures, ink-end-le (step .before .before .before .before .args .bytes .now))
 
 returns-3 : tie.Need-returns-3
 returns-3 c =
-    let test = c .before .before .before .before in
+    let step = c .before .before .before .before in
+    let test = step .before in
     let bytes = test .before .before .before .args .bytes .now in
-    let ink = end-ink bytes (λ e. test .if1 .left (test .before .ink-end .ensures ∙ e)) in
-    (λ line known. ink-behind-ink known bytes (c .before .before .if2 .left) ink (test .before .ink-end .ensures), (refl, omega arith))
+    let ink = found bytes (test .before .has-ink .ensures) (test .if1 .left) in
+    (λ line known. ink-behind-ink known bytes (c .before .before .if2 .left) ink (step .ink-end .ensures), (refl, omega arith))
 
 pub add-text-spec : {M : Type 1} → statement M
 add-text-spec =
     tie.close
     (tie.spec
-    ink-end-requires
+    has-ink-requires
     add-blanks-requires
     returns
-    add-t7
+    ink-end-requires
+    add-t8
     leading-blanks-requires
-    add-t9
     add-t10
+    add-t11
     returns-2
-    add-t12
     add-t13
+    add-t14
     returns-3)
