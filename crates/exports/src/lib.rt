@@ -1,12 +1,16 @@
-// The calls as programs in other languages link them: each slice is a pointer and a length, and the answer one number, 2^32 times the refusal's
-// number plus the text's length or the place. They ask nothing of their caller, and their promises are those of the calls that they wrap.
+// The calls as programs in other languages link them: each slice is a pointer and a length, and the answer one number,
+// 2^32 times the refusal's number plus the text's length or the place (but of `has_ink`, which refuses nothing: a
+// `bool`). They ask nothing of their caller, and their promises are those of the calls that they wrap.
 use answers::Answer;
 use losses::search::Loss;
+use text::scans;
 ghost use mathlib.Core.Path.{_≡_};
+ghost use mathlib.Core.Bool.{not};
 ghost use lib.ListN.{length};
 ghost use Rattle.answers.specs.Texts.{answerIn, bufferAfter};
 ghost use Rattle.answers.specs.Numbers.{answerOf};
 ghost use Rattle.text.specs.Stores.{zeros};
+ghost use Rattle.text.specs.Ink.{allBlank};
 ghost use Rattle.chunks.specs.Reading.{chunksOf};
 ghost use Rattle.columns.specs.Setting.{joinOutcome};
 ghost use Rattle.columns.specs.Promise.{Promised};
@@ -120,4 +124,12 @@ pub extern "C" fn felgutrosa_lost(tree: &[u8], from: usize) -> u64
 {
     let loss = losses::lost(tree, from);
     packed(loss_answer(loss))
+}
+
+// `text::scans::has_ink`: whether a line has a byte that is not blank. It reads no further than the first.
+#[no_mangle]
+pub extern "C" fn felgutrosa_has_ink(line: &[u8]) -> bool
+    ensures { λ r. ⌜ r ≡ not (allBlank (now (line .entry))) ⌝ }
+{
+    scans::has_ink(line)
 }

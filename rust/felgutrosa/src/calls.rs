@@ -1,5 +1,5 @@
-//! The functions of the static library, each with its answer still packed. A slice goes over as its
-//! pointer and its length.
+//! The functions of the static library, each with its answer as it comes, most of them packed. A
+//! slice goes over as its pointer and its length.
 mod library {
     unsafe extern "C" {
         pub fn felgutrosa_join_chunks(
@@ -34,10 +34,12 @@ mod library {
         pub fn felgutrosa_check_tree(tree: *const u8, tree_length: usize) -> u64;
 
         pub fn felgutrosa_lost(tree: *const u8, tree_length: usize, from: usize) -> u64;
+
+        pub fn felgutrosa_has_ink(line: *const u8, line_length: usize) -> bool;
     }
 }
 
-// Safety of all five: they ask nothing of the bytes, are proved to stay inside the slices, and keep
+// Safety of all six: they ask nothing of the bytes, are proved to stay inside the slices, and keep
 // no pointer. That slices lent for writing overlap with no other is what `&mut` says.
 
 pub fn join_chunks(chunks: &[u8], options: &[u8], text: &mut [u8]) -> u64 {
@@ -87,4 +89,8 @@ pub fn check_tree(tree: &[u8]) -> u64 {
 
 pub fn lost(tree: &[u8], from: usize) -> u64 {
     unsafe { library::felgutrosa_lost(tree.as_ptr(), tree.len(), from) }
+}
+
+pub fn has_ink(line: &[u8]) -> bool {
+    unsafe { library::felgutrosa_has_ink(line.as_ptr(), line.len()) }
 }

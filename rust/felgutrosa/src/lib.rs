@@ -163,3 +163,9 @@ pub fn lost(tree: &[u8], from: usize) -> Result<Option<Loss>, Refusal> {
     let value = unpacked(calls::lost(tree, from))?;
     Ok((value != 0).then_some(Loss { offset: value % 65536, places: (value / 65536) as u8 }))
 }
+
+/// Whether a line has a byte that is not blank; the scan stops at the first. Blank are the bytes 9
+/// to 13 and 32.
+pub fn has_ink(line: &[u8]) -> bool {
+    calls::has_ink(line)
+}

@@ -1,5 +1,5 @@
 //! The samples of document 01, and what a call leaves in its buffers.
-use felgutrosa::{Reason, Refusal, check_tree, chunks, format, join_chunks, lost};
+use felgutrosa::{Reason, Refusal, check_tree, chunks, format, has_ink, join_chunks, lost};
 
 /// The options byte 0: label margin 20, code margin 30, labels to the right.
 const DEFAULTS: &[u8] = &[0];
@@ -234,4 +234,16 @@ fn a_lost_comment_is_told() {
     assert_eq!(lost(NOP, 0), Ok(None));
     assert_eq!(lost(&[], 0), refused(Reason::TreeLength, 0));
     assert_eq!(lost(&tree[..12], 0), refused(Reason::TreeLayout, 11));
+}
+
+/// Every byte alone, before blanks and behind blanks.
+#[test]
+fn a_line_with_ink_is_told() {
+    assert!(!has_ink(&[]));
+    for byte in 0..=255 {
+        let ink = !matches!(byte, 9..=13 | 32);
+        assert_eq!(has_ink(&[byte]), ink);
+        assert_eq!(has_ink(&[byte, 32, 9]), ink);
+        assert_eq!(has_ink(&[32, 9, 10, 11, 12, 13, byte]), ink);
+    }
 }
