@@ -11,10 +11,11 @@ from streams import run
 HOME = Path(__file__).resolve().parent
 REPOSITORY = HOME.parent
 
-Programs = namedtuple("Programs", "oracle time once memory")
+Programs = namedtuple("Programs", "oracle time once memory scan")
 
 # `times` are nanoseconds, `counts` instructions, each by side; `memory` has the bytes that bin/memory.rs names.
 Row = namedtuple("Row", "case text room times counts memory")
+ScanRow = namedtuple("ScanRow", "line times counts")
 
 # What callgrind counts of a side: the calls inside of this function.
 INSIDE = {
@@ -25,6 +26,9 @@ INSIDE = {
     ("tree", "check"): "felgutrosa_check_tree",
     ("tree", "walk"): "felgutrosa_chunks",
 }
+
+# The same of the scan for ink.
+INSIDE_SCAN = {"rust": "*rust_has_ink*", "port": "felgutrosa_has_ink"}
 
 
 def build(sources):
@@ -67,3 +71,13 @@ def measured(case, programs, folder, rounds):
     }
     held = figures([programs.memory, *given, *room])
     return Row(case, text, room_used, timed, counts, {name: int(number) for name, number in held.items()})
+
+
+def scanned(line, programs, folder, rounds):
+    """The scan for ink on a line."""
+    line_file = folder / "line"
+    line_file.write_bytes(line.stored)
+    command = [programs.scan, str(line_file)]
+    times = figures([*command, str(rounds)])
+    counts = {side: instructions([*command, "0"], inside) for side, inside in INSIDE_SCAN.items()}
+    return ScanRow(line, times, counts)

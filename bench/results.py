@@ -132,7 +132,24 @@ def pair_results(pairs, over):
     return table(heads, (cells(row, pair[0]) for pair in pairs for row in pair))
 
 
-def written(list_rows, tree_rows, depth_pairs, length_pairs):
+# ------------------------------------------------------------ the scan for ink
+
+
+def scan_results(kinds):
+    """Each kind of line, its lengths over the shortest."""
+    over = f"to {len(kinds[0][0].line.stored)} bytes"
+    heads = ("line", "bytes", "port, ns", over, "port, instructions", over, "Rust, ns", over, "ratio")
+
+    def cells(row, first):
+        time, count, rust = row.times["port"], row.counts["port"], row.times["rust"]
+        told = (row.line.name, len(row.line.stored), f"{time:,.2f}", f"{time / first.times['port']:,.2f}")
+        told += (count, f"{count / first.counts['port']:,.2f}")
+        return told + (f"{rust:,.2f}", f"{rust / first.times['rust']:,.2f}", ratio(rust, time))
+
+    return table(heads, (cells(row, kind[0]) for kind in kinds for row in kind))
+
+
+def written(list_rows, tree_rows, depth_pairs, length_pairs, scans):
     """The lines of RESULTS.md."""
     rows = list_rows + tree_rows
     yield "# The Rust and the port"
@@ -177,6 +194,12 @@ def written(list_rows, tree_rows, depth_pairs, length_pairs):
         pairs = [pair for pair in length_pairs if pair[0].case.kind == kind]
         yield from list(pair_results(pairs, "over the first"))[:-1]
     yield ""
+    yield "## The scan for ink"
+    yield ""
+    yield "`has_ink` alone, on lines inked in their first byte, and on lines without ink, which have to be read to the"
+    yield "end. The Rust asks `line.trim().is_empty()`, which looks for the last ink too."
+    yield ""
+    yield from scan_results(scans)
     yield "## Instructions of a call"
     yield ""
     yield from counts(rows)

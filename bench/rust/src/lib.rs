@@ -8,6 +8,8 @@ use oracle::stored::{self, Alphabet, Refusal};
 use std::process::exit;
 use std::sync::Arc;
 
+pub mod clock;
+
 /// What both sides take.
 pub enum Input {
     List(Vec<PlainChunk>),
