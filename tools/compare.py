@@ -1,12 +1,13 @@
 """Compares a built `replay` with the Rust on chunk lists, and with two readers on trees, that no file holds.
 
-    python3 compare.py REPLAY ORACLE [--random N] [--small] [--limits] [--trees N] [--small-trees] [--walks N]
-                       [--formats N] [--parsed FOLDER] [--lost N] [--streams] [--seed S]
+    python3 compare.py REPLAY ORACLE [--random N] [--small] [--limits] [--ink] [--trees N] [--small-trees]
+                       [--walks N] [--formats N] [--parsed FOLDER] [--lost N] [--streams] [--seed S]
 
 Chunk lists, for the column setter:
 --random N      N random lists, some of them damaged, with buffers of any fit
 --small         all lists of up to five chunks of twelve, and of up to four of sixteen, under six options
 --limits        lists at the length limit, texts at the buffer's limit, the longest text
+--ink           lines whose only ink is the first byte, the last byte, or none, at margins 0 and 20
 Trees, for their check:
 --trees N       N random trees, two of three damaged, some of them about as deep as a tree may be
 --small-trees   one token of up to seven bytes of eight; one leaf of up to eight of six; every kind and map byte at
@@ -22,8 +23,8 @@ All:
 --streams       cut and overlong cases, wrong commands and nothing to repeat, which end a run of `replay`
 If no part is named: 20,000 random lists and as many random trees.
 
-Texts are the Rust's, through the program ORACLE. Refusals of random lists, all answers at the limits and
-all answers for trees are held against the model of document 01 too (model/model.py). What is printed: the
+Texts are the Rust's, through the program ORACLE. Refusals of random lists, all answers at the limits and of --ink,
+and all answers for trees are held against the model of document 01 too (model/model.py). What is printed: the
 number of cases by answer, and every difference with its input. The exit status is 1 where there is any.
 """
 
@@ -81,6 +82,7 @@ def main():
     parser.add_argument("--random", type=int, default=0)
     parser.add_argument("--small", action="store_true")
     parser.add_argument("--limits", action="store_true")
+    parser.add_argument("--ink", action="store_true")
     parser.add_argument("--trees", type=int, default=0)
     parser.add_argument("--small-trees", action="store_true")
     parser.add_argument("--walks", type=int, default=0)
@@ -91,7 +93,7 @@ def main():
     parser.add_argument("--seed", type=int, default=1)
     given = parser.parse_args()
     tally = Tally(given.replay)
-    parts = (given.random, given.small, given.limits, given.trees, given.small_trees, given.walks)
+    parts = (given.random, given.small, given.limits, given.ink, given.trees, given.small_trees, given.walks)
     parts += (given.formats, given.parsed, given.lost, given.streams)
     if not any(parts):
         given.random = given.trees = 20000
@@ -101,6 +103,8 @@ def main():
         compare_lists.compare_small(tally, given.oracle)
     if given.limits:
         compare_lists.compare_limits(tally, given.oracle)
+    if given.ink:
+        compare_lists.compare_ink(tally, given.oracle)
     if given.trees:
         compare_trees.compare_random(tally, given.oracle, given.trees, given.seed)
     if given.small_trees:

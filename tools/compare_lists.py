@@ -2,10 +2,11 @@
 
 from itertools import product
 
-from streams import MOST, Answer, ask_rust, join_case, join_due
+from streams import MOST, Answer, agreed, ask_rust, join_case, join_due
 
 import gen  # after streams, which finds the model's folder
 import model as m
+from list_cases import ink_lines
 from model import CODE, COMMENT, LABEL, Chunk, encode_chunk, encode_chunks, encode_options
 from tally import batches
 
@@ -143,10 +144,7 @@ def limit_cases():
 def compare_limits(tally, oracle):
     for case in limit_cases():
         (given,) = ask_rust(oracle, [(case.options, case.payload)])
-        due = join_due(given, case.room)
-        told = m.join_call(case.payload, case.options, case.room)
-        if Answer(told.number, told.value, 0, told.text) != due:
-            raise SystemExit(f"the model and the Rust differ: {case.options.hex()}, {len(case.payload)} bytes")
+        _, due = agreed(case, join_due(given, case.room))
         tally.compare([case], [due])
     # The longest text of all, 652,061,987 bytes: equal lines, so its length follows from one.
     wide = encode_options(label_margin=255, code_margin=255)
@@ -155,3 +153,19 @@ def compare_limits(tally, oracle):
     count = LIMIT // len(line)
     tally.compare([join_case(wide, line * count, MOST)], [Answer(9, count * (len(text) + 1) - 1, 0, b"")])
     tally.close("limits")
+
+
+# ------------------------------------------------------------ ink at either end of a line
+
+
+def compare_ink(tally, oracle):
+    for batch in batches(ink_lines(), 4000):
+        texts = ask_rust(oracle, [one[:2] for one in batch])
+        asked = [
+            agreed(join_case(options, stored, room), join_due(text, room))
+            for (options, stored, rooms), text in zip(batch, texts)
+            for room in (len(text) + more for more in rooms)
+            if 0 <= room
+        ]
+        tally.compare([case for case, _ in asked], [due for _, due in asked])
+    tally.close("ink")

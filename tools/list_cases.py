@@ -230,6 +230,20 @@ def long_lists():
         yield options, blank, m.MAX_CHUNKS + 1, 0
 
 
+def ink_lines():
+    """Lines whose only ink is their first byte, their last byte, or none, in one piece and behind pieces of blanks.
+    They are asked by compare.py, and are not in the stored stream."""
+    lengths = (1, 2, 19, 20, 21, 39, 40, 41, 1000)
+    for margin, ty, blank, length in product((0, 20), TYPES, (b" ", b"\t", b"\r"), lengths):
+        options = encode_options(label_margin=margin, code_margin=margin)
+        blanks = blank * length
+        for text in (b"x" + blanks, blanks + b"x", blanks):
+            line = [Chunk(ty, 0, text)]
+            for chunks in (line, [code(b" "), *line], [label(blanks), comment(blank), *line], [*line, code(blanks)]):
+                yield options, encode_chunks(chunks), (EXACT,)
+                yield options, encode_chunks([*chunks, NEWLINE, NEWLINE, code(b"y", 2)]), (EXACT, ONE_SHORT)
+
+
 def all_lists(seed, count):
     """(options, stored list, buffers) of every case, some of them twice."""
     for part in (

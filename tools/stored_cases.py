@@ -14,7 +14,7 @@ import argparse
 from collections import Counter
 from pathlib import Path
 
-from streams import MOST, Case, ask_reader, ask_rust, check_case, check_due, four, join_case, join_due
+from streams import MOST, Case, agreed, ask_reader, ask_rust, check_case, check_due, four, join_case, join_due
 from streams import ask_format, ask_walk, format_due, lost_case, repeated, repeated_case, stored_answer, stored_case
 from streams import told, walk_due
 
@@ -23,14 +23,6 @@ from list_cases import PLAIN, all_lists, long_lists
 from model import encode_chunks
 from tree_cases import SAMPLE, all_trees, not_covered, refusal_of
 from walk_cases import format_cases, options_of, walk_cases
-
-
-def agreed(case, due):
-    """The answer that is due, which the model has to give too."""
-    given = told(case)
-    if given != due:
-        raise SystemExit(f"the model and the Rust differ: {case} model {given} Rust {due}")
-    return case, due
 
 
 def answered_lists(oracle, lists):

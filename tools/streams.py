@@ -231,3 +231,11 @@ def told(case, model=m):
         return Answer(0, len(given), 0, given)
     except model.Refusal as refusal:
         return Answer(refusal.number, refusal.place, 0, b"")
+
+
+def agreed(case, due):
+    """A case and the answer that is due by the Rust, which the model has to give too."""
+    given = told(case)
+    if given != due:
+        raise SystemExit(f"the model and the Rust differ: {str(case)[:300]} model {str(given)[:300]} Rust {str(due)[:300]}")
+    return case, due
