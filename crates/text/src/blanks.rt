@@ -3,10 +3,13 @@ use crate::characters;
 ghost use mathlib.Core.Path.{_≡_};
 ghost use Rattle.text.specs.Ink.{blank};
 
-// Whether a byte is blank: 9 to 13 or 32.
+// Whether a byte is blank: 9 to 13 or 32. Most bytes of a text are above 32, so that is asked first.
 pub fn is_blank(b: u8) -> bool
     ensures { λ r. ⌜ r ≡ blank b ⌝ }
 {
+    if characters::SPACE < b {
+        return false;
+    }
     if b == characters::SPACE {
         return true;
     }
