@@ -14,7 +14,7 @@ def microseconds(row, side):
 
 
 def ratio(rust, port):
-    return f"{rust / port:.1f}"
+    return f"{rust / port:,.1f}"
 
 
 def time_ratio(row):
