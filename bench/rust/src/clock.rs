@@ -27,10 +27,10 @@ pub fn spent() -> f64 {
 /// One side of a case: what is timed, with how many calls between two looks at the clock, and the
 /// least time of a call so far.
 pub struct Side<'a> {
-    pub name: &'static str,
+    name: &'static str,
     call: Box<dyn FnMut(usize) -> f64 + 'a>,
     calls: usize,
-    pub least: f64,
+    least: f64,
 }
 
 /// Between two looks at the clock at least this many nanoseconds should pass.
