@@ -3,7 +3,7 @@ ghost use Rattle.std.specs.Prelude.{◌≡◌};
 ghost use Rattle.answers.specs.Numbers.{number, numbers, answer_of, numbers_checked};
 
 // What document 01's nine numbers stand for, in checking order.
-#[derive(Drop)]
+#[derive(Clone, Copy)]
 pub enum Reason {
     OptionsLength,
     OptionsValue,
@@ -17,21 +17,21 @@ pub enum Reason {
 }
 
 // A refusal: its reason, and the place that goes with it (for WorkRoom and TextRoom the length that was needed).
-#[derive(Drop)]
+#[derive(Clone, Copy)]
 pub struct Refusal {
     pub reason: Reason,
     pub place: usize,
 }
 
 // The answer of a call that writes a text: the text's length, or a refusal.
-#[derive(Drop)]
+#[derive(Clone, Copy)]
 pub enum Answer {
     Accepted(usize),
     Refused(Refusal),
 }
 
 // The answer of a call that only judges its input.
-#[derive(Drop)]
+#[derive(Clone, Copy)]
 pub enum Checked {
     Passed,
     Failed(Refusal),

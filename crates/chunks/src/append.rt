@@ -9,7 +9,7 @@ use crate::stored::ChunkType;
 use text::{characters, numbers, stores};
 
 // What appending a chunk gives.
-#[derive(Drop)]
+#[derive(Clone, Copy)]
 pub enum Appended {
     // The used length, the chunk included.
     Used(usize),

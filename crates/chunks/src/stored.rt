@@ -6,7 +6,7 @@ use text::numbers;
 use text::numbers::Number;
 
 // What a chunk's text is. (The source has no name for code: it is a chunk without a type.)
-#[derive(Drop)]
+#[derive(Clone, Copy)]
 pub enum ChunkType {
     Code,
     Label,
@@ -14,7 +14,7 @@ pub enum ChunkType {
 }
 
 // A chunk where it is stored: its text is the bytes from start to end.
-#[derive(Drop)]
+#[derive(Clone, Copy)]
 pub struct StoredChunk {
     pub ty: ChunkType,
     pub indent: usize,
@@ -23,7 +23,7 @@ pub struct StoredChunk {
 }
 
 // What stands at a place of a list.
-#[derive(Drop)]
+#[derive(Clone, Copy)]
 pub enum ChunkAt {
     Found(StoredChunk),
     // No chunk: the list ends there, or what stands there breaks the layout.

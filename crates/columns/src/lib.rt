@@ -5,7 +5,7 @@ ghost use Rattle.columns.specs.Setting.{margins_of};
 use options::{Alignment, FormattingOptions};
 
 // The label margin L, the code margin C, and how a label is aligned in its margin.
-#[derive(Drop)]
+#[derive(Clone, Copy)]
 pub struct Margins {
     pub label: usize,
     pub code: usize,
@@ -13,7 +13,7 @@ pub struct Margins {
 }
 
 // What follows a chunk: none, a chunk that is exactly a newline, or another chunk.
-#[derive(Drop)]
+#[derive(Clone, Copy)]
 pub enum Follows {
     Nothing,
     Newline,
@@ -21,7 +21,7 @@ pub enum Follows {
 }
 
 // The indent that a line takes from the first chunk to start on it.
-#[derive(Drop)]
+#[derive(Clone, Copy)]
 pub enum Indent {
     Unset,
     Set(usize),

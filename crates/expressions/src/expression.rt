@@ -19,7 +19,7 @@ use printing::{Context, Printed};
 use tree::grammar::{Class, Kind};
 
 // Whose list of arguments it is.
-#[derive(Drop)]
+#[derive(Clone, Copy)]
 pub enum Arguments {
     Expressions,
     Identifiers,

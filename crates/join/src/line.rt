@@ -12,7 +12,7 @@ use columns::{Indent, Margins};
 use text::scans;
 
 // A line's length, the blanks before its first ink, and the place behind its last ink (0 for none).
-#[derive(Drop)]
+#[derive(Clone, Copy)]
 pub struct Measure {
     pub length: usize,
     pub leading: usize,
@@ -170,7 +170,7 @@ pub(crate) fn indent_of(indent: Indent) -> usize
 }
 
 // A line that is still open, and the spot that it goes on from.
-#[derive(Drop)]
+#[derive(Clone, Copy)]
 pub struct Run {
     pub measure: Measure,
     pub spot: Spot,
@@ -219,7 +219,7 @@ pub(crate) fn measure_on(
 }
 
 // A line that was walked to its end: its measures, its indent, and the spot behind it.
-#[derive(Drop)]
+#[derive(Clone, Copy)]
 pub struct Walked {
     pub measure: Measure,
     pub indent: usize,
@@ -257,7 +257,7 @@ pub(crate) fn measure_line(list: &[u8], margins: Margins, spot: Spot) -> Walked
 }
 
 // The part of a line that is written: its bytes from `low` to `high`, from `base` of the text on.
-#[derive(Drop)]
+#[derive(Clone, Copy)]
 pub struct Window {
     pub base: usize,
     pub low: usize,

@@ -15,7 +15,7 @@ use columns::Margins;
 use text::{characters, stores};
 
 // The text so far: its length, whether it has a line, whether the last line kept is blank, and whether a standalone comment came last.
-#[derive(Drop)]
+#[derive(Clone, Copy)]
 pub struct Past {
     pub length: usize,
     pub any: bool,
@@ -24,7 +24,7 @@ pub struct Past {
 }
 
 // How an ended line is set: `lead` spaces, then its bytes from `low` to `high`.
-#[derive(Drop)]
+#[derive(Clone, Copy)]
 pub struct Cut {
     pub kept: bool,
     pub standalone: bool,
@@ -135,7 +135,7 @@ pub(crate) fn write_cut(
 }
 
 // Where a line is taken to stand before it was walked: behind `lead` spaces, from its byte `low` on.
-#[derive(Drop)]
+#[derive(Clone, Copy)]
 pub struct Guess {
     pub lead: usize,
     pub low: usize,

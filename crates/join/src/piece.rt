@@ -15,7 +15,7 @@ use options::Alignment;
 use text::{characters, numbers, scans};
 
 // Where a walk stands: at `at` in the chunk whose text is list[start..end]; past the last chunk all three are the list's length.
-#[derive(Drop)]
+#[derive(Clone, Copy)]
 pub struct Spot {
     pub ty: ChunkType,
     pub indent: usize,
@@ -104,7 +104,7 @@ pub(crate) fn spot_at(list: &[u8], place: usize) -> Spot
 }
 
 // Where a piece ends, and whether it ends in a newline.
-#[derive(Drop)]
+#[derive(Clone, Copy)]
 pub struct PieceEnd {
     pub end: usize,
     pub newline: bool,
@@ -166,7 +166,7 @@ pub(crate) fn behind_chunk(list: &[u8], place: usize) -> Follows
 }
 
 // How a piece is laid: the spaces before it and behind it. Where it is ignored nothing is added.
-#[derive(Drop)]
+#[derive(Clone, Copy)]
 pub struct Lay {
     pub before: usize,
     pub behind: usize,
@@ -282,7 +282,7 @@ pub(crate) fn lay_piece(
 }
 
 // A piece, laid: `before` spaces, the bytes list[from..to], `behind` spaces; whether it ends the line, and the spot behind it.
-#[derive(Drop)]
+#[derive(Clone, Copy)]
 pub struct Step {
     pub before: usize,
     pub from: usize,

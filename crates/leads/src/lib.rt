@@ -20,7 +20,7 @@ use tree::parts::HeadRead;
 use tree::{kinds, own, parts};
 
 // What stood before a token in its list: whether it is the first, and the number of the kind of the one before.
-#[derive(Drop)]
+#[derive(Clone, Copy)]
 pub struct Before {
     pub first: bool,
     pub previous: usize,
@@ -28,7 +28,7 @@ pub struct Before {
 
 // A token whose lead-in was printed: its own bytes, those of its head, and the state behind the lead-in; or the answer where the walk
 // ended before the token.
-#[derive(Drop)]
+#[derive(Clone, Copy)]
 pub enum Lead {
     Ready(Own, Own, CodeFormatter),
     Over(Printed),

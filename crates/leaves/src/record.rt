@@ -13,7 +13,7 @@ use tree::parts::Skipped;
 use tree::{own, parts};
 
 // A record that was opened: its own bytes, and the state behind its trivia; or the answer where there is none to go on with.
-#[derive(Drop)]
+#[derive(Clone, Copy)]
 pub enum Opened {
     Record(Own, CodeFormatter),
     Closed(Printed),

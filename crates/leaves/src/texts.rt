@@ -11,7 +11,7 @@ use printing::{CodeFormatter, Context};
 use text::numbers;
 
 // How a leaf prints.
-#[derive(Drop)]
+#[derive(Clone, Copy)]
 pub enum Style {
     Plain,
     Mnemonic,

@@ -15,7 +15,7 @@ use tree::{check, kinds, own};
 use wording::{lines, places, records, sentences};
 
 // A number that was read, or the end of the input.
-#[derive(Drop)]
+#[derive(Clone, Copy)]
 enum Got {
     Number(usize),
     Ended,

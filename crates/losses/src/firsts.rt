@@ -6,14 +6,14 @@ ghost use Rattle.losses.specs.Visits.{Takes};
 use crate::places;
 
 // The offset of the first record so far, if there is one.
-#[derive(Drop)]
+#[derive(Clone, Copy)]
 pub enum First {
     At(usize),
     Never,
 }
 
 // The first records so far, of places (a) to (h).
-#[derive(Drop)]
+#[derive(Clone, Copy)]
 pub struct Firsts {
     pub opening_brace: First,
     pub label_colon: First,

@@ -15,14 +15,14 @@ use tree::{check, kinds, own};
 
 // A record that was searched: the place behind it and the first records so far, or the refusal that reading it met,
 // which is none where the tree passed the check.
-#[derive(Drop)]
+#[derive(Clone, Copy)]
 pub enum Searched {
     Whole(usize, Firsts),
     Refused(Refusal),
 }
 
 // The first record that uses a place: its offset, and its places as bits, 1 for (a) to 128 for (h).
-#[derive(Drop)]
+#[derive(Clone, Copy)]
 pub enum Loss {
     Used(usize, usize),
     Unused,

@@ -18,7 +18,7 @@ use tree::{codes, kinds, own, parts};
 
 // What a record shows: the first records so far with it, or the refusal that reading it met, which is none where the
 // tree passed the check.
-#[derive(Drop)]
+#[derive(Clone, Copy)]
 pub enum Seen {
     Shown(Firsts),
     Refused(Refusal),

@@ -7,36 +7,36 @@ ghost use Rattle.options.specs.Casings.{cased_byte, cased};
 
 use answers::{Checked, Reason, Refusal};
 
-#[derive(Drop)]
+#[derive(Clone, Copy)]
 pub enum Casing {
     Uppercase,
     Lowercase,
 }
 
-#[derive(Drop)]
+#[derive(Clone, Copy)]
 pub struct MnemonicOptions {
     pub casing: Casing,
     pub register_casing: Casing,
 }
 
-#[derive(Drop)]
+#[derive(Clone, Copy)]
 pub enum BracePosition {
     SameLine,
     NewLine,
 }
 
-#[derive(Drop)]
+#[derive(Clone, Copy)]
 pub struct BraceOptions {
     pub position: BracePosition,
 }
 
-#[derive(Drop)]
+#[derive(Clone, Copy)]
 pub enum Alignment {
     Left,
     Right,
 }
 
-#[derive(Drop)]
+#[derive(Clone, Copy)]
 pub struct WhitespaceOptions {
     pub indent: usize,
     pub label_margin: usize,
@@ -44,12 +44,12 @@ pub struct WhitespaceOptions {
     pub code_margin: usize,
 }
 
-#[derive(Drop)]
+#[derive(Clone, Copy)]
 pub struct ListingOptions {
     pub num_bytes_per_line: usize,
 }
 
-#[derive(Drop)]
+#[derive(Clone, Copy)]
 pub struct FormattingOptions {
     pub mnemonics: MnemonicOptions,
     pub braces: BraceOptions,
@@ -58,7 +58,7 @@ pub struct FormattingOptions {
 }
 
 // What reading stored options gives.
-#[derive(Drop)]
+#[derive(Clone, Copy)]
 pub enum OptionsRead {
     Options(FormattingOptions),
     Refused(Refusal),

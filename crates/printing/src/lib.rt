@@ -18,7 +18,7 @@ use text::characters;
 const UNSTORABLE: usize = 1048577;
 
 // What stays the same down a subtree.
-#[derive(Drop)]
+#[derive(Clone, Copy)]
 pub struct Context {
     pub options: FormattingOptions,
     pub indent: usize,
@@ -27,7 +27,7 @@ pub struct Context {
 // What changes while the walk goes on: the used length of the work room, the end of the last chunk that is not exactly a newline, whether a
 // space goes before the next text (1, else 0: a whole word, since a state with a byte in it takes longer to hand on), and the length that did
 // not fit (0 while all did).
-#[derive(Drop)]
+#[derive(Clone, Copy)]
 pub struct CodeFormatter {
     pub used: usize,
     pub solid: usize,
@@ -36,7 +36,7 @@ pub struct CodeFormatter {
 }
 
 // A printer's answer: the state and the place behind the record, or why the walk ended.
-#[derive(Drop)]
+#[derive(Clone, Copy)]
 pub enum Printed {
     Done(CodeFormatter, usize),
     Refused(Refusal),

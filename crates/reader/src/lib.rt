@@ -10,7 +10,7 @@ use tree::own::OwnRead;
 use tree::parts::Skipped;
 use tree::{own, parts};
 
-#[derive(Drop)]
+#[derive(Clone, Copy)]
 pub struct Reader<'a> {
     pub tree: &'a [u8],
     pub at: usize,

@@ -5,7 +5,7 @@ use losses::search::Loss;
 use text::{numbers, stores};
 
 // A number that was read, or the end of the input.
-#[derive(Drop)]
+#[derive(Clone, Copy)]
 enum Got {
     Number(usize),
     Ended,
@@ -175,7 +175,7 @@ fn write_four(number: usize) {
 }
 
 // For each place the offset of its first record plus 1, or 0.
-#[derive(Drop)]
+#[derive(Clone, Copy)]
 struct Noted {
     a: usize,
     b: usize,

@@ -4,7 +4,7 @@ ghost use Rattle.text.specs.Numbers.{read_number};
 ghost use Rattle.text.specs.Stores.{number_end, number_buffer};
 
 // What reading a number finds.
-#[derive(Drop)]
+#[derive(Clone, Copy)]
 pub enum Number {
     Read(usize),
     // The slice ends before the number's second byte.
@@ -12,7 +12,7 @@ pub enum Number {
 }
 
 // What storing a number gives.
-#[derive(Drop)]
+#[derive(Clone, Copy)]
 pub enum StoredNumber {
     // The place behind the number.
     NumberEnd(usize),

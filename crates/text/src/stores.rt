@@ -2,7 +2,7 @@
 ghost use Rattle.std.specs.Prelude.{◌≡◌, length, replicate};
 ghost use Rattle.text.specs.Stores.{stored_end, stored_buffer, zeros};
 
-#[derive(Drop)]
+#[derive(Clone, Copy)]
 pub enum Stored {
     // The place behind what was stored.
     End(usize),

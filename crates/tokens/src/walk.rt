@@ -27,7 +27,7 @@ use tree::grammar::Class;
 use tree::kinds;
 
 // What stands inside a token.
-#[derive(Drop)]
+#[derive(Clone, Copy)]
 pub enum Inner {
     Nothing,
     Block(bool),

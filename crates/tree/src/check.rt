@@ -18,7 +18,7 @@ use answers::{Checked, Reason, Refusal};
 use text::{numbers, scans};
 
 // The parts of a record that are still to be read: the fields of a row whose bits stand, then `count` items of a class.
-#[derive(Drop)]
+#[derive(Clone, Copy)]
 pub struct Plan {
     pub row: u64,
     pub bits: usize,
@@ -26,14 +26,14 @@ pub struct Plan {
     pub count: usize,
 }
 
-#[derive(Drop)]
+#[derive(Clone, Copy)]
 pub enum Part {
     Next(Class, Plan),
     NoPart,
 }
 
 // A record that was read whole: the place behind it, and the first byte that no text may hold (a place past the tree stands for none).
-#[derive(Drop)]
+#[derive(Clone, Copy)]
 pub enum RecordRead {
     Whole(usize, usize),
     Refused(Refusal),

@@ -15,7 +15,7 @@ const CLOSING_BRACE: usize = characters::CLOSING_BRACE as usize;
 const COLON: usize = characters::COLON as usize;
 
 // The kinds of records, in the order of their numbers 0 to 42.
-#[derive(Drop)]
+#[derive(Clone, Copy)]
 pub enum Kind {
     Align,
     Assert,
@@ -63,14 +63,14 @@ pub enum Kind {
 }
 
 // The kind that a byte stands for.
-#[derive(Drop)]
+#[derive(Clone, Copy)]
 pub enum KindRead {
     Known(Kind),
     Unknown,
 }
 
 // What may stand in a field, by the field's Rust type.
-#[derive(Drop)]
+#[derive(Clone, Copy)]
 pub enum Class {
     // Located String, Identifier, IdentifierPath, Number.
     Word,
@@ -145,7 +145,7 @@ pub enum Class {
 }
 
 // The text of a leaf.
-#[derive(Drop)]
+#[derive(Clone, Copy)]
 pub enum TextRule {
     // There is none.
     NoText,
@@ -156,14 +156,14 @@ pub enum TextRule {
 }
 
 // Whether a list may stand, and of what.
-#[derive(Drop)]
+#[derive(Clone, Copy)]
 pub enum Items {
     NoList,
     ListOf(Class),
 }
 
 // What may stand in a class: the kinds from first to last, whether with trivia, the text of a leaf, a list, and what an argument's value is.
-#[derive(Drop)]
+#[derive(Clone, Copy)]
 pub struct Rule {
     pub first: usize,
     pub last: usize,

@@ -14,7 +14,7 @@ use text::numbers::Number;
 
 // A record's own bytes, by their places: `trivia` is the place of its first trivia item, of which there are `trivia_count`; its text is
 // the bytes from `text` to `end`, behind which its fields or items begin; `count` says how many items a list has.
-#[derive(Drop)]
+#[derive(Clone, Copy)]
 pub struct Own {
     pub kind: Kind,
     pub map: usize,
@@ -25,14 +25,14 @@ pub struct Own {
     pub count: usize,
 }
 
-#[derive(Drop)]
+#[derive(Clone, Copy)]
 pub enum OwnRead {
     Record(Own),
     Refused(Refusal),
 }
 
 // The place behind a part of a record's own bytes.
-#[derive(Drop)]
+#[derive(Clone, Copy)]
 pub enum Span {
     Behind(usize),
     Broken,
@@ -176,14 +176,14 @@ fn may_stand(rule: Rule, number: usize) -> bool
 }
 
 // Trivia: the place of the first item, how many there are, and the place behind them.
-#[derive(Drop)]
+#[derive(Clone, Copy)]
 pub struct TriviaSpan {
     pub first: usize,
     pub count: usize,
     pub end: usize,
 }
 
-#[derive(Drop)]
+#[derive(Clone, Copy)]
 pub enum TriviaRead {
     Trivia(TriviaSpan),
     BrokenTrivia,
@@ -296,7 +296,7 @@ fn own_of(kind: Kind, map: usize, trivia: TriviaSpan, text: usize, end: usize, c
 }
 
 // What stands behind the trivia: the place of the text, the place behind it, and a list's count.
-#[derive(Drop)]
+#[derive(Clone, Copy)]
 pub(crate) enum RestRead {
     Rest(usize, usize, usize),
     BrokenRest,
@@ -326,7 +326,7 @@ fn read_rest(tree: &[u8], text: TextRule, number: usize, map: usize, trivia: Tri
 }
 
 // What a record's first two bytes say: its kind and its map, where they are right for its class.
-#[derive(Drop)]
+#[derive(Clone, Copy)]
 pub(crate) enum Judged {
     Fit(Kind, usize),
     Unfit,
@@ -355,7 +355,7 @@ fn judge(tree: &[u8], at: usize, rule: Rule, number: usize) -> Judged
 }
 
 // A record that has a first byte, or that it breaks the layout: the refusal is made once, by the caller.
-#[derive(Drop)]
+#[derive(Clone, Copy)]
 pub(crate) enum OwnFound {
     Found(Own),
     NotFound,

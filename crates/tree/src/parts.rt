@@ -15,35 +15,35 @@ use answers::{Reason, Refusal};
 use text::numbers;
 
 // The place behind a record.
-#[derive(Drop)]
+#[derive(Clone, Copy)]
 pub enum Skipped {
     Next(usize),
     NotSkipped(Refusal),
 }
 
 // A trivia item, by its code and the places of its text, which for a newline are both the place behind it.
-#[derive(Drop)]
+#[derive(Clone, Copy)]
 pub struct TriviumSpan {
     pub code: u8,
     pub start: usize,
     pub end: usize,
 }
 
-#[derive(Drop)]
+#[derive(Clone, Copy)]
 pub enum TriviumRead {
     Item(TriviumSpan),
     BrokenItem,
 }
 
 // A token's head: the record of a class at a place, where so many levels are left.
-#[derive(Drop)]
+#[derive(Clone, Copy)]
 pub struct Head {
     pub place: usize,
     pub class: Class,
     pub levels: usize,
 }
 
-#[derive(Drop)]
+#[derive(Clone, Copy)]
 pub enum HeadRead {
     Found(Head),
     NoHead(Refusal),

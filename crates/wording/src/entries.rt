@@ -10,7 +10,7 @@ use crate::lines;
 use tree::grammar::Class;
 
 // The enums whose cases stand in leaves, by index in declared order.
-#[derive(Drop)]
+#[derive(Clone, Copy)]
 pub enum Table {
     Mnemonics,
     Registers,
@@ -24,7 +24,7 @@ pub enum Table {
 }
 
 // How a leaf is shown.
-#[derive(Drop)]
+#[derive(Clone, Copy)]
 pub enum Form {
     Text,
     Entry(Table),
