@@ -1,4 +1,6 @@
 // The answers of the formatter's calls: acceptance, or a refusal by name with its place.
+#![tactic(auto)]
+
 ghost use Rattle.std.specs.Prelude.{◌≡◌};
 ghost use Rattle.answers.specs.Numbers.{number, numbers, answer_of, numbers_checked};
 

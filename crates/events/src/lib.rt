@@ -1,1 +1,2 @@
 // The events of a tree: definitions only, which the printers' contracts cite.
+#![tactic(auto)]

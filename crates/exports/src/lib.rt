@@ -1,6 +1,8 @@
 // The calls as programs in other languages link them: each slice is a pointer and a length, and the answer one number,
 // 2^32 times the refusal's number plus the text's length or the place (but of `has_ink`, which refuses nothing: a
 // `bool`). They ask nothing of their caller, and their promises are those of the calls that they wrap.
+#![tactic(auto)]
+
 ghost use Rattle.std.specs.Prelude.{◌≡◌, not, length};
 ghost use Rattle.answers.specs.Texts.{answer_in, buffer_after};
 ghost use Rattle.answers.specs.Numbers.{answer_of};

@@ -1,4 +1,6 @@
 // The tree call: a stored tree becomes a lesson in columns.
+#![tactic(auto)]
+
 ghost use Rattle.std.specs.Prelude.{◌≡◌, length};
 ghost use Rattle.answers.specs.Numbers.{numbers};
 ghost use Rattle.answers.specs.Texts.{answer_in, buffer_after, numbers_in};

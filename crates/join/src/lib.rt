@@ -1,4 +1,6 @@
 // The column setter: a stored chunk list becomes text in columns.
+#![tactic(auto)]
+
 pub mod clear;
 pub mod line;
 pub mod lines;

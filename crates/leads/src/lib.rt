@@ -1,4 +1,6 @@
 // What stands before a token of a list, and behind the last: trivia of its head, and the newline rule of `format_tokens`.
+#![tactic(auto)]
+
 ghost use Rattle.std.specs.Prelude.{◌≡◌, [], ◌∷◌};
 ghost use Rattle.tree.specs.Reading.{read};
 ghost use Rattle.tree.specs.declared.grammar.Class.TheVariants as class;

@@ -1,4 +1,6 @@
 // What a lesson will lose: which of the eight places of document 01 a tree uses, and where.
+#![tactic(auto)]
+
 pub mod firsts;
 pub mod places;
 pub mod search;

@@ -1,4 +1,6 @@
 // The formatting options: the types of the source, their defaults, and their stored form.
+#![tactic(auto)]
+
 ghost use Rattle.std.specs.Prelude.{◌≡◌, ◌≤◌, ◌<◌, ◌+◌, get_or};
 ghost use Rattle.options.specs.Types.{casing_of, position_of, alignment_of, options_of};
 ghost use Rattle.options.specs.Stored.{bit, place_of, defaults, largest, map_of, value_of, too_large, values_checked, stored_options, read_options, NarrowRead};

@@ -1,4 +1,6 @@
 // The formatter's state, and what every printer does to it: push a chunk, remember a space, forget it, drop newlines at the end.
+#![tactic(auto)]
+
 ghost use Rattle.std.specs.Prelude.{◌≡◌, List, ℕ, length};
 ghost use Rattle.text.specs.Lines.{is_empty, is_newline};
 ghost use Rattle.chunks.specs.Appending.{with_space, with_colon};

@@ -1,5 +1,7 @@
 // A reader of a stored tree: the tree's bytes and a place in them. The functions over it take it apart and leave the work to crate `tree`,
 // which takes the bytes and the place: what holds a reference is proved by hand, so little is done here.
+#![tactic(auto)]
+
 ghost use Rattle.std.specs.Prelude.{◌≡◌, cond, ltb};
 ghost use Rattle.tree.specs.Own.{read_own, numbers_own, own_numbers};
 ghost use Rattle.tree.specs.Parts.{skipped, numbers_skipped, read_numbers};

@@ -1,1 +1,2 @@
 // Reading order and the eight places: definitions and laws only.
+#![tactic(auto)]

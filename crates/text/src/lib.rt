@@ -1,4 +1,6 @@
 // Bytes as text: blank and ink, two-byte numbers, and stores into a lent buffer.
+#![tactic(auto)]
+
 pub mod blanks;
 pub mod characters;
 pub mod numbers;

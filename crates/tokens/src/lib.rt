@@ -1,4 +1,6 @@
 // The printers of tokens and blocks, and the walk over a whole tree.
+#![tactic(auto)]
+
 ghost use Rattle.std.specs.Prelude.{◌≡◌, length};
 ghost use Rattle.answers.specs.Numbers.{numbers};
 ghost use Rattle.options.specs.Types.{Narrow};

@@ -1,4 +1,6 @@
 // The stored tree: its grammar, its check, and reading its records.
+#![tactic(auto)]
+
 pub mod check;
 pub mod codes;
 pub mod grammar;

@@ -1,4 +1,6 @@
 // What the command `lesson` says, as lines in a lent buffer: refusals as sentences, records, chunks and losses.
+#![tactic(auto)]
+
 mod entries;
 pub mod lines;
 mod names;

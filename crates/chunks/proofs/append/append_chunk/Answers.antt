@@ -1,0 +1,67 @@
+-- Each answer is the one that the definition has after the same tests, and the head and the text, stored one behind the other, are the chunk stored.
+use native.Mathlib.Omega.{arith}
+use borrow.Author.Rules.{rules}
+use Rattle.chunks.specs.Stored.{Chunk, WellFormed}
+use Rattle.chunks.specs.Appending.{with_space, with_colon}
+use Rattle.chunks.proofs.Forms.{indent_length, head_length, chunk_length}
+use Rattle.chunks.proofs.Storing.{text-length, chunk_stores, append-deep, append-empty, append-long, append-past, append-no-room, append-stored}
+use Rattle.chunks.proofs.append.append_chunk.Goals as goal
+
+-- the chunk that is handed over
+abbrev handed : tie.Start → Chunk
+handed start = record { ty = start.args.ty; indent = start.args.indent; text = with_space start.args.spaced (with_colon start.args.colon start.args.text.now) }
+
+-- it is well formed where the tests have let it pass
+passed : (c : tie.Else4) → WellFormed (handed c.before.before.before.before.before.before.before)
+passed c = record { indent = omega arith; some = omega arith; short = omega arith }
+
+pub returns-then-indent-gt4096 : goal.returns-then-indent-gt4096
+returns-then-indent-gt4096 c =
+    let told = append-deep _ _ (handed (PLACE:Start)) c.if-indent-gt4096.true in
+    record { answer = told.0; room = told.1 }
+
+pub returns-then-text-gt65535 : goal.returns-then-text-gt65535
+returns-then-text-gt65535 c =
+    let told = append-long _ _ (handed c) (omega (arith, text-length c.args.spaced c.args.text.now c.args.colon)) in
+    record { answer = told.0; room = told.1 }
+
+pub returns-then-count-eq0 : goal.returns-then-count-eq0
+returns-then-count-eq0 c =
+    let told = append-empty _ _ (handed (PLACE:Start)) (omega arith) in
+    record { answer = told.0; room = told.1 }
+
+pub returns-then-count-gt65535 : goal.returns-then-count-gt65535
+returns-then-count-gt65535 c =
+    let told = append-long _ _ (handed (PLACE:Start)) (omega arith) in
+    record { answer = told.0; room = told.1 }
+
+pub returns-then-limit-used : goal.returns-then-limit-used
+returns-then-limit-used c =
+    let told = append-past _ _ (handed (PLACE:Start)) (passed (PLACE:Else-count-gt65535)) (omega arith) in
+    record { answer = told.0; room = told.1 }
+
+pub overflow_add-end : goal.overflow_add-end
+overflow_add-end c = omega (arith, indent_length c.args.indent)
+
+pub overflow_add-end-2 : goal.overflow_add-end-2
+overflow_add-end-2 c = omega (arith, indent_length c.args.indent)
+
+pub returns-then-limit-end : goal.returns-then-limit-end
+returns-then-limit-end c =
+    let told = append-no-room _ _ (handed c) (passed (PLACE:Else-count-gt65535)) (omega arith) (omega (arith, chunk_length (handed c))) (omega arith) in
+    record { answer = told.0; room = told.1 }
+
+pub store_head-behind-requires : goal.store_head-behind-requires
+store_head-behind-requires c =
+    omega (arith, head_length c.args.ty c.args.indent c.text_length-count.result)
+
+pub store_text-requires : goal.store_text-requires
+store_text-requires c =
+    omega (arith, head_length c.args.ty c.args.indent c.text_length-count.result)
+
+pub returns : goal.returns
+returns c =
+    let told = append-stored _ _ (handed c) (passed c) (omega (arith, c)) (omega (arith, c, chunk_length (handed c))) (omega (arith, c))
+    (chunk_stores c.args.room.now c.args.used (handed c) c.text_length-count.ensures c.store_head-behind.ensures.answer c.store_head-behind.ensures.room
+    c.store_text.ensures) in
+    record { answer = told.0; room = told.1 }

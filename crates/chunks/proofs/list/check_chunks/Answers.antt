@@ -1,0 +1,73 @@
+-- A list of accepted bytes is judged by its layout. In any other what was judged up to a place, and the judgement of what stands from there on, give the judgement of the whole list.
+use Prim.Native.Nat.{ℕ, ◌-◌}
+use mathlib.Core.List.{List}
+use mathlib.Core.Path.{sym, ◌∙◌}
+use native.Mathlib.Omega.{arith}
+use Rattle.answers.proofs.Numbers.{judged_numbers}
+use borrow.Author.Rules.{rules}
+use Rattle.chunks.specs.Reading.{ChunkFits}
+use Rattle.chunks.specs.declared.stored.StoredChunk.{StoredChunk}
+use Rattle.chunks.proofs.Judging.{Going, going_first, going_on, too_long, bad-chunk, bad-byte, all-good}
+use Rattle.chunks.proofs.Numbers.{list_numbers_lem}
+use Rattle.chunks.proofs.list.check_chunks.Goals as goal
+
+-- the list, and the chunk that was found in it
+abbrev list : tie.After-known-told invariant-loop decreases-loop → List ℕ
+list c = c.before.before.before.before.before.before.before.before.before.before.args.list.now
+
+abbrev chunk : tie.After-known-told invariant-loop decreases-loop → StoredChunk
+chunk c = c.before.found.given.0.0
+
+-- which fits where it was looked for
+fit : (c : tie.After-known-told invariant-loop decreases-loop) → ChunkFits (list c) c.before.before.before.before.before.loop.at (chunk c)
+fit c = rw c.before.found.given.1 at c.before.before.before.chunk-at.ensures.1
+
+pub returns-then-length-gt1048576 : goal.returns-then-length-gt1048576
+returns-then-length-gt1048576 c =
+    let told = judged_numbers (list_numbers_lem _) (sym (too_long _ c.if-length-gt1048576.true)) in
+    record { answer = told.0; numbers = told.1 }
+
+pub check_layout-requires : goal.check_layout-requires
+check_layout-requires c = (c.if-length-gt1048576.false, sym c.is_accepted.ensures ∙ c.if-is_accepted.true)
+
+pub returns-then-is_accepted : goal.returns-then-is_accepted
+returns-then-is_accepted c =
+    let told = judged_numbers (list_numbers_lem _) c.check_layout.ensures in
+    record { answer = told.0; numbers = told.1 }
+
+pub loop-at-init : goal.loop-at-init
+loop-at-init c = going_first c.args.list.now
+
+pub returns-in_default : goal.returns-in_default
+returns-in_default c =
+    let turn = c.loop-at in
+    let none = sym c.chunk_at-found.ensures.answer ∙ c.in_default.is in
+    let told = judged_numbers (list_numbers_lem _) (sym (bad-chunk c.args.list.now turn.at turn.fault
+    c.if-length-gt1048576.false turn.invariant c.loop-at-test.true none)) in
+    record { answer = told.0; numbers = told.1 }
+
+pub fault_in-fault-requires : goal.fault_in-fault-requires
+fault_in-fault-requires c = omega (arith, fit c)
+
+pub loop-at-smaller : goal.loop-at-smaller
+loop-at-smaller c = omega (arith, fit (PLACE:In-Found))
+
+pub loop-at-preserved : goal.loop-at-preserved
+loop-at-preserved c =
+    let turn = c.loop-at in
+    let found = sym c.chunk_at-found.ensures.answer ∙ c.in-Found.is in
+    rw c.fault_in-fault.ensures (going_on (list c) turn.at turn.fault (chunk c) turn.invariant found (fit c))
+
+pub returns-then-fault-length : goal.returns-then-fault-length
+returns-then-fault-length c =
+    let turn = c.loop-at in
+    let told = judged_numbers (list_numbers_lem _) (sym (bad-byte c.args.list.now turn.at turn.fault
+    c.if-length-gt1048576.false turn.invariant c.loop-at-test.false c.if-fault-length.true)) in
+    record { answer = told.0; numbers = told.1 }
+
+pub returns : goal.returns
+returns c =
+    let turn = c.loop-at in
+    let told = judged_numbers (list_numbers_lem _) (sym (all-good c.args.list.now turn.at turn.fault
+    c.if-length-gt1048576.false turn.invariant c.loop-at-test.false c.if-fault-length.false)) in
+    record { answer = told.0; numbers = told.1 }

@@ -1,0 +1,17 @@
+-- The answer of the call, packed; the buffers are the call's.
+use mathlib.Core.Path.{refl, ap, ◌∙◌}
+use Rattle.exports.specs.Packed.{packed_of}
+use Rattle.exports.proofs.Small.{format_answer}
+use borrow.Author.Rules.{rules}
+use Rattle.exports.proofs.felgutrosa_format.Goals as goal
+
+pub packed-requires : goal.packed-requires
+packed-requires c =
+    let said = c.format.ensures in
+    format_answer _ _ _ _ _ said.0 said.1.1.1.0
+
+pub returns : goal.returns
+returns c =
+    let said = c.format.ensures in
+    let told = (c.packed.ensures ∙ ap packed_of said.0, (format_answer _ _ _ _ _ refl said.1.1.1.0, (said.1.0, (said.1.1.0, said.1.1.1.0)))) in
+    record { answer = told.0; small = told.1; buffer = told.2; work = told.3; demands = told.4 }

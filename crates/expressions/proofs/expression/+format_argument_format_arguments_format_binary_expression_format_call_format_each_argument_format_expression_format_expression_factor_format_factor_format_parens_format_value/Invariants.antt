@@ -1,0 +1,41 @@
+-- Every printer goes on from the last answer, so what one shows is what its calls show one behind the other; each call is of fewer levels, or of the same levels
+-- from a printer of fields to one of records.
+use mathlib.Core.Path.{◌≡◌, refl, sym, ◌∙◌}
+use mathlib.Core.Logic.{⊎_elim}
+use mathlib.Core.List.{List}
+use mathlib.Core.Bool.{true, ◌||◌}
+use lib.ListN.{length}
+use native.Mathlib.Omega.{arith}
+use borrow.Author.Rules.{rules}
+use borrow.Author.Tests.{not-true, not-false}
+use Rattle.tree.specs.Tree.{built, chain}
+use Rattle.tree.specs.Reading.{read}
+use Rattle.tree.specs.Stored.{stored_with}
+use Rattle.tree.specs.declared.grammar.Kind.TheVariants as variant
+use Rattle.tree.proofs.KindLayout.{kind_number}
+use Rattle.printing.specs.Running.{place_of, outcome, Shown}
+use Rattle.printing.specs.declared.Printed.{Printed}
+use Rattle.printing.proofs.Running.{◌then◌, ◌thence◌, ran-printer, place-behind, refused_before, done_before, handed_on, stays_refused}
+use Rattle.events.specs.Printed.{plain}
+use Rattle.events.specs.Views.{bit_at}
+use Rattle.events.specs.Trees.{leaf, events_in}
+use Rattle.leaves.specs.Lists.{item_trees, items_end}
+use Rattle.leaves.specs.Records.{field_trees, fields_end}
+use Rattle.leaves.proofs.Fielded.{opened-levels, opened_one, opened-kind, opened-list, shown-closed}
+use Rattle.expressions.specs.Expressions.{item_class, list_place}
+use Rattle.expressions.proofs.Cycle.{item_rule, factor-is, counter-is, list-is, list_items}
+use Rattle.expressions.proofs.Cycle.{or_first, or_second, unsigned-shown, signed-shown, binary-shown, none_left, one_left}
+use Prim.Native.Nat.{ℕ, ◌<◌, ◌+◌, ◌*◌}
+use Rattle.expressions.proofs.expression.+format_argument_format_arguments_format_binary_expression_format_call_format_each_argument_format_expression_format_expression_factor_format_factor_format_parens_format_value.Given as goal
+
+abbrev pub invariant-format_each_argument-loop-left : goal.invariant-format_each_argument-loop-left
+invariant-format_each_argument-loop-left l =
+    (length l.room ≡ length l.initial.room) × ((start : ℕ) → place_of l.initial.answer start ≡ start → (at : ℕ) × (place_of l.answer at ≡ at)
+    × ((said : Printed) (after : List ℕ)
+    → Shown said after (events_in l.context (list_place l.of) true (chain (item_trees (read l.levels l.tree) (item_class l.of) l.left at))) (outcome l.answer l.room)
+    (items_end (read l.levels l.tree) (item_class l.of) l.left at)
+    → Shown said after (events_in l.context (list_place l.of) true (chain (item_trees (read l.levels l.tree) (item_class l.of) l.initial.left start))) (outcome l.initial.answer l.initial.room)
+    (items_end (read l.levels l.tree) (item_class l.of) l.initial.left start)))
+
+abbrev pub decreases-format_each_argument-loop-left : goal.decreases-format_each_argument-loop-left
+decreases-format_each_argument-loop-left l = l.left

@@ -1,0 +1,36 @@
+-- A record that was opened is printed field by field.
+use mathlib.Core.Path.{refl}
+use Rattle.tree.specs.Tree.{built}
+use Rattle.printing.proofs.Running.{◌thence◌}
+use Rattle.events.specs.Views.{bit_at}
+use Rattle.events.specs.Trees.{leaf, events_in}
+use Rattle.leaves.specs.Records.{field_trees, fields_end}
+use Rattle.events.specs.Printed.{plain}
+use Rattle.leaves.proofs.Fielded.{opened-levels, opened_one, opened-kind, shown-closed}
+use Rattle.tree.specs.Stored.{stored_with}
+use Rattle.tree.specs.declared.grammar.Kind.TheVariants as variant
+use Rattle.tree.proofs.KindLayout.{kind_number}
+use borrow.Author.Rules.{rules}
+use Rattle.expressions.proofs.operand.format_register_suffix.Goals as goal
+
+pub returns-in_default : goal.returns-in_default
+returns-in_default c =
+    shown-closed c.open-opened.ensures.opens (leaf plain) c.in_default.is c.closed.ensures.answer
+
+pub overflow_sub-inner : goal.overflow_sub-inner
+overflow_sub-inner c =
+    opened-levels c.open-opened.ensures.opens c.in-Record.is
+
+pub returns : goal.returns
+unfolding built field_trees fields_end events_in bit_at kind_number stored_with
+returns c =
+    let opens = c.open-opened.ensures.opens in
+    let is = c.in-Record.is in
+    opened-kind opens is (leaf plain) variant.RegisterSuffix (opened_one opens is 38 variant.RegisterSuffix refl refl refl refl) refl (record {
+      from = λ at here.
+          let comma = c.character-comma.ensures.from at here in
+          let gap = (c.spc_if_next-gap.ensures _).from _ comma.next in
+          let register = c.register-register.ensures.from _ gap.next in
+          let clear = (c.clear_spc_if_next.ensures _).from _ register.next in
+          comma thence gap thence register thence clear;
+    })

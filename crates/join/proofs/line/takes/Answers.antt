@@ -1,0 +1,13 @@
+-- Each arm is a case of `taken`.
+use borrow.Author.Tests.{eq-eqb, ne_eqb}
+use borrow.Author.Rules.{rules}
+use Rattle.join.proofs.line.takes.Goals as goal
+
+pub returns-then-spot : goal.returns-then-spot
+returns-then-spot c = rw (c.in-Unset.is, eq-eqb _ _ c.if-spot.true)
+
+pub returns-in-Set : goal.returns-in-Set
+returns-in-Set c = rw c.in-Set.is
+
+pub returns-else-spot : goal.returns-else-spot
+returns-else-spot c = rw (c.in-Unset.is, ne_eqb _ _ c.if-spot.false)

@@ -1,0 +1,22 @@
+-- The window goes from where the line is guessed to start to the end of the text, so it shows all of the line that has room.
+use borrow.Author.Rules.{rules}
+use mathlib.Core.Path.{◌∙◌}
+use native.Mathlib.Omega.{arith}
+use Rattle.join.proofs.Running.{start_near, line_tried}
+use Rattle.join.proofs.lines.try_line.Goals as goal
+
+pub overflow_add-base : goal.overflow_add-base
+overflow_add-base c = omega (arith, start_near c.args.past)
+
+pub walk_line-requires : goal.walk_line-requires
+walk_line-requires c = record { narrow = c.requires.narrow; room = c.window_of-window.ensures.within }
+
+pub returns : goal.returns
+returns c =
+    let started = c.line_start-start.ensures in
+    let newlined = c.put_newline in
+    let led = c.fill in
+    let window = c.window_of-window.ensures.answer in
+    let walked = c.walk_line.ensures in
+    let size = led.auto.0 ∙ newlined.auto.0 in
+    record { walked = walked.0; tried = line_tried c.args.past c.args.guess _ _ _ _ _ started newlined.ensures led.ensures.1 (rw (window, size) at walked.1) }

@@ -1,0 +1,72 @@
+-- The buffer starts with the text so far, which with the lines still to come is all of the text: a turn writes one line, and at the end no line is left.
+use mathlib.Core.Path.{◌≡◌, refl, ◌∙◌}
+use Prim.Native.Nat.{◌-◌}
+use native.Mathlib.Omega.{arith}
+use lib.ListN.{length}
+use Rattle.chunks.specs.Reading.{chunks_of}
+use Rattle.columns.specs.Setting.{text_of}
+use Rattle.join.proofs.Running.{Holding, holding_start, holding_done, line-fits, line_small, astray-room, holding-on}
+use Rattle.join.proofs.lines.write_lines.Goals as goal
+
+pub spot_at-spot-requires : goal.spot_at-spot-requires
+spot_at-spot-requires c = (c.requires.narrow.1, omega arith)
+
+pub loop-spot-init : goal.loop-spot-init
+loop-spot-init c = (holding_start _ _ _ _ c.spot_at-spot.ensures, refl)
+
+pub guess_of-guess-requires : goal.guess_of-guess-requires
+guess_of-guess-requires c = (c.requires.narrow.0, c.loop-spot.invariant.0.running.standing.small)
+
+pub try_line-walked-requires : goal.try_line-walked-requires
+try_line-walked-requires c =
+    let given = c.requires in
+    let turn = c.loop-spot.invariant in
+    let running = turn.0.running in
+    let here = running.standing in record { narrow = (given.0.0, here, c.loop-spot-test.true, given.0.2); length_bound = (omega (arith, running.small, given.0.2), omega (arith, turn.1, given.1.1), c.guess_of-guess.ensures.0, c.guess_of-guess.ensures.1) }
+
+pub cut_of-cut-requires : goal.cut_of-cut-requires
+cut_of-cut-requires c = (c.requires.narrow.0, c.try_line-walked.ensures.walked.low)
+
+pub mend-requires : goal.mend-requires
+mend-requires c =
+    let given = c.requires in
+    let turn = c.loop-spot.invariant in
+    let running = turn.0.running in
+    let guess = c.guess_of-guess.result in
+    let tried = c.try_line-walked in
+    let found = tried.ensures.0 in
+    let made = c.cut_of-cut.ensures in
+    let told = (
+      (given.0.0, running.standing, c.loop-spot-test.true, given.0.2),
+      (line-fits running given.0.0 found made, λ e. omega (arith, astray-room running given.0.0 found made guess e, turn.1, given.1.0, tried.auto.0)),
+    ) in
+    record { narrow = told.0; cut_fits = told.1; fact = told.2 }
+
+pub grown-past-requires : goal.grown-past-requires
+grown-past-requires c =
+    let given = c.requires.narrow in
+    let running = c.loop-spot.invariant.0.running in
+    let found = c.try_line-walked.ensures.walked in
+    line_small running given.0 found c.cut_of-cut.ensures given.2
+
+pub loop-spot-smaller : goal.loop-spot-smaller
+loop-spot-smaller c =
+    omega (arith, c.loop-spot-test.true, c.try_line-walked.ensures.walked.onward)
+
+pub loop-spot-preserved : goal.loop-spot-preserved
+loop-spot-preserved c =
+    let given = c.requires in
+    let turn = c.loop-spot.invariant in
+    let tried = c.try_line-walked in
+    let made = c.cut_of-cut.ensures in
+    let mended = c.mend in (
+      rw c.grown-past.ensures (holding-on turn.0.running given.0.0 tried.ensures.0 made turn.0.held (turn.1 ∙ given.1.0)
+          tried.ensures.1 mended.ensures tried.auto.0),
+      mended.auto.0 ∙ tried.auto.0 ∙ turn.1,
+    )
+
+pub shape_of-text : goal.shape_of-text
+shape_of-text c = c.loop-spot.invariant.1
+
+pub returns : goal.returns
+returns c = holding_done c.loop-spot.invariant.0 c.loop-spot-test.false (c.loop-spot.invariant.1 ∙ c.requires.text_len.0)

@@ -1,0 +1,15 @@
+-- The buffer starts with the text so far, which with the lines still to come is all of the text: a turn writes one line, and at the end no line is left.
+use mathlib.Core.Path.{◌≡◌, refl, ◌∙◌}
+use Prim.Native.Nat.{◌-◌}
+use native.Mathlib.Omega.{arith}
+use lib.ListN.{length}
+use Rattle.chunks.specs.Reading.{chunks_of}
+use Rattle.columns.specs.Setting.{text_of}
+use Rattle.join.proofs.Running.{Holding, holding_start, holding_done, line-fits, line_small, astray-room, holding-on}
+use Rattle.join.proofs.lines.write_lines.Given as goal
+
+abbrev pub invariant-loop-spot : goal.invariant-loop-spot
+invariant-loop-spot l = Holding l.margins l.list (text_of l.margins (chunks_of l.list)) l.past l.spot l.text × (length l.text ≡ length l.initial.text)
+
+abbrev pub decreases-loop-spot : goal.decreases-loop-spot
+decreases-loop-spot l = length l.list - l.spot.at

@@ -1,0 +1,24 @@
+-- By the options that are read: their refusal, or what the setter answers at their margins, which are bytes.
+use mathlib.Core.Path.{refl, sym, ◌∙◌}
+use borrow.Author.Rules.{rules}
+use Rattle.answers.proofs.Numbers.{numbers_in_lem}
+use Rattle.columns.specs.Setting.{join_outcome}
+use Rattle.join.proofs.setter.join_chunks.Goals as goal
+
+pub join_with-requires : goal.join_with-requires
+join_with-requires c =
+    let narrow = rw c.in-Options.is at c.read_options-read.ensures.narrow.0 in
+    rw c.margins_of.ensures (record { label = narrow.label; code = narrow.code })
+
+pub returns-in-Options : goal.returns-in-Options
+unfolding join_outcome
+returns-in-Options c =
+    let read = sym c.read_options-read.ensures.answer ∙ c.in-Options.is in
+    let said = c.join_with.ensures in
+    rw (read, ← c.margins_of.ensures) (said.0, (said.1.0, (said.1.1, numbers_in_lem _ _ said.0)))
+
+pub returns-in-Refused : goal.returns-in-Refused
+unfolding join_outcome
+returns-in-Refused c =
+    let read = sym c.read_options-read.ensures.answer ∙ c.in-Refused.is in
+    rw read (refl, (refl, (tt, numbers_in_lem _ _ refl)))

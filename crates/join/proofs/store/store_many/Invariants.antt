@@ -1,0 +1,15 @@
+-- What is stored is the front of the bytes, and at the end all of them.
+use Prim.Native.Nat.{ℕ, ◌+◌, ◌-◌, ◌≤◌, ◌<◌}
+use mathlib.Core.Path.{◌≡◌, refl, ap, ◌∙◌}
+use mathlib.Core.List.{List}
+use native.Mathlib.Omega.{arith}
+use lib.ListN.{length, take}
+use lib.Seq.{sets, slice}
+use Rattle.join.proofs.Storing.{sets_on, sets_rest}
+use Rattle.join.proofs.store.store_many.Given as goal
+
+abbrev pub invariant-loop-i : goal.invariant-loop-i
+invariant-loop-i l = (l.i ≤ l.last + 7) × (length l.text ≡ length l.initial.text) × (l.text ≡ sets l.initial.text l.place (take l.i l.bytes))
+
+abbrev pub decreases-loop-i : goal.decreases-loop-i
+decreases-loop-i l = l.last - l.i

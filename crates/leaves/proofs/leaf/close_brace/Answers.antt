@@ -1,0 +1,6 @@
+-- The leaf printer's promise, of a class whose records are leaves.
+use borrow.Author.Rules.{rules}
+use Rattle.leaves.proofs.leaf.close_brace.Goals as goal
+
+pub returns : goal.returns
+returns c = c.format_leaf.ensures.leaf close_brace_leaf

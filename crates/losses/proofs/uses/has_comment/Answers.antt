@@ -1,0 +1,28 @@
+-- The loop's invariant: what is left of the items has a comment where all of them have one. The measure is how many are left.
+use mathlib.Core.Path.{◌≡◌, refl, sym, ◌∙◌}
+use Rattle.leaves.specs.Items.{items_at}
+use Rattle.reading.specs.Places.{has_comment}
+use Rattle.losses.proofs.Comments.{comment-none, comment-broken, comment-here, comment-later}
+use borrow.Author.Rules.{rules}
+use native.Mathlib.Omega.{arith}
+use Rattle.losses.proofs.uses.has_comment.Goals as goal
+
+pub loop-left-init : goal.loop-left-init
+loop-left-init c = refl
+
+pub returns-in_default : goal.returns-in_default
+returns-in_default c =
+    sym (c.loop-left.invariant ∙ comment-broken _ _ _ c.loop-left-test.true c.trivium_at-read.ensures c.in_default.is)
+
+pub returns-then-item-ge-C_STYLE : goal.returns-then-item-ge-C_STYLE
+returns-then-item-ge-C_STYLE c =
+    sym (c.loop-left.invariant
+    ∙ comment-here _ _ _ c.loop-left-test.true c.trivium_at-read.ensures _ c.in-Item.is c.if-item-ge-C_STYLE.true)
+
+pub loop-left-preserved : goal.loop-left-preserved
+loop-left-preserved c =
+    c.loop-left.invariant
+    ∙ comment-later _ _ _ c.loop-left-test.true c.trivium_at-read.ensures _ c.in-Item.is c.if-item-ge-C_STYLE.false
+
+pub returns : goal.returns
+returns c = sym (c.loop-left.invariant ∙ comment-none _ _ _ c.loop-left-test.false)

@@ -1,0 +1,15 @@
+-- The bytes passed and the place of the first newline in what is left give its place in the whole.
+use Prim.Native.Nat.{◌+◌, ◌-◌, ◌≤◌}
+use mathlib.Core.Path.{◌≡◌}
+use native.Mathlib.Omega.{arith}
+use lib.ListN.{length, drop, drop_of_length-le}
+use borrow.Author.Tests.{eq-eqb, ne_eqb}
+use Rattle.text.specs.Lines.{newline_at}
+use Rattle.text.proofs.Parts.{drop_step}
+use Rattle.text.proofs.scans.newline_at.Given as goal
+
+abbrev pub invariant-loop-i : goal.invariant-loop-i
+invariant-loop-i l = (l.i ≤ length l.bytes) × (l.i + newline_at (drop l.i l.bytes) ≡ newline_at l.bytes)
+
+abbrev pub decreases-loop-i : goal.decreases-loop-i
+decreases-loop-i l = length l.bytes - l.i

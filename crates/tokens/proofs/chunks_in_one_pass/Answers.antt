@@ -1,0 +1,23 @@
+-- The two cases of the definition.
+use mathlib.Core.Path.{refl, sym, ◌∙◌}
+use Rattle.tokens.specs.Chunks.{chunks_held, one_pass_room}
+use Rattle.tokens.proofs.Numbers.{held_numbers}
+use borrow.Author.Rules.{rules}
+use Rattle.tokens.proofs.chunks_in_one_pass.Goals as goal
+
+pub one_pass_with-requires : goal.one_pass_with-requires
+one_pass_with-requires c =
+    rw c.in-Options.is at c.read_options-read.ensures.narrow.0
+
+pub returns-in-Options : goal.returns-in-Options
+unfolding chunks_held one_pass_room
+returns-in-Options c =
+    let same = sym c.read_options-read.ensures.answer ∙ c.in-Options.is in
+    let said = c.one_pass_with.ensures in
+    rw same (said.0, (said.1.0, (said.1.1, held_numbers _ said.0)))
+
+pub returns-in-Refused : goal.returns-in-Refused
+unfolding chunks_held one_pass_room
+returns-in-Refused c =
+    let same = sym c.read_options-read.ensures.answer ∙ c.in-Refused.is in
+    rw same (refl, (tt, (refl, held_numbers _ refl)))

@@ -1,0 +1,30 @@
+-- The tag, the arguments, the source and the filename are printed with spaces between them, each going on from the one before.
+use mathlib.Core.Path.{◌∙◌}
+use Rattle.printing.proofs.Running.{◌thence◌}
+use borrow.Author.Rules.{rules}
+use Rattle.tokens.proofs.fronts.import_front.Goals as goal
+
+pub shape_of-room : goal.shape_of-room
+shape_of-room c =
+    c.format_string-filename.auto.1.0
+    ∙ c.push-space.auto.1.0
+    ∙ c.word-source.auto.1.0
+    ∙ c.push-gap.auto.1.0
+    ∙ c.format_arguments-args.auto.1.0
+    ∙ c.push-behind.auto.1.0
+    ∙ c.bare_word-tag.auto.1.0
+
+pub returns : goal.returns
+returns c =
+    record {
+      from = λ at here.
+          let tag = c.bare_word-tag.ensures.from at here in
+          let gap = c.push-behind.ensures.from _ tag.next in
+          let imported = c.format_arguments-args.ensures.from _ gap.next in
+          let imported-gap = c.push-gap.ensures.from _ imported.next in
+          let source = c.word-source.ensures.from _ imported-gap.next in
+          let source-gap = c.push-space.ensures.from _ source.next in
+          let filename = c.format_string-filename.ensures.from _ source-gap.next in
+          let pending = (c.spc_if_next.ensures _).from _ filename.next in
+          tag thence gap thence imported thence imported-gap thence source thence source-gap thence filename thence pending;
+    }

@@ -1,0 +1,483 @@
+-- Every printer goes on from the last answer, so what one shows is what its calls show one behind the other; each call is of fewer levels, or of the same levels
+-- from a printer of fields to one of records, or from a list to its items.
+use mathlib.Core.Path.{◌≡◌, refl, sym, ap, ◌∙◌}
+use mathlib.Core.Logic.{⊎_elim}
+use mathlib.Core.List.{List}
+use mathlib.Core.Bool.{false, ◌&&◌}
+use lib.ListN.{length}
+use native.Mathlib.Omega.{arith}
+use borrow.Author.Rules.{rules}
+use borrow.Author.Tests.{not-true, not-false}
+use Rattle.tree.specs.Tree.{built}
+use Rattle.tree.specs.Reading.{read}
+use Rattle.tree.specs.Stored.{stored_with}
+use Rattle.tree.specs.declared.grammar.Class.TheVariants.{BareToken}
+use Rattle.tree.specs.declared.grammar.Kind.TheVariants as variant
+use Rattle.tree.proofs.KindLayout.{kind_number}
+use Rattle.printing.specs.Running.{place_of, outcome, Shown}
+use Rattle.printing.specs.declared.Printed.{Printed}
+use Rattle.printing.proofs.Running.{◌thence◌, refused_before, done_before, stays_refused}
+use Rattle.events.specs.Printed.{plain}
+use Rattle.events.specs.Views.{bit_at}
+use Rattle.events.specs.Trees.{leaf, events_in}
+use Rattle.leaves.specs.Lists.{items_end}
+use Rattle.leaves.specs.Records.{field_trees, fields_end}
+use Rattle.leaves.proofs.Fielded.{opened-levels, opened_one, opened-kind, shown-closed}
+use Rattle.tokens.specs.Tokens.{each_events}
+use Rattle.tokens.proofs.Cycle.{inside-shown, label-alone, label-block, not_nothing, plain_number, one-branch, both-branches, token_rule, token-opened, tokens-shown}
+use Rattle.tokens.proofs.Cycle.{only_in, not_in, rest_events, all_left, block-left, file-left, one_left, rest_from}
+use Rattle.tokens.proofs.Listed.{listed_number, listed-over, listed-opens, head-text, listed-shown, listed-instruction, listed-label, listed-data}
+use Prim.Native.Nat.{ℕ, ◌<◌, ◌+◌, ◌*◌, ◌-◌}
+use Rattle.leads.specs.Leads.{over_by}
+use Rattle.tokens.proofs.walk.+format_block_format_branches_format_each_token_format_inner_format_listed_token_format_token_format_tokens.Goals as goal
+
+abbrev format-block-claims : ℕ → format-block-lts.Claims
+format-block-claims t = (
+  open-reads.Asked,
+  open-reads.Learnt,
+  closed-reads.Asked,
+  closed-reads.Learnt,
+  open-block-reads.Asked,
+  open-block-reads.Learnt,
+  deeper-reads.Asked,
+  deeper-reads.Learnt,
+  format-tokens-below t,
+  format-tokens.Post,
+  trim-newlines-reads.Asked,
+  trim-newlines-reads.Learnt,
+  push-reads.Asked,
+  push-reads.Learnt,
+  close-brace-reads.Asked,
+  close-brace-reads.Learnt,
+)
+
+abbrev format-branches-claims : ℕ → format-branches-lts.Claims
+format-branches-claims t = (format-block-below t, format-block.Post, format-else-reads.Asked, format-else-reads.Learnt)
+
+abbrev format-each-token-claims : ℕ → format-each-token-lts.Claims
+format-each-token-claims t = (
+  format-listed-token-below t,
+  format-listed-token.Post,
+  byte-at-reads.Asked,
+  byte-at-reads.Learnt,
+  format-lead-out-reads.Asked,
+  format-lead-out-reads.Learnt,
+  settled-reads.Asked,
+  settled-reads.Learnt,
+)
+
+abbrev format-inner-claims : ℕ → format-inner-lts.Claims
+format-inner-claims t = (
+  inner-of-reads.Asked,
+  inner-of-reads.Learnt,
+  format-plain-token-reads.Asked,
+  format-plain-token-reads.Learnt,
+  format-token-front-reads.Asked,
+  format-token-front-reads.Learnt,
+  format-block-below t,
+  format-block.Post,
+  format-token-below t,
+  format-token.Post,
+  stands-reads.Asked,
+  stands-reads.Learnt,
+  format-branches-below t,
+  format-branches.Post,
+)
+
+abbrev format-listed-token-claims : ℕ → format-listed-token-lts.Claims
+format-listed-token-claims t = (
+  format-lead-in-reads.Asked,
+  format-lead-in-reads.Learnt,
+  over_reads.Asked,
+  over_reads.Learnt,
+  byte-at-reads.Asked,
+  byte-at-reads.Learnt,
+  format-listed-instruction-reads.Asked,
+  format-listed-instruction-reads.Learnt,
+  format-sized-reads.Asked,
+  format-sized-reads.Learnt,
+  format-listed-label-reads.Asked,
+  format-listed-label-reads.Learnt,
+  stands-reads.Asked,
+  stands-reads.Learnt,
+  format-block-below t,
+  format-block.Post,
+  format-inner-below t,
+  format-inner.Post,
+)
+
+abbrev format-token-claims : ℕ → format-token-lts.Claims
+format-token-claims t = (
+  token-class-reads.Asked,
+  token-class-reads.Learnt,
+  open-reads.Asked,
+  open-reads.Learnt,
+  closed-reads.Asked,
+  closed-reads.Learnt,
+  byte-at-reads.Asked,
+  byte-at-reads.Learnt,
+  format-inner-below t,
+  format-inner.Post,
+)
+
+abbrev format-tokens-claims : ℕ → format-tokens-lts.Claims
+format-tokens-claims t = (
+  open-reads.Asked,
+  open-reads.Learnt,
+  closed-reads.Asked,
+  closed-reads.Learnt,
+  format-each-token-below t,
+  format-each-token.Post,
+)
+
+-- ---- format_block: the opening, the list further in, one newline and the brace are the events of the record that was opened
+
+pub returns-in_default : goal.returns-in_default
+returns-in_default t c =
+    shown-closed c.open-opened.ensures.opens (leaf plain) c.in_default.is c.closed.ensures.answer
+
+pub overflow_sub-levels : goal.overflow_sub-levels
+overflow_sub-levels t c =
+    opened-levels c.open-opened.ensures.opens c.in-Record.is
+
+pub deeper-requires : goal.deeper-requires
+deeper-requires t c =
+    let levels-left = opened-levels c.open-opened.ensures.opens c.in-Record.is in
+    let narrow = c.requires.1 in
+    (narrow.0, omega (arith, levels-left, narrow.1))
+
+pub overflow_sub-levels-2 : goal.overflow_sub-levels-2
+overflow_sub-levels-2 t c =
+    opened-levels c.open-opened.ensures.opens c.in-Record.is
+
+pub format_tokens-inner-requires : goal.format_tokens-inner-requires
+format_tokens-inner-requires t c =
+    let levels-left = opened-levels c.open-opened.ensures.opens c.in-Record.is in
+    let measured = c.requires.0 in
+    let narrow = c.requires.1 in
+    (omega (arith, levels-left, measured), (rw c.deeper.ensures (narrow.0, omega (arith, levels-left, narrow.0, narrow.1))))
+
+pub overflow_sub-levels-3 : goal.overflow_sub-levels-3
+overflow_sub-levels-3 t c =
+    opened-levels c.open-opened.ensures.opens c.in-Record.is
+
+pub shape_of-room : goal.shape_of-room
+shape_of-room t c =
+    c.close_brace.auto.1.0 ∙ c.push-line.auto.1.0 ∙ c.format_tokens-inner.auto.1.0 ∙ c.open_block-lparen.auto.1.0
+    ∙ c.open-opened.auto.1.0
+
+pub returns : goal.returns
+unfolding built field_trees fields_end events_in bit_at kind_number stored_with
+returns t c =
+    let opens = c.open-opened.ensures.opens in
+    let is = c.in-Record.is in
+    let listed = rw c.deeper.ensures at c.format_tokens-inner.ensures in
+    opened-kind opens is (leaf plain) variant.Block (opened_one opens is 27 variant.Block refl refl refl refl) refl
+    (record {
+      from = λ at here.
+          let lparen = c.open_block-lparen.ensures.from at here in
+          let inner = listed .from _ lparen.next in
+          let trimmed = (c.trim_newlines-trimmed.ensures _).from _ inner.next in
+          let line = c.push-line.ensures.from _ trimmed.next in
+          let rparen = c.close_brace.ensures.from _ line.next in
+          lparen thence inner thence trimmed thence line thence rparen;
+    })
+
+-- ---- format_branches: the first branch, and where there is another what stands between them and that
+
+pub format_block-then-requires : goal.format_block-then-requires
+format_block-then-requires t c =
+    let measured = c.requires.0 in
+    (omega (arith, measured), c.requires.1)
+
+pub returns-then-not-other : goal.returns-then-not-other
+returns-then-not-other t c =
+    let other = c.args.other in
+    rw (not-true other c.if-not-other.true-raw) (record { from = λ at here. one-branch _ _ _ at (c.format_block-then.ensures.from at here) })
+
+pub format_block-requires : goal.format_block-requires
+format_block-requires t c =
+    let measured = c.requires.0 in
+    (omega (arith, measured), c.requires.1)
+
+pub returns : goal.returns
+returns t c =
+    let other = c.args.other in
+    rw (not-false other c.if-not-other.false-raw) (record {
+      from = λ at here.
+          let then = c.format_block-then.ensures.from at here in
+          let tag = c.format_else-tag.ensures.from _ then.next in
+          let block = c.format_block.ensures.from _ tag.next in
+          both-branches _ _ _ at (then thence tag thence block);
+    })
+
+-- ---- format_each_token: at the head of the loop, whoever shows the tokens that are left has shown them all
+
+pub loop-left-init : goal.loop-left-init
+loop-left-init t c = (refl, λ start here. (start, here, λ said after rest. all_left _ _ _ _ _ start rest))
+
+pub shape_of-room-in_default : goal.shape_of-room-in_default
+shape_of-room-in_default t c =
+    c.loop-left.invariant.0
+
+pub returns-in_default : goal.returns-in_default
+returns-in_default t c =
+    record {
+      from = λ start here.
+          let now = c.loop-left.invariant.1 start here in
+          now.2 _ _ (stays_refused c.in_default.is);
+    }
+
+pub overflow_sub-levels : goal.overflow_sub-levels
+overflow_sub-levels t c =
+    c.requires.levels_nonzero.1
+
+pub format_listed_token-answer-requires : goal.format_listed_token-answer-requires
+format_listed_token-answer-requires t c =
+    let measured = c.requires.narrow in
+    let narrow = c.requires.levels_nonzero.0 in
+    let levels-left = c.requires.levels_nonzero.1 in
+    (omega (arith, measured, levels-left), (narrow.0, omega (arith, narrow.1)))
+
+pub overflow_sub-left : goal.overflow_sub-left
+overflow_sub-left t c =
+    c.loop-left-test.true
+
+pub loop-left-smaller : goal.loop-left-smaller
+loop-left-smaller t c =
+    omega (arith, c.loop-left-test.true)
+
+pub loop-left-preserved : goal.loop-left-preserved
+loop-left-preserved t c =
+    let args = c.args in
+    let stood = c.loop-left.before in
+    let count = c.loop-left.left in
+    let drops =
+    ⊎_elim (λ way. only_in args.block _ _ (way.0.taken, way.1)) (λ way. not_in args.block _ _ (way.0.left, way.1)) c.if-block.branch in
+    let listed = (rw drops at c.format_listed_token-answer.ensures).from _ refl in (
+      c.format_listed_token-answer.auto.1.0 ∙ c.loop-left.invariant.0,
+      λ start here.
+          let now = c.loop-left.invariant.1 start here in (
+            _,
+            listed .next,
+            λ said after rest. now.2 said after (rest_from _ args.block _ _ stood count now.0 c.in-Done.is
+                now.1 refl (one_left _ args.block _ _ _ _ stood count _ _ c.loop-left-test.true
+                (λ state place done. listed_number _ _ _ args.context (args.block && stood.first) stood _ _ listed done ∙ sym c.byte_at.ensures) listed rest)),
+          ),
+    )
+
+pub shape_of-room-then-block-2 : goal.shape_of-room-then-block-2
+shape_of-room-then-block-2 t c =
+    c.format_lead_out.auto.1.0 ∙ c.loop-left.invariant.0
+
+pub returns-then-block-2 : goal.returns-then-block-2
+returns-then-block-2 t c =
+    record {
+      from = λ start here.
+          let now = c.loop-left.invariant.1 start here in
+          let out = c.format_lead_out.ensures.from now.0 now.1 in
+          now.2 _ _ (block-left _ _ _ _ _ c.loop-left.left now.0 c.loop-left-test.false c.if-block-2.true out);
+    }
+
+pub shape_of-room : goal.shape_of-room
+shape_of-room t c =
+    c.loop-left.invariant.0
+
+pub returns : goal.returns
+returns t c =
+    record {
+      from = λ start here.
+          let now = c.loop-left.invariant.1 start here in
+          let over = (c.settled.ensures _).from now.0 now.1 in
+          now.2 _ _ (file-left _ _ _ _ _ c.loop-left.left now.0 c.loop-left-test.false c.if-block-2.false over);
+    }
+
+-- ---- format_inner: what stands before the part inside a token and that part are all its fields
+
+pub returns-in-Nothing : goal.returns-in-Nothing
+returns-in-Nothing t c =
+    let nothing-in = sym c.inner_of-inner.ensures ∙ c.in-Nothing.is in
+    λ small kind known. c.format_plain_token.ensures (plain_number _ _ small nothing-in) kind known
+
+pub format_block-requires : goal.format_block-requires
+format_block-requires t c =
+    let measured = c.requires.narrow in
+    (omega (arith, measured), c.requires.ends.0)
+
+pub format_token-requires : goal.format_token-requires
+format_token-requires t c =
+    let measured = c.requires.narrow in
+    (omega (arith, measured), c.requires.ends.0)
+
+pub format_branches-requires : goal.format_branches-requires
+format_branches-requires t c =
+    let measured = c.requires.narrow in
+    (omega (arith, measured), c.requires.ends.0)
+
+pub returns-in-Block : goal.returns-in-Block
+returns-in-Block t c =
+    let block_in = sym c.inner_of-inner.ensures ∙ c.in-Block.is in
+    λ small kind known. record {
+      from = λ at here.
+          let front = c.format_token_front-front.ensures.from at here in
+          let block = c.format_block.ensures.from _ front.next in
+          inside-shown _ _ _ _ _ _ _ _ _ kind known c.requires.ends.1 block_in (front thence block);
+    }
+
+pub returns-in-Token : goal.returns-in-Token
+returns-in-Token t c =
+    let token-in = sym c.inner_of-inner.ensures ∙ c.in-Token.is in
+    λ small kind known. record {
+      from = λ at here.
+          let front = c.format_token_front-front.ensures.from at here in
+          let token = c.format_token.ensures.from _ front.next in
+          inside-shown _ _ _ _ _ _ _ _ _ kind known c.requires.ends.1 token-in (front thence token);
+    }
+
+pub returns-in-Branches : goal.returns-in-Branches
+returns-in-Branches t c =
+    let branches-in = sym c.inner_of-inner.ensures ∙ c.in-Branches.is in
+    let both = rw c.stands.ensures at c.format_branches.ensures in
+    λ small kind known. record {
+      from = λ at here.
+          let front = c.format_token_front-front.ensures.from at here in
+          let branches = both.from _ front.next in
+          inside-shown _ _ _ _ _ _ _ _ _ kind known c.requires.ends.1 branches-in (front thence branches);
+    }
+
+pub returns-in-Nothing-inner : goal.returns-in-Nothing-inner
+returns-in-Nothing-inner t c =
+    not_nothing c.in_default.keys2 c.in-Nothing-inner.is
+
+-- ---- format_listed_token: the lead-in has opened the record, and the walk goes on behind its own bytes, or from its head on where that was read for it
+
+pub returns-in_default : goal.returns-in_default
+returns-in_default t c = refused_before c.in_default.is
+
+pub returns-in_default-lead : goal.returns-in_default-lead
+returns-in_default-lead t c =
+    let told = c.in_default-lead.is in
+    rw (c.over.ensures.answer ∙ ap over_by told)
+    (done_before c.in-Done.is ((listed-over c.format_lead_in-lead.ensures.leads told).from _ refl))
+
+pub overflow_sub-below : goal.overflow_sub-below
+overflow_sub-below t c =
+    opened-levels (listed-opens c.format_lead_in-lead.ensures.leads c.in-Ready.is _ refl) refl
+
+pub format_listed_instruction-requires : goal.format_listed_instruction-requires
+format_listed_instruction-requires t c =
+    head-text c.format_lead_in-lead.ensures.leads c.in-Ready.is _ refl
+
+pub returns-then-number-eq-INSTRUCTION : goal.returns-then-number-eq-INSTRUCTION
+returns-then-number-eq-INSTRUCTION t c =
+    let number = sym c.byte_at-number.ensures ∙ c.if-number-eq-INSTRUCTION.true in
+    done_before c.in-Done.is
+    (listed-instruction c.format_lead_in-lead.ensures.leads c.in-Ready.is _ refl number c.format_listed_instruction.ensures)
+
+pub format_sized-requires : goal.format_sized-requires
+format_sized-requires t c =
+    head-text c.format_lead_in-lead.ensures.leads c.in-Ready.is _ refl
+
+pub returns-then-number-eq-DATA : goal.returns-then-number-eq-DATA
+returns-then-number-eq-DATA t c =
+    let number = sym c.byte_at-number.ensures ∙ c.if-number-eq-DATA.true in
+    done_before c.in-Done.is
+    (listed-data c.format_lead_in-lead.ensures.leads c.in-Ready.is _ refl number c.format_sized.ensures)
+
+pub format_listed_label-front-requires : goal.format_listed_label-front-requires
+format_listed_label-front-requires t c =
+    head-text c.format_lead_in-lead.ensures.leads c.in-Ready.is _ refl
+
+pub returns-then-not-stands : goal.returns-then-not-stands
+returns-then-not-stands t c =
+    let number = sym c.byte_at-number.ensures ∙ c.if-number-eq-LABEL.true in
+    let none = sym c.stands.ensures ∙ not-true _ c.if-not-stands.true-raw in
+    done_before c.in-Done.is
+    (listed-label c.format_lead_in-lead.ensures.leads c.in-Ready.is _ refl number (λ place read. label-alone _ _ _ _ (c.format_listed_label-front.ensures place read) none))
+
+pub format_block-requires : goal.format_block-requires
+format_block-requires t c =
+    let opens = listed-opens c.format_lead_in-lead.ensures.leads c.in-Ready.is _ refl in
+    let levels-left = opened-levels opens refl in
+    let measured = c.requires.0 in
+    let narrow = c.requires.1 in
+    (omega (arith, levels-left, measured), (narrow.0, omega (arith, narrow.1)))
+
+pub returns-then-number-eq-LABEL : goal.returns-then-number-eq-LABEL
+returns-then-number-eq-LABEL t c =
+    let number = sym c.byte_at-number.ensures ∙ c.if-number-eq-LABEL.true in
+    let one = sym c.stands.ensures ∙ not-false _ c.if-not-stands.false-raw in
+    done_before c.in-Done.is
+    (listed-label c.format_lead_in-lead.ensures.leads c.in-Ready.is _ refl number (λ place read.
+    label-block _ _ _ _ (c.format_listed_label-front.ensures place read) one c.format_block.ensures))
+
+pub format_inner-requires : goal.format_inner-requires
+format_inner-requires t c =
+    let opens = listed-opens c.format_lead_in-lead.ensures.leads c.in-Ready.is _ refl in
+    let levels-left = opened-levels opens refl in
+    let token = token-opened false _ opens refl refl in
+    let measured = c.requires.0 in
+    let narrow = c.requires.1 in
+    (omega (arith, levels-left, measured), ((narrow.0, omega (arith, narrow.1)), rw c.byte_at-number.ensures token.ends))
+
+pub returns : goal.returns
+returns t c =
+    let leads = c.format_lead_in-lead.ensures.leads in
+    let is = c.in-Ready.is in
+    let opens = listed-opens leads is _ refl in
+    let token = token-opened false _ opens refl refl in
+    let inner = rw c.byte_at-number.ensures at c.format_inner.ensures in
+    done_before c.in-Done.is
+    (listed-shown leads is _ refl (opened-kind opens refl (leaf plain) _ refl token.fielded (inner token.small _ token.known)))
+
+-- ---- format_token: the number of the record that was opened is one of a token, and the walk goes on behind its own bytes
+
+pub returns-in_default : goal.returns-in_default
+returns-in_default t c = refused_before c.in_default.is
+
+pub returns-in_default-opened : goal.returns-in_default-opened
+returns-in_default-opened t c =
+    rw (← c.token_class-class.ensures) (done_before c.in-Done.is
+    ((shown-closed c.open-opened.ensures.opens (leaf plain) c.in_default-opened.is c.closed.ensures.answer).from _ refl))
+
+pub overflow_sub-levels : goal.overflow_sub-levels
+overflow_sub-levels t c =
+    opened-levels c.open-opened.ensures.opens c.in-Record.is
+
+pub format_inner-requires : goal.format_inner-requires
+format_inner-requires t c =
+    let located = c.args.located in
+    let opens = rw c.token_class-class.ensures at c.open-opened.ensures.opens in
+    let is = c.in-Record.is in
+    let levels-left = opened-levels opens is in
+    let token = token-opened located _ opens is refl in
+    let measured = c.requires.0 in
+    let narrow = c.requires.1 in
+    (omega (arith, levels-left, measured), ((narrow.0, omega (arith, narrow.1)), rw c.byte_at-number.ensures token.ends))
+
+pub returns : goal.returns
+returns t c =
+    let located = c.args.located in
+    let opens = rw c.token_class-class.ensures at c.open-opened.ensures.opens in
+    let is = c.in-Record.is in
+    let token = token-opened located _ opens is refl in
+    let inner = rw c.byte_at-number.ensures at c.format_inner.ensures in
+    done_before c.in-Done.is
+    ((opened-kind opens is (leaf plain) _ refl token.fielded (rw (token_rule located).2 (inner token.small _ token.known))).from _ refl)
+
+-- ---- format_tokens: the tokens of the list that was opened are its events
+
+pub returns-in_default : goal.returns-in_default
+returns-in_default t c =
+    record { from = λ at here. (shown-closed c.open-opened.ensures.opens _ c.in_default.is c.closed.ensures.answer).from at here }
+
+pub format_each_token-requires : goal.format_each_token-requires
+format_each_token-requires t c =
+    let levels-left = opened-levels c.open-opened.ensures.opens c.in-Record.is in
+    let measured = c.requires.0 in
+    (omega (arith, levels-left, measured), (c.requires.1, levels-left))
+
+pub returns : goal.returns
+returns t c =
+    let block = c.args.block in
+    tokens-shown block c.open-opened.ensures.opens c.in-Record.is c.format_each_token.ensures

@@ -1,0 +1,43 @@
+-- Every printer goes on from the last answer, so what one shows is what its calls show one behind the other; each call is of fewer levels, or of the same levels
+-- from a printer of fields to one of records, or from a list to its items.
+use mathlib.Core.Path.{◌≡◌, refl, sym, ap, ◌∙◌}
+use mathlib.Core.Logic.{⊎_elim}
+use mathlib.Core.List.{List}
+use mathlib.Core.Bool.{false, ◌&&◌}
+use lib.ListN.{length}
+use native.Mathlib.Omega.{arith}
+use borrow.Author.Rules.{rules}
+use borrow.Author.Tests.{not-true, not-false}
+use Rattle.tree.specs.Tree.{built}
+use Rattle.tree.specs.Reading.{read}
+use Rattle.tree.specs.Stored.{stored_with}
+use Rattle.tree.specs.declared.grammar.Class.TheVariants.{BareToken}
+use Rattle.tree.specs.declared.grammar.Kind.TheVariants as variant
+use Rattle.tree.proofs.KindLayout.{kind_number}
+use Rattle.printing.specs.Running.{place_of, outcome, Shown}
+use Rattle.printing.specs.declared.Printed.{Printed}
+use Rattle.printing.proofs.Running.{◌thence◌, refused_before, done_before, stays_refused}
+use Rattle.events.specs.Printed.{plain}
+use Rattle.events.specs.Views.{bit_at}
+use Rattle.events.specs.Trees.{leaf, events_in}
+use Rattle.leaves.specs.Lists.{items_end}
+use Rattle.leaves.specs.Records.{field_trees, fields_end}
+use Rattle.leaves.proofs.Fielded.{opened-levels, opened_one, opened-kind, shown-closed}
+use Rattle.tokens.specs.Tokens.{each_events}
+use Rattle.tokens.proofs.Cycle.{inside-shown, label-alone, label-block, not_nothing, plain_number, one-branch, both-branches, token_rule, token-opened, tokens-shown}
+use Rattle.tokens.proofs.Cycle.{only_in, not_in, rest_events, all_left, block-left, file-left, one_left, rest_from}
+use Rattle.tokens.proofs.Listed.{listed_number, listed-over, listed-opens, head-text, listed-shown, listed-instruction, listed-label, listed-data}
+use Prim.Native.Nat.{ℕ, ◌<◌, ◌+◌, ◌*◌, ◌-◌}
+use Rattle.leads.specs.Leads.{over_by}
+use Rattle.tokens.proofs.walk.+format_block_format_branches_format_each_token_format_inner_format_listed_token_format_token_format_tokens.Given as goal
+
+abbrev pub invariant-format_each_token-loop-left : goal.invariant-format_each_token-loop-left
+invariant-format_each_token-loop-left l =
+    (length l.room ≡ length l.initial.room) × ((start : ℕ) → place_of l.initial.answer start ≡ start → (at : ℕ) × (place_of l.answer at ≡ at)
+    × ((said : Printed) (after : List ℕ)
+    → Shown said after (rest_events l.context l.block l.levels l.tree l.before l.left at) (outcome l.answer l.room) (items_end (read (l.levels - 1) l.tree) BareToken l.left at)
+    → Shown said after (each_events l.context l.block l.levels l.tree l.initial.left start) (outcome l.initial.answer l.initial.room) (items_end (read (l.levels - 1) l.tree) BareToken l.initial.left start)))
+
+abbrev pub decreases-format_each_token-loop-left : goal.decreases-format_each_token-loop-left
+decreases-format_each_token-loop-left l =
+    l.left

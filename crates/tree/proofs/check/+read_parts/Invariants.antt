@@ -1,0 +1,19 @@
+-- At the head of the loop the plan that is left goes on with the walk over the record's parts; each part stands one level further down.
+use mathlib.Core.Path.{refl, sym, ap, ◌∙◌}
+use native.Mathlib.Omega.{arith}
+use borrow.Author.Rules.{rules}
+use Rattle.answers.specs.declared.Refusal.{Refusal}
+use Rattle.tree.specs.Own.{refusal_of}
+use Rattle.tree.specs.Reading.{read}
+use Rattle.tree.specs.Walk.{plan_size, walker_of}
+use Rattle.tree.specs.declared.check.RecordRead.TheVariants.{Refused}
+use Rattle.tree.proofs.Planning.{next_of, rest_less, plan_due}
+use Rattle.tree.proofs.Records.{PartsLeft, parts_start, read-refused, read-walked, level-left, walk_none, walk-done, walk_refused, walk-on}
+use Prim.Native.Nat.{ℕ, ◌<◌, ◌-◌}
+use Rattle.tree.proofs.check.+read_parts.Given as goal
+
+abbrev pub invariant-loop-field : goal.invariant-loop-field
+invariant-loop-field l = PartsLeft (walker_of (read (l.levels - 1) l.tree) l.tree) l.initial.plan l.initial.place l.initial.seen l.plan l.place l.seen
+
+abbrev pub decreases-loop-field : goal.decreases-loop-field
+decreases-loop-field l = plan_size l.plan

@@ -1,0 +1,18 @@
+-- The loop's invariant: the comments among the items that are left go on from where those of all have come to. The measure is how many are left.
+use mathlib.Core.Path.{◌≡◌, refl, sym, ◌∙◌}
+use native.Mathlib.Omega.{arith}
+use lib.ListN.{length}
+use borrow.Author.Rules.{rules}
+use Rattle.leaves.proofs.Items.{item_lies}
+use Rattle.leaves.specs.Items.{items_at}
+use Rattle.wording.specs.Losses.{comments}
+use Rattle.wording.specs.Lines.{line_in, puts}
+use Rattle.wording.proofs.Pieces.{comments-left, comments-broken, comments-next}
+use Rattle.wording.proofs.places.put_comments.Given as goal
+
+abbrev pub invariant-loop-left : goal.invariant-loop-left
+invariant-loop-left l = (length l.line ≡ length l.initial.line)
+    × (puts (comments (items_at l.tree l.place l.count)) (line_in l.initial.line l.initial.next) ≡ puts (comments (items_at l.tree l.from l.left)) (line_in l.line l.next))
+
+abbrev pub decreases-loop-left : goal.decreases-loop-left
+decreases-loop-left l = l.left

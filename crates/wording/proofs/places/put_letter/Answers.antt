@@ -1,0 +1,14 @@
+-- By the test of the bit.
+use borrow.Author.Tests.{eq-eqb, ne_eqb}
+use borrow.Author.Rules.{rules}
+use Rattle.wording.specs.Losses.{letter}
+use Rattle.wording.proofs.Pieces.{put_nothing}
+use Rattle.wording.proofs.places.put_letter.Goals as goal
+
+pub returns-then-bit-eq1 : goal.returns-then-bit-eq1
+unfolding letter
+returns-then-bit-eq1 c = rw (eq-eqb _ _ c.if-bit-eq1.true) c.put.ensures
+
+pub returns : goal.returns
+unfolding letter
+returns c = rw (ne_eqb _ _ c.if-bit-eq1.false) (put_nothing _)
