@@ -60,16 +60,8 @@ def gather():
             parts = path.split(".")
             if not (parts[0] == "Rattle" and len(parts) > 1 and parts[1] in own):
                 kit.add(name)
-        in_walk = p.endswith("/Proof.antt")
-        for line in t.split("\n"):
-            if line.startswith(("--", "use ", "pub use ")):
-                continue
-            m = DEFINED.match(line)
-            if m:
-                name = m.group("name")
-                if "-" in name and not name.startswith("-") and re.match(r"[a-z]", name):
-                    if not in_walk and not m.group("indent"):
-                        dashed.add(name)
+        if not p.endswith(("/Proof.antt", "/Answers.antt", "/Invariants.antt")):
+            dashed.update(n for n in defined_names(t) if "-" in n and re.match(r"[a-z]", n))
     sources = sorted(glob.glob("crates/*/src/**/*.rt", recursive=True))
     for p in list(texts) + sources:
         t = texts.get(p) or read(p)
@@ -114,9 +106,16 @@ LEMMAS = [("leaves/proofs", "in_order", "in_order_lem"), ("tokens/proofs", "room
 
 
 def defined_names(text):
+    """The definitions and lemmas of a file, those in sections (`module _ .. where`) too; no fields of records."""
+    inside = "module"
     for line in text.split("\n"):
+        if line.lstrip().startswith(("--", "use ", "pub use ")) or not line.strip():
+            continue
+        indent = len(line) - len(line.lstrip())
+        if not indent:
+            inside = "module" if line.startswith("module") else "record" if re.match(r"(pub )?(record|data)\b", line) else "body"
         m = DEFINED.match(line)
-        if m and not m.group("indent") and not line.startswith(("--", "use ")):
+        if m and (not indent or inside == "module" and indent % 2 == 0 and indent <= 6):
             yield m.group("name")
 
 

@@ -23,7 +23,7 @@ use Rattle.chunks.specs.Steps.{first_fault, Plain, end_on}
 use Rattle.chunks.specs.declared.stored.StoredChunk.{StoredChunk}
 use Rattle.chunks.specs.declared.stored.ChunkAt.{ChunkAt}
 use Rattle.chunks.specs.declared.stored.ChunkAt.TheVariants.{Found, NoChunk}
-use Rattle.chunks.proofs.Reading.{chunk-plain, LaidAs, chunk_laid, chunks_found, chunks_none, chunk_end}
+use Rattle.chunks.proofs.Reading.{chunk_plain, LaidAs, chunk_laid, chunks_found, chunks_none, chunk_end}
 
 -- ---- from one chunk to the next
 
@@ -108,9 +108,9 @@ too_long list long = rw (lt-ltb _ _ long)
 
 module _ (list : List ℕ) (at fault : ℕ) (short : length list ≤ 1048576) (going : Going list at fault) where
   -- a place before the end where there is no chunk
-  pub bad-chunk : at < length list → chunk_at list at ≡ NoChunk → chunks_checked list ≡ Failed (record { reason = ChunkLayout; place = at })
+  pub bad_chunk : at < length list → chunk_at list at ≡ NoChunk → chunks_checked list ≡ Failed (record { reason = ChunkLayout; place = at })
   unfolding chunks_checked layout_checked
-  bad-chunk inside e =
+  bad_chunk inside e =
       rw (le-ltb _ _ short, going.ends ∙ end_none list at e, ne_eqb at (length list) (λ same. omega arith))
 
   -- the end, where only the texts are left to be judged
@@ -122,12 +122,12 @@ module _ (list : List ℕ) (at fault : ℕ) (short : length list ≤ 1048576) (g
       rw (le-ltb _ _ short, going.ends ∙ end_none list at last, eq-eqb _ _ all, going.texts, texts_none list at last)
 
   -- a bad byte was found
-  pub bad-byte : length list ≤ at → fault < length list → chunks_checked list ≡ not_ascii fault
-  bad-byte done found = whole done ∙ rw (lt-ltb _ _ found)
+  pub bad_byte : length list ≤ at → fault < length list → chunks_checked list ≡ not_ascii fault
+  bad_byte done found = whole done ∙ rw (lt-ltb _ _ found)
 
   -- or none
-  pub all-good : length list ≤ at → length list ≤ fault → chunks_checked list ≡ Passed
-  all-good done none = whole done ∙ rw (le-ltb _ _ none)
+  pub all_good : length list ≤ at → length list ≤ fault → chunks_checked list ≡ Passed
+  all_good done none = whole done ∙ rw (le-ltb _ _ none)
 
 -- ---- a list of accepted bytes, of which only the layout is judged
 
@@ -135,7 +135,7 @@ module _ (list : List ℕ) (at fault : ℕ) (short : length list ≤ 1048576) (g
 pub plain_end : (list : List ℕ) (at : ℕ) → Plain list at → end_on at (chunk_at list at) ≡ at + 3 + number_at list (at + 1)
 unfolding text_at
 plain_end list at plain =
-    let text = chunk-plain list at (omega (arith, plain.head)) refl (omega (arith, plain.map)) (λ both. omega (arith, plain.map)) (omega (arith, plain.map)) in
+    let text = chunk_plain list at (omega (arith, plain.head)) refl (omega (arith, plain.map)) (λ both. omega (arith, plain.map)) (omega (arith, plain.map)) in
     rw (
       text,
       le-leb (at + 1 + 2) (length list) (omega (arith, plain.head)),
@@ -179,32 +179,32 @@ texts_all list (chunk ∷ chunks) e = rw (accepted_part chunk.start chunk.end li
 
 module _ (list : List ℕ) (short : length list ≤ 1048576) (accepted : accepted_text list ≡ true) {end : ℕ} (ends : end ≡ end_from 0 (stored_chunks list 0)) where
   -- it is passed where its chunks end with it
-  pub layout-passed : end ≡ length list → chunks_checked list ≡ Passed
+  pub layout_passed : end ≡ length list → chunks_checked list ≡ Passed
   unfolding chunks_checked layout_checked
-  layout-passed all = rw (le-ltb _ _ short, ← ends, eq-eqb _ _ all) (texts_all list (stored_chunks list 0) accepted)
+  layout_passed all = rw (le-ltb _ _ short, ← ends, eq-eqb _ _ all) (texts_all list (stored_chunks list 0) accepted)
 
   -- or else refused where they end
-  pub layout-failed : (end ≡ length list → ⊥) → chunks_checked list ≡ Failed (record { reason = ChunkLayout; place = end })
+  pub layout_failed : (end ≡ length list → ⊥) → chunks_checked list ≡ Failed (record { reason = ChunkLayout; place = end })
   unfolding chunks_checked layout_checked
-  layout-failed other = rw (le-ltb _ _ short, ← ends, ne_eqb _ _ other)
+  layout_failed other = rw (le-ltb _ _ short, ← ends, ne_eqb _ _ other)
 
 -- ---- what a judgement that is passed tells
 
 module _ (list : List ℕ) (passed : chunks_checked list ≡ Passed) where
   -- the list is within the limit
-  pub passed-short : length list ≤ 1048576
+  pub passed_short : length list ≤ 1048576
   unfolding chunks_checked layout_checked
-  passed-short = by_test (ltb 1048576 (length list)) (λ e. failed_passed (rw e at passed)) (λ e. ltb-false _ _ e)
+  passed_short = by_test (ltb 1048576 (length list)) (λ e. failed_passed (rw e at passed)) (λ e. ltb-false _ _ e)
 
   -- its chunks end where it does
-  pub passed-end : end_from 0 (stored_chunks list 0) ≡ length list
+  pub passed_end : end_from 0 (stored_chunks list 0) ≡ length list
   unfolding chunks_checked layout_checked
-  passed-end = by_test (eqb (end_from 0 (stored_chunks list 0)) (length list)) (λ e. eqb-true _ _ e) (λ e. failed_passed (rw (le-ltb _ _ passed-short, e) at passed))
+  passed_end = by_test (eqb (end_from 0 (stored_chunks list 0)) (length list)) (λ e. eqb-true _ _ e) (λ e. failed_passed (rw (le-ltb _ _ passed_short, e) at passed))
 
   -- and no text is refused
-  pub passed-texts : texts_checked list (stored_chunks list 0) ≡ Passed
+  pub passed_texts : texts_checked list (stored_chunks list 0) ≡ Passed
   unfolding chunks_checked layout_checked
-  passed-texts = rw (le-ltb _ _ passed-short, eq-eqb _ _ passed-end) at passed
+  passed_texts = rw (le-ltb _ _ passed_short, eq-eqb _ _ passed_end) at passed
 
 -- a list within the limit whose chunks end where it does is judged by its texts
 pub judged_texts : (list : List ℕ) → length list ≤ 1048576 → end_from 0 (stored_chunks list 0) ≡ length list → chunks_checked list ≡ texts_checked list (stored_chunks list 0)

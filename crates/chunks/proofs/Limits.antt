@@ -1,8 +1,8 @@
 -- The limits of chunks and their lists: document 01, "indent (two bytes, 1 to 4,096; absent is 0)", "a text length (two
 -- bytes, at least 1)", "at most 1,048,576 bytes", and of the work room, "room above 1,048,576 bytes counts as that".
 --   list_too_long : .. 1048577 ≤ length list → numbers_checked (chunks_checked list) ≡ (6, 0)
---   longest-accepted : a list of just 1,048,576 bytes is accepted
---   text-too-long, text-longest : a text of 65,536 bytes has no stored form, one of 65,535 is appended where it fits
+--   longest_accepted : a list of just 1,048,576 bytes is accepted
+--   text_too_long, text_longest : a text of 65,536 bytes has no stored form, one of 65,535 is appended where it fits
 -- And by computing:
 --   rows_judged : map found rows ≡ map wanted rows
 --   chunks_appended : map found_appended appends ≡ map wanted_appended appends
@@ -44,38 +44,38 @@ repeated_text zero = refl
 repeated_text (suc count) = repeated_text count
 
 module _ (text : List ℕ) (long : length text ≡ 65533) (fine : accepted_text text ≡ true) where
-  code-length : length (stored_chunk (code text)) ≡ 65536
+  code_length : length (stored_chunk (code text)) ≡ 65536
   unfolding stored_chunk stored_head stored_indent
-  code-length = omega (arith, long)
+  code_length = omega (arith, long)
 
-  repeated-length : (count : ℕ) → length (stored_list (replicate count (code text))) ≡ 65536 * count
+  repeated_length : (count : ℕ) → length (stored_list (replicate count (code text))) ≡ 65536 * count
   unfolding stored_list
-  repeated-length zero = omega arith
-  repeated-length (suc count) =
+  repeated_length zero = omega arith
+  repeated_length (suc count) =
       let others = stored_list (replicate count (code text)) in
-      rw (length-append (stored_chunk (code text)) others, code-length, repeated-length count) (omega arith)
+      rw (length-append (stored_chunk (code text)) others, code_length, repeated_length count) (omega arith)
 
-  repeated-formed : (count : ℕ) → AllWellFormed (replicate count (code text))
-  repeated-formed zero = tt
-  repeated-formed (suc count) =
-      (record { indent = omega arith; some = omega (arith, long); short = omega (arith, long) }, repeated-formed count)
+  repeated_formed : (count : ℕ) → AllWellFormed (replicate count (code text))
+  repeated_formed zero = tt
+  repeated_formed (suc count) =
+      (record { indent = omega arith; some = omega (arith, long); short = omega (arith, long) }, repeated_formed count)
 
-  repeated-accepted : (count : ℕ) → AllAccepted (replicate count (code text))
-  repeated-accepted zero = tt
-  repeated-accepted (suc count) = (fine, repeated-accepted count)
+  repeated_accepted : (count : ℕ) → AllAccepted (replicate count (code text))
+  repeated_accepted zero = tt
+  repeated_accepted (suc count) = (fine, repeated_accepted count)
 
   -- sixteen chunks of 65,536 bytes each are a list of the longest length, and it is accepted
-  pub longest-accepted : (length (stored_list (replicate 16 (code text))) ≡ 1048576)
+  pub longest_accepted : (length (stored_list (replicate 16 (code text))) ≡ 1048576)
       × (numbers_checked (chunks_checked (stored_list (replicate 16 (code text)))) ≡ (0, 0))
-  longest-accepted =
+  longest_accepted =
       let size : length (stored_list (replicate 16 (code text))) ≡ 1048576 =
-      omega (arith, repeated-length 16) in
+      omega (arith, repeated_length 16) in
       let chunks = replicate 16 (code text) in
-      (size, rw (stored_accepted chunks (repeated-formed 16) (repeated-accepted 16) (omega (arith, size))))
+      (size, rw (stored_accepted chunks (repeated_formed 16) (repeated_accepted 16) (omega (arith, size))))
 
 -- there is one
 pub longest_stands : numbers_checked (chunks_checked (stored_list (replicate 16 (code (replicate 65533 97))))) ≡ (0, 0)
-longest_stands = (longest-accepted (replicate 65533 97) (length-replicate {A = ℕ} 65533 97) (repeated_text 65533)).1
+longest_stands = (longest_accepted (replicate 65533 97) (length-replicate {A = ℕ} 65533 97) (repeated_text 65533)).1
 
 -- ---- small lists
 
@@ -181,14 +181,14 @@ capacities_held = refl
 
 module _ (room used : ℕ) (text : List ℕ) where
   -- a text of 65,536 bytes has no stored form
-  pub text-too-long : length text ≡ 65536 → appended room used (code text) ≡ NoChunk
+  pub text_too_long : length text ≡ 65536 → appended room used (code text) ≡ NoChunk
   unfolding appended
-  text-too-long long = rw long
+  text_too_long long = rw long
 
   -- one of 65,535 has one, of 65,538 bytes
-  pub text-longest : length text ≡ 65535 → used + 65538 ≤ capacity room
+  pub text_longest : length text ≡ 65535 → used + 65538 ≤ capacity room
       → appended room used (code text) ≡ Used (used + 65538)
   unfolding appended stored_chunk stored_head stored_indent
-  text-longest long fits =
+  text_longest long fits =
       let within = le-ltb (capacity room) used (omega (arith, fits)) in
       rw (long, within, le-ltb (capacity room) (used + 65538) fits)

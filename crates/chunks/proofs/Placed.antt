@@ -35,19 +35,19 @@ module _ (before : List ℕ) (chunk : Chunk) (after : List ℕ) where
   map = type_bits chunk.ty + indent_bit chunk.indent
 
   -- the list, parted before the indent
-  from-indent : list ≡ (before ++ (map ∷ [])) ++ (stored_indent chunk.indent ++ (two_bytes (length chunk.text) ++ (chunk.text ++ after)))
+  from_indent : list ≡ (before ++ (map ∷ [])) ++ (stored_indent chunk.indent ++ (two_bytes (length chunk.text) ++ (chunk.text ++ after)))
   unfolding stored_chunk stored_head
-  from-indent = simp append_assoc
+  from_indent = simp append_assoc
 
   -- before the text length
-  from-length : list ≡ (before ++ (map ∷ stored_indent chunk.indent)) ++ (two_bytes (length chunk.text) ++ (chunk.text ++ after))
+  from_length : list ≡ (before ++ (map ∷ stored_indent chunk.indent)) ++ (two_bytes (length chunk.text) ++ (chunk.text ++ after))
   unfolding stored_chunk stored_head
-  from-length = simp append_assoc
+  from_length = simp append_assoc
 
   -- and before the text
-  from-text : list ≡ (before ++ stored_head chunk.ty chunk.indent (length chunk.text)) ++ (chunk.text ++ after)
+  from_text : list ≡ (before ++ stored_head chunk.ty chunk.indent (length chunk.text)) ++ (chunk.text ++ after)
   unfolding stored_chunk
-  from-text = simp append_assoc
+  from_text = simp append_assoc
 
   -- the map stands first
   first : get_or list (length before) 0 ≡ map
@@ -61,13 +61,13 @@ module _ (before : List ℕ) (chunk : Chunk) (after : List ℕ) where
       let rest = length-append (stored_chunk chunk) after in
       let own = chunk_length chunk in
       let count : number_at list (length before + 1 + length (stored_indent chunk.indent)) ≡ length chunk.text =
-      number_behind (before ++ (map ∷ stored_indent chunk.indent)) (chunk.text ++ after) (length chunk.text) from-length
+      number_behind (before ++ (map ∷ stored_indent chunk.indent)) (chunk.text ++ after) (length chunk.text) from_length
       (omega (arith, length-append before (map ∷ stored_indent chunk.indent))) in
       record {
         map = first;
         low = good.indent;
         indent = λ some. number_behind (before ++ (map ∷ [])) (two_bytes (length chunk.text) ++ (chunk.text ++ after)) chunk.indent
-            (rw (indent_stored chunk.indent some) at from-indent) (omega (arith, length-append before (map ∷ [])));
+            (rw (indent_stored chunk.indent some) at from_indent) (omega (arith, length-append before (map ∷ [])));
         start = refl;
         end = omega arith;
         some = omega (arith, good.some);
@@ -75,11 +75,11 @@ module _ (before : List ℕ) (chunk : Chunk) (after : List ℕ) where
       }
 
   -- and its text behind its head
-  pub placed-text : slice (stored_at (length before) chunk).start (stored_at (length before) chunk).end list ≡ chunk.text
-  placed-text =
+  pub placed_text : slice (stored_at (length before) chunk).start (stored_at (length before) chunk).end list ≡ chunk.text
+  placed_text =
       let head = stored_head chunk.ty chunk.indent (length chunk.text) in
       let front = length-append before head in
       let own = head_length chunk.ty chunk.indent (length chunk.text) in
       let start : (stored_at (length before) chunk).start ≡ length (before ++ head) = omega arith in
       let end : (stored_at (length before) chunk).end ≡ length (before ++ head) + length chunk.text = omega (arith, chunk_length chunk) in
-      rw (start, end, from-text) (part_between (before ++ head) chunk.text after)
+      rw (start, end, from_text) (part_between (before ++ head) chunk.text after)

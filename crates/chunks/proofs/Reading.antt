@@ -39,27 +39,27 @@ text_read list at ty indent e f = ap (text_on list at ty indent) (sym f ∙ e)
 
 module _ (list : List ℕ) (at : ℕ) {map : ℕ} (inside : at < length list) (here : map ≡ get_or list at 0) (small : map ≤ 7) (known : map % 4 ≡ 3 → ⊥) where
   -- a text, where the map has no indent
-  pub chunk-plain : map < 4 → chunk_at list at ≡ text_at list (at + 1) (type_of (map % 4)) 0
+  pub chunk_plain : map < 4 → chunk_at list at ≡ text_at list (at + 1) (type_of (map % 4)) 0
   unfolding chunk_at
-  chunk-plain none = rw (← here, lt-leb _ _ inside, le-ltb _ _ small, ne_eqb _ _ known, lt-ltb _ _ none)
+  chunk_plain none = rw (← here, lt-leb _ _ inside, le-ltb _ _ small, ne_eqb _ _ known, lt-ltb _ _ none)
 
   -- an indent and a text, where it has one
-  pub chunk-indented : 4 ≤ map → {number : Number} → read_number list (at + 1) ≡ number → chunk_at list at ≡ indent_on list (at + 1) (type_of (map % 4)) number
+  pub chunk_indented : 4 ≤ map → {number : Number} → read_number list (at + 1) ≡ number → chunk_at list at ≡ indent_on list (at + 1) (type_of (map % 4)) number
   unfolding chunk_at
-  chunk-indented some read = rw (← here, lt-leb _ _ inside, le-ltb _ _ small, ne_eqb _ _ known, le-ltb _ _ some) (ap (indent_on list (at + 1) (type_of (map % 4))) read)
+  chunk_indented some read = rw (← here, lt-leb _ _ inside, le-ltb _ _ small, ne_eqb _ _ known, le-ltb _ _ some) (ap (indent_on list (at + 1) (type_of (map % 4))) read)
 
 module _ (list : List ℕ) (at : ℕ) (ty : ChunkType) (indent : ℕ) where
   -- an indent of 0 is not stored
-  pub indent-zero : indent ≡ 0 → indent_on list at ty (Read indent) ≡ NoChunk
-  indent-zero none = rw (eq-eqb _ _ none)
+  pub indent_zero : indent ≡ 0 → indent_on list at ty (Read indent) ≡ NoChunk
+  indent_zero none = rw (eq-eqb _ _ none)
 
   -- nor is one above 4,096
-  pub indent-deep : 4096 < indent → indent_on list at ty (Read indent) ≡ NoChunk
-  indent-deep deep = rw (ne_eqb indent 0 (λ none. omega arith), lt-ltb _ _ deep)
+  pub indent_deep : 4096 < indent → indent_on list at ty (Read indent) ≡ NoChunk
+  indent_deep deep = rw (ne_eqb indent 0 (λ none. omega arith), lt-ltb _ _ deep)
 
   -- behind any other stands a text
-  pub indent-text : (indent ≡ 0 → ⊥) → indent ≤ 4096 → indent_on list at ty (Read indent) ≡ text_at list (at + 2) ty indent
-  indent-text some low = rw (ne_eqb _ _ some, le-ltb _ _ low)
+  pub indent_text : (indent ≡ 0 → ⊥) → indent ≤ 4096 → indent_on list at ty (Read indent) ≡ text_at list (at + 2) ty indent
+  indent_text some low = rw (ne_eqb _ _ some, le-ltb _ _ low)
 
 -- ---- what a chunk that is found was laid out as
 
@@ -129,13 +129,13 @@ unfolding stored_indent
 indent_found list at ty zero enough map low stored =
     let bits = map_bits ty 0 in
     let small = type_bits_small ty in
-    rw (add-zero (at + 1)) (rw (map_type ty 0) at (chunk-plain list at (omega arith) (sym map) (omega arith) (λ both. omega arith) (omega arith)))
+    rw (add-zero (at + 1)) (rw (map_type ty 0) at (chunk_plain list at (omega arith) (sym map) (omega arith) (λ both. omega arith) (omega arith)))
 indent_found list at ty (suc n) enough map low stored =
     let bits = map_bits ty (suc n) in
     let small = type_bits_small ty in
     let number : read_number list (at + 1) ≡ Read (suc n) = rw (le-leb (at + 1 + 2) (length list) (omega arith)) (ap Read (stored (λ none. omega arith))) in
-    rw (map_type ty (suc n)) at (chunk-indented list at (omega arith) (sym map) (omega arith) (λ both. omega arith) (omega arith) number)
-    ∙ indent-text list (at + 1) ty (suc n) (λ none. omega arith) low
+    rw (map_type ty (suc n)) at (chunk_indented list at (omega arith) (sym map) (omega arith) (λ both. omega arith) (omega arith) number)
+    ∙ indent_text list (at + 1) ty (suc n) (λ none. omega arith) low
 
 -- a text length of at least 1 with as many bytes behind it is a text
 text_found : (list : List ℕ) (place : ℕ) (ty : ChunkType) (indent : ℕ) → (number_at list place ≡ 0 → ⊥) → place + 2 + number_at list place ≤ length list

@@ -11,9 +11,9 @@ use Rattle.chunks.specs.Reading.{chunk_at, chunk_of, chunks_at, chunks_of, store
 use Rattle.chunks.specs.Judging.{end_from, chunks_checked}
 use Rattle.chunks.specs.declared.stored.ChunkAt.TheVariants.{Found}
 use Rattle.chunks.proofs.Reading.{laid_found, chunk_end, chunks_at_found, chunks_at_none, chunks_well_formed}
-use Rattle.chunks.proofs.Judging.{end_found, end_none, passed-end, passed-texts, judged_texts, texts_accepted, accepted_texts}
-use Rattle.chunks.proofs.Placed.{stored_at, placed, placed-text}
-use Rattle.chunks.proofs.Restored.{chunks-drop}
+use Rattle.chunks.proofs.Judging.{end_found, end_none, passed_end, passed_texts, judged_texts, texts_accepted, accepted_texts}
+use Rattle.chunks.proofs.Placed.{stored_at, placed, placed_text}
+use Rattle.chunks.proofs.Restored.{chunks_drop}
 
 -- reading undoes storing: where a chunk was stored it is found, up to the end of its stored form
 pub stored_found : (before : List ℕ) (chunk : Chunk) (after : List ℕ) → WellFormed chunk
@@ -22,7 +22,7 @@ pub stored_found : (before : List ℕ) (chunk : Chunk) (after : List ℕ) → We
     × ((stored_at (length before) chunk).end ≡ length before + length (stored_chunk chunk))
 stored_found before chunk after good = (
   laid_found (before ++ (stored_chunk chunk ++ after)) (length before) (stored_at (length before) chunk) (placed before chunk after good),
-  ap (λ (text : List ℕ). record { ty = chunk.ty; indent = chunk.indent; text = text }) (placed-text before chunk after),
+  ap (λ (text : List ℕ). record { ty = chunk.ty; indent = chunk.indent; text = text }) (placed_text before chunk after),
   refl,
 )
 
@@ -65,7 +65,7 @@ pub accepted_stored : (list : List ℕ) → Bytes list → chunks_checked list �
     → (stored_list (chunks_of list) ≡ list) × AllWellFormed (chunks_of list) × AllAccepted (chunks_of list)
 unfolding chunks_at
 accepted_stored list bytes passed = (
-  sym (chunks-drop list bytes 0 ∙ rw (passed-end list passed, drop-length list) (append-nil (stored_list (chunks_of list)))),
+  sym (chunks_drop list bytes 0 ∙ rw (passed_end list passed, drop-length list) (append-nil (stored_list (chunks_of list)))),
   chunks_well_formed list 0 bytes,
-  accepted_texts list (stored_chunks list 0) (passed-texts list passed),
+  accepted_texts list (stored_chunks list 0) (passed_texts list passed),
 )

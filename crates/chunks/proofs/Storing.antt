@@ -79,18 +79,18 @@ text_parts false text false = rw append-nil
 
 module _ (spaced : Bool) (text : List ℕ) (colon : Bool) where
   -- so the text is as long as the three together
-  pub text-length : length (with_space spaced (with_colon colon text)) ≡ length (byte_if spaced 32) + length text + length (byte_if colon 58)
-  text-length = rw (text_parts spaced text colon) (simp length-append)
+  pub text_length : length (with_space spaced (with_colon colon text)) ≡ length (byte_if spaced 32) + length text + length (byte_if colon 58)
+  text_length = rw (text_parts spaced text colon) (simp length-append)
 
   -- the three stored one behind the other are the whole text stored
-  pub text-stores : (room : List ℕ) (at : ℕ) {start : ℕ} {one two three : List ℕ} → at + length (with_space spaced (with_colon colon text)) ≤ length room
+  pub text_stores : (room : List ℕ) (at : ℕ) {start : ℕ} {one two three : List ℕ} → at + length (with_space spaced (with_colon colon text)) ≤ length room
       → start ≡ at + length (byte_if spaced 32) → one ≡ sets room at (byte_if spaced 32) → two ≡ stored_buffer one start text
       → three ≡ sets two (start + length text) (byte_if colon 58) → three ≡ sets room at (with_space spaced (with_colon colon text))
-  text-stores room at fits there first second third =
+  text_stores room at fits there first second third =
       let between = length-append (byte_if spaced 32) text in
       rw (text_parts spaced text colon)
       (runs_next room at (byte_if spaced 32 ++ text) (byte_if colon 58)
-      (copy_next room at (byte_if spaced 32) text (omega (arith, text-length)) first there second)
+      (copy_next room at (byte_if spaced 32) text (omega (arith, text_length)) first there second)
       (omega arith)
       third)
 
@@ -106,14 +106,14 @@ module _ (room : List ℕ) (used : ℕ) (chunk : Chunk) where
   unfolding appended room_after
   unstored bad = (rw bad, rw bad)
 
-  pub append-deep : 4096 < chunk.indent → Appends room used chunk NoChunk room
-  append-deep deep = unstored (rw (lt-ltb _ _ deep))
+  pub append_deep : 4096 < chunk.indent → Appends room used chunk NoChunk room
+  append_deep deep = unstored (rw (lt-ltb _ _ deep))
 
-  pub append-empty : length chunk.text ≡ 0 → Appends room used chunk NoChunk room
-  append-empty empty = unstored (or_right (ltb 4096 chunk.indent) _ (rw (eq-eqb _ _ empty)))
+  pub append_empty : length chunk.text ≡ 0 → Appends room used chunk NoChunk room
+  append_empty empty = unstored (or_right (ltb 4096 chunk.indent) _ (rw (eq-eqb _ _ empty)))
 
-  pub append-long : 65535 < length chunk.text → Appends room used chunk NoChunk room
-  append-long long = unstored (or_right (ltb 4096 chunk.indent) _ (or_right (eqb (length chunk.text) 0) _ (lt-ltb _ _ long)))
+  pub append_long : 65535 < length chunk.text → Appends room used chunk NoChunk room
+  append_long long = unstored (or_right (ltb 4096 chunk.indent) _ (or_right (eqb (length chunk.text) 0) _ (lt-ltb _ _ long)))
 
   module _ (good : WellFormed chunk) where
     -- any other has one
@@ -121,17 +121,17 @@ module _ (room : List ℕ) (used : ℕ) (chunk : Chunk) where
     storable = rw (le-ltb _ _ good.indent, ne_eqb (length chunk.text) 0 (λ none. omega arith), le-ltb _ _ good.short)
 
     -- it is not stored behind a used length past the room
-    pub append-past : capacity (length room) < used → Appends room used chunk UsedPastRoom room
+    pub append_past : capacity (length room) < used → Appends room used chunk UsedPastRoom room
     unfolding appended room_after
-    append-past past = (rw (storable, lt-ltb _ _ past), rw (storable, lt-ltb _ _ past))
+    append_past past = (rw (storable, lt-ltb _ _ past), rw (storable, lt-ltb _ _ past))
 
     module _ {end : ℕ} (within : used ≤ capacity (length room)) (ends : end ≡ used + length (stored_chunk chunk)) where
       -- nor where it does not fit
-      pub append-no-room : capacity (length room) < end → Appends room used chunk (NoRoom end) room
+      pub append_no_room : capacity (length room) < end → Appends room used chunk (NoRoom end) room
       unfolding appended room_after
-      append-no-room full = (rw (storable, le-ltb _ _ within, ← ends, lt-ltb _ _ full), rw (storable, le-ltb _ _ within, ← ends, lt-ltb _ _ full))
+      append_no_room full = (rw (storable, le-ltb _ _ within, ← ends, lt-ltb _ _ full), rw (storable, le-ltb _ _ within, ← ends, lt-ltb _ _ full))
 
       -- where it fits it is stored
-      pub append-stored : {after : List ℕ} → end ≤ capacity (length room) → after ≡ sets room used (stored_chunk chunk) → Appends room used chunk (Used end) after
+      pub append_stored : {after : List ℕ} → end ≤ capacity (length room) → after ≡ sets room used (stored_chunk chunk) → Appends room used chunk (Used end) after
       unfolding appended room_after
-      append-stored fits stored = (rw (storable, le-ltb _ _ within, ← ends, le-ltb _ _ fits), stored ∙ rw (storable, le-ltb _ _ within, ← ends, le-ltb _ _ fits))
+      append_stored fits stored = (rw (storable, le-ltb _ _ within, ← ends, le-ltb _ _ fits), stored ∙ rw (storable, le-ltb _ _ within, ← ends, le-ltb _ _ fits))

@@ -21,7 +21,7 @@ use Rattle.columns.specs.Setting.{lines_kept, text_of}
 use Rattle.columns.specs.Promise.{texts}
 use Rattle.columns.specs.declared.Margins.{Margins}
 use Rattle.columns.specs.declared.Follows.{Follows}
-use Rattle.columns.proofs.Texts.{texts_of, flat_cut, texts_pieces, added-between, kept_cases}
+use Rattle.columns.proofs.Texts.{texts_of, flat_cut, texts_pieces, added_between, kept_cases}
 
 -- ---- a piece
 
@@ -35,7 +35,7 @@ ignored_newline Comment margins n text e = true_false (sym e)
 added_ink : (margins : Margins) (n : ℕ) (piece : Piece) → ink (added margins n piece) ≡ ink piece.text
 unfolding ink ignored
 added_ink margins n piece =
-    added-between (λ (bytes : List ℕ). ink bytes ≡ ink piece.text) margins n piece
+    added_between (λ (bytes : List ℕ). ink bytes ≡ ink piece.text) margins n piece
     (λ e. sym (ink_newline piece.text (ignored_newline piece.ty margins n piece.text e)))
     (λ _ before behind _. ink_before before (piece.text ++ spaces behind) ∙ ink_behind piece.text behind)
 

@@ -1,6 +1,6 @@
 -- A text's length is a 32-bit number: at most 1,366 times the bytes of its stored chunks.
---   text-length : length (text_of margins chunks) ≤ 1366 * length (stored_list chunks)
---   text-short : length (stored_list chunks) ≤ 1048576 → length (text_of margins chunks) < 2 ^ 32
+--   text_length : length (text_of margins chunks) ≤ 1366 * length (stored_list chunks)
+--   text_short : length (stored_list chunks) ≤ 1048576 → length (text_of margins chunks) < 2 ^ 32
 -- A piece adds itself and at most 511 spaces, and a newline where it ends a line: at most 513 bytes for each of its own.
 -- A line's indent, at most 4,096, is paid for by the chunk that set it, whose head has at least 3 bytes. A standalone line gets no longer.
 use mathlib.Core.Path.{◌≡◌}
@@ -24,7 +24,7 @@ use Rattle.columns.specs.declared.Margins.{Margins}
 use Rattle.columns.specs.declared.Indent.{Indent}
 use Rattle.columns.specs.declared.Indent.TheVariants.{Unset, Set}
 use Rattle.columns.specs.declared.Follows.{Follows}
-use Rattle.columns.proofs.Texts.{texts_of, flat_cut, Each, each-piece, added-between, kept_before, kept_cases}
+use Rattle.columns.proofs.Texts.{texts_of, flat_cut, Each, each_piece, added_between, kept_before, kept_cases}
 
 -- ---- what pieces may cost
 
@@ -90,22 +90,22 @@ set_length margins line =
 -- ---- the law
 
 module _ (margins : Margins) (label : margins.label ≤ 255) (code : margins.code ≤ 255) where
-  added-length : (n : ℕ) (piece : Piece) → length (added margins n piece) ≤ length piece.text + 511
-  added-length n piece =
-      added-between (λ (bytes : List ℕ). length bytes ≤ length piece.text + 511) margins n piece
+  added_length : (n : ℕ) (piece : Piece) → length (added margins n piece) ≤ length piece.text + 511
+  added_length n piece =
+      added_between (λ (bytes : List ℕ). length bytes ≤ length piece.text + 511) margins n piece
       (λ _. omega arith)
       (λ _ before behind few. simp (length-append, length-replicate) (omega arith))
 
   -- the lines kept, each behind a newline
-  kept-length : (before : Before) (line : Line) (ps : List Piece) → Each (λ (t : List ℕ). 1 ≤ length t) (texts_of ps)
+  kept_length : (before : Before) (line : Line) (ps : List Piece) → Each (λ (t : List ℕ). 1 ≤ length t) (texts_of ps)
       → length (behind (map (set_line margins) (kept_lines margins before line ps))) ≤ indent_of line.indent + length line.bytes + cost ps
   unfolding cost kept_lines behind add
-  kept-length before line [] some = omega arith
-  kept-length before line (piece ∷ ps) (some, rest) =
+  kept_length before line [] some = omega arith
+  kept_length before line (piece ∷ ps) (some, rest) =
       let next = add margins line piece in
       let n = length line.bytes in
       let more = length-append line.bytes (added margins n piece) in
-      let most = added-length n piece in
+      let most = added_length n piece in
       let indent = indent_cost line.indent piece in
       kept_cases (λ (lines : List Line). length (behind (map (set_line margins) lines)) ≤ indent_of line.indent + n + cost (piece ∷ ps)) margins before line piece ps
       (λ _ k.
@@ -114,24 +114,24 @@ module _ (margins : Margins) (label : margins.label ≤ 255) (code : margins.cod
         arith,
         set_length margins next,
         length-append (set_line margins next) (behind (map (set_line margins) (kept_lines margins before fresh ps))),
-        kept-length before fresh ps rest,
+        kept_length before fresh ps rest,
       ))
-      (λ _ _. omega (arith, kept-length before fresh ps rest))
-      (λ _. omega (arith, kept-length before next ps rest))
+      (λ _ _. omega (arith, kept_length before fresh ps rest))
+      (λ _. omega (arith, kept_length before next ps rest))
 
-  pub text-length : (chunks : List Chunk) → AllWellFormed chunks → length (text_of margins chunks) ≤ 1366 * length (stored_list chunks)
+  pub text_length : (chunks : List Chunk) → AllWellFormed chunks → length (text_of margins chunks) ≤ 1366 * length (stored_list chunks)
   unfolding text_of lines_kept joined behind
-  text-length chunks good =
+  text_length chunks good =
       omega (
         arith,
-        joined-le (map (set_line margins) (lines_kept margins chunks)),
-        kept-length at_start fresh (pieces chunks) (each-piece (λ (t : List ℕ). 1 ≤ length t) (λ b. omega arith) (λ b t _ _. omega arith) chunks),
+        joined_le (map (set_line margins) (lines_kept margins chunks)),
+        kept_length at_start fresh (pieces chunks) (each_piece (λ (t : List ℕ). 1 ≤ length t) (λ b. omega arith) (λ b t _ _. omega arith) chunks),
         pieces_cost chunks good,
       )
     where
-      joined-le : (lines : List (List ℕ)) → length (joined lines) ≤ length (behind lines)
-      joined-le [] = omega arith
-      joined-le (line ∷ lines) = omega arith
+      joined_le : (lines : List (List ℕ)) → length (joined lines) ≤ length (behind lines)
+      joined_le [] = omega arith
+      joined_le (line ∷ lines) = omega arith
 
-  pub text-short : (chunks : List Chunk) → AllWellFormed chunks → length (stored_list chunks) ≤ 1048576 → length (text_of margins chunks) < 2 ^ 32
-  text-short chunks good few = omega (arith, text-length chunks good)
+  pub text_short : (chunks : List Chunk) → AllWellFormed chunks → length (stored_list chunks) ≤ 1048576 → length (text_of margins chunks) < 2 ^ 32
+  text_short chunks good few = omega (arith, text_length chunks good)

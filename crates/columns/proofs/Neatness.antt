@@ -18,7 +18,7 @@ use Rattle.columns.specs.Pieces.{Piece, pieces}
 use Rattle.columns.specs.Layout.{added, Line, fresh, indent_of, add, is_last, ends, standalone, placed, set_line, Before, at_start, keeps, kept_lines}
 use Rattle.columns.specs.Setting.{lines_kept, text_of}
 use Rattle.columns.specs.declared.Margins.{Margins}
-use Rattle.columns.proofs.Texts.{texts_of, Each, each-piece, added-between, kept_cases}
+use Rattle.columns.proofs.Texts.{texts_of, Each, each_piece, added_between, kept_cases}
 use Rattle.columns.proofs.Ink.{set_ink}
 
 -- ---- tidy bytes: no newline is left once trailing blanks are cut
@@ -49,34 +49,34 @@ tidy_rest xs ys tidy =
 tidy_pieces : (chunks : List Chunk) → Each Tidy (texts_of (pieces chunks))
 unfolding has_newline
 tidy_pieces =
-    each-piece Tidy
+    each_piece Tidy
     (λ b. by_test (eqb b 10) (λ q. rw (eqb-true b 10 q, trim_blank (10 ∷ []) newline_blank)) (λ q. tidy_append (b ∷ []) [] (rw q) (rw (trim_blank [] (spaces_blank 0)))))
     (λ b t other tidy. tidy_append (b ∷ []) t (rw other) tidy)
 
 module _ (margins : Margins) where
   -- what a piece adds is tidy
-  added-tidy : (n : ℕ) (piece : Piece) → Tidy piece.text → Tidy (added margins n piece)
+  added_tidy : (n : ℕ) (piece : Piece) → Tidy piece.text → Tidy (added margins n piece)
   unfolding has_newline
-  added-tidy n piece tidy =
-      added-between Tidy margins n piece
+  added_tidy n piece tidy =
+      added_between Tidy margins n piece
       (λ _. rw (trim_blank [] (spaces_blank 0)))
       (λ _ before behind _. tidy_append (spaces before) (piece.text ++ spaces behind) (newline_spaces before) (rw (trim_append_blank piece.text (spaces behind) (spaces_blank behind)) tidy))
 
   -- where the line goes on it has no newline
-  added-plain : (n : ℕ) (piece : Piece) → ends margins n piece ≡ false → has_newline (added margins n piece) ≡ false
+  added_plain : (n : ℕ) (piece : Piece) → ends margins n piece ≡ false → has_newline (added margins n piece) ≡ false
   unfolding has_newline ends
-  added-plain n piece e =
+  added_plain n piece e =
       let text = piece.text in
-      added-between (λ (bytes : List ℕ). has_newline bytes ≡ false) margins n piece
+      added_between (λ (bytes : List ℕ). has_newline bytes ≡ false) margins n piece
       (λ _. refl)
       (λ i before behind _.
       let none : has_newline text ≡ false = by_test (has_newline text) (λ q. by_test (is_last piece.follows) (λ r. true_false (rw r at e)) (λ r. true_false (rw (r, q, i) at e))) (λ q. q) in
       rw (newline_append (spaces before) (text ++ spaces behind), newline_spaces before, newline_append text (spaces behind), none) (newline_spaces behind))
 
   -- a line set has no newline
-  set-plain : (line : Line) → Tidy line.bytes → has_newline (set_line margins line) ≡ false
+  set_plain : (line : Line) → Tidy line.bytes → has_newline (set_line margins line) ≡ false
   unfolding set_line
-  set-plain line tidy =
+  set_plain line tidy =
       let both = margins.label + margins.code in
       let front = take both line.bytes in
       let rest = drop both line.bytes in
@@ -86,23 +86,23 @@ module _ (margins : Margins) where
       (λ _. tidy))
 
   -- so has none that is kept
-  kept-plain : (before : Before) (line : Line) (ps : List Piece) → has_newline line.bytes ≡ false → Each Tidy (texts_of ps)
+  kept_plain : (before : Before) (line : Line) (ps : List Piece) → has_newline line.bytes ≡ false → Each Tidy (texts_of ps)
       → plain (map (set_line margins) (kept_lines margins before line ps)) ≡ true
   unfolding plain kept_lines has_newline add
-  kept-plain before line [] none tidy = refl
-  kept-plain before line (piece ∷ ps) none (tidy, rest) =
+  kept_plain before line [] none tidy = refl
+  kept_plain before line (piece ∷ ps) none (tidy, rest) =
       let n = length line.bytes in
       kept_cases (λ (lines : List Line). plain (map (set_line margins) lines) ≡ true) margins before line piece ps
-      (λ e k. rw (set-plain (add margins line piece) (tidy_append line.bytes (added margins n piece) none (added-tidy n piece tidy))) (kept-plain _ fresh ps refl rest))
-      (λ e k. kept-plain before fresh ps refl rest)
-      (λ e. kept-plain before (add margins line piece) ps (newline_append line.bytes (added margins n piece) ∙ rw none (added-plain n piece e)) rest)
+      (λ e k. rw (set_plain (add margins line piece) (tidy_append line.bytes (added margins n piece) none (added_tidy n piece tidy))) (kept_plain _ fresh ps refl rest))
+      (λ e k. kept_plain before fresh ps refl rest)
+      (λ e. kept_plain before (add margins line piece) ps (newline_append line.bytes (added margins n piece) ∙ rw none (added_plain n piece e)) rest)
 
   -- ---- no line set ends in a blank
 
-  set-ends : (lines : List Line) → none_ends_in_blank (map (set_line margins) lines) ≡ true
+  set_ends : (lines : List Line) → none_ends_in_blank (map (set_line margins) lines) ≡ true
   unfolding none_ends_in_blank set_line
-  set-ends [] = refl
-  set-ends (line ∷ lines) = rw (trim_ends (spaces (indent_of line.indent) ++ placed margins line.bytes)) (set-ends lines)
+  set_ends [] = refl
+  set_ends (line ∷ lines) = rw (trim_ends (spaces (indent_of line.indent) ++ placed margins line.bytes)) (set_ends lines)
 
 -- ---- no two empty lines kept touch
 
@@ -119,31 +119,31 @@ trim_empty xs = by_test (all_blank xs) (λ q. rw (trim_blank xs q, q)) (λ q. tr
 
 module _ (margins : Margins) where
   -- a line set is empty just where its bytes are blank
-  set-empty : (line : Line) → is_empty (set_line margins line) ≡ all_blank line.bytes
+  set_empty : (line : Line) → is_empty (set_line margins line) ≡ all_blank line.bytes
   unfolding set_line
-  set-empty line =
+  set_empty line =
       let bytes = spaces (indent_of line.indent) ++ placed margins line.bytes in
       trim_empty bytes ∙ blank_by_ink bytes line.bytes (sym (trim_ink bytes) ∙ set_ink margins line)
 
   -- a blank line is not kept behind a blank one
-  kept-other : (before : Before) (bytes : List ℕ) → keeps before bytes ≡ true → (before.blank && all_blank bytes) ≡ false
+  kept_other : (before : Before) (bytes : List ℕ) → keeps before bytes ≡ true → (before.blank && all_blank bytes) ≡ false
   unfolding keeps
-  kept-other before bytes k =
+  kept_other before bytes k =
       by_test (all_blank bytes)
       (λ q. by_test before.blank (λ r. true_false (sym (rw (q, r) at k))) (λ r. rw r))
       (λ q. by_test before.blank (λ r. rw (r, q)) (λ r. rw r))
 
   -- the lines kept, behind one that is empty where the last line kept was blank
-  kept-apart : (before : Before) (line : Line) (ps : List Piece) (front : List ℕ) → is_empty front ≡ before.blank
+  kept_apart : (before : Before) (line : Line) (ps : List Piece) (front : List ℕ) → is_empty front ≡ before.blank
       → none_empty_touch (front ∷ map (set_line margins) (kept_lines margins before line ps)) ≡ true
   unfolding none_empty_touch kept_lines
-  kept-apart before line [] front e = refl
-  kept-apart before line (piece ∷ ps) front e =
+  kept_apart before line [] front e = refl
+  kept_apart before line (piece ∷ ps) front e =
       let next = add margins line piece in
       kept_cases (λ (lines : List Line). none_empty_touch (front ∷ map (set_line margins) lines) ≡ true) margins before line piece ps
-      (λ _ k. rw (e, set-empty next, kept-other before next.bytes k) (kept-apart _ fresh ps (set_line margins next) (set-empty next)))
-      (λ _ _. kept-apart before fresh ps front e)
-      (λ _. kept-apart before next ps front e)
+      (λ _ k. rw (e, set_empty next, kept_other before next.bytes k) (kept_apart _ fresh ps (set_line margins next) (set_empty next)))
+      (λ _ _. kept_apart before fresh ps front e)
+      (λ _. kept_apart before next ps front e)
 
 -- without the first line
 apart_rest : (front : List ℕ) (lines : List (List ℕ)) → none_empty_touch (front ∷ lines) ≡ true → none_empty_touch lines ≡ true
@@ -155,17 +155,17 @@ apart_rest front (line ∷ lines) e = and_true_right (not (is_empty front && is_
 
 text_plain : (margins : Margins) (chunks : List Chunk) → plain (map (set_line margins) (lines_kept margins chunks)) ≡ true
 unfolding lines_kept has_newline
-text_plain margins chunks = kept-plain margins at_start fresh (pieces chunks) refl (tidy_pieces chunks)
+text_plain margins chunks = kept_plain margins at_start fresh (pieces chunks) refl (tidy_pieces chunks)
 
 pub text_blanks : (margins : Margins) (chunks : List Chunk) → no_line_ends_in_blank (text_of margins chunks) ≡ true
 unfolding text_of none_ends_in_blank
 text_blanks margins chunks =
     let lines = lines_kept margins chunks in
-    lines_joined (λ (set : List (List ℕ)). none_ends_in_blank set ≡ true) (map (set_line margins) lines) (text_plain margins chunks) refl (set-ends margins lines)
+    lines_joined (λ (set : List (List ℕ)). none_ends_in_blank set ≡ true) (map (set_line margins) lines) (text_plain margins chunks) refl (set_ends margins lines)
 
 pub text_empties : (margins : Margins) (chunks : List Chunk) → no_empty_lines_touch (text_of margins chunks) ≡ true
 unfolding text_of lines_kept none_empty_touch
 text_empties margins chunks =
     let lines = map (set_line margins) (lines_kept margins chunks) in
     lines_joined (λ (set : List (List ℕ)). none_empty_touch set ≡ true) lines (text_plain margins chunks) refl
-    (apart_rest (0 ∷ []) lines (kept-apart margins at_start fresh (pieces chunks) (0 ∷ []) refl))
+    (apart_rest (0 ∷ []) lines (kept_apart margins at_start fresh (pieces chunks) (0 ∷ []) refl))

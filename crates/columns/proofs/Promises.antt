@@ -11,14 +11,14 @@ use Rattle.answers.specs.declared.Reason.TheVariants.{TextRoom}
 use Rattle.chunks.specs.Stored.{Bytes}
 use Rattle.chunks.specs.Reading.{chunks_of}
 use Rattle.chunks.specs.Judging.{chunks_checked}
-use Rattle.chunks.proofs.Judging.{passed-short}
+use Rattle.chunks.proofs.Judging.{passed_short}
 use Rattle.chunks.proofs.RoundTrip.{accepted_stored}
 use Rattle.columns.specs.Setting.{text_of}
 use Rattle.columns.specs.Promise.{Faithful}
 use Rattle.columns.specs.declared.Margins.{Margins}
 use Rattle.columns.proofs.Ink.{text_ink}
 use Rattle.columns.proofs.Neatness.{text_blanks, text_empties}
-use Rattle.columns.proofs.Length.{text-short}
+use Rattle.columns.proofs.Length.{text_short}
 
 -- the text of a list that was accepted keeps the ink, is neat, and is short
 pub text_faithful : (margins : Margins) (list : List ℕ) → margins.label ≤ 255 → margins.code ≤ 255 → Bytes list → chunks_checked list ≡ Passed
@@ -31,7 +31,7 @@ text_faithful margins list narrow-label narrow-code bytes passed =
       ink = text_ink margins chunks good;
       blanks = text_blanks margins chunks;
       empties = text_empties margins chunks;
-      short = text-short margins narrow-label narrow-code chunks good (rw stored.0 (passed-short list passed));
+      short = text_short margins narrow-label narrow-code chunks good (rw stored.0 (passed_short list passed));
     }
 
 -- a text that is longer than its buffer leaves the buffer

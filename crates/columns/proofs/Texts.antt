@@ -63,21 +63,21 @@ each_append P (x ∷ xs) ys (first, rest) some = (first, each_append P xs ys res
 
 -- a part of a text is a byte, or a byte other than a newline in front of a part
 module _ (P : List ℕ → Type 0) (one : (b : ℕ) → P (b ∷ [])) (more : (b : ℕ) (t : List ℕ) → eqb b 10 ≡ false → P t → P (b ∷ t)) where
-  each-onto : (b : ℕ) (ts : List (List ℕ)) → eqb b 10 ≡ false → Each P ts → Each P (onto b ts)
-  each-onto b [] other each = (one b, tt)
-  each-onto b (t ∷ ts) other (first, rest) = (more b t other first, rest)
+  each_onto : (b : ℕ) (ts : List (List ℕ)) → eqb b 10 ≡ false → Each P ts → Each P (onto b ts)
+  each_onto b [] other each = (one b, tt)
+  each_onto b (t ∷ ts) other (first, rest) = (more b t other first, rest)
 
-  each-cut : (t : List ℕ) → Each P (cut t)
+  each_cut : (t : List ℕ) → Each P (cut t)
   unfolding cut
-  each-cut [] = tt
-  each-cut (b ∷ bs) =
-      cond_both (Each P) (eqb b 10) ((b ∷ []) ∷ cut bs) (onto b (cut bs)) (λ _. (one b, each-cut bs)) (λ other. each-onto b (cut bs) other (each-cut bs))
+  each_cut [] = tt
+  each_cut (b ∷ bs) =
+      cond_both (Each P) (eqb b 10) ((b ∷ []) ∷ cut bs) (onto b (cut bs)) (λ _. (one b, each_cut bs)) (λ other. each_onto b (cut bs) other (each_cut bs))
 
   -- so is the text of every piece
-  pub each-piece : (chunks : List Chunk) → Each P (texts_of (pieces chunks))
+  pub each_piece : (chunks : List Chunk) → Each P (texts_of (pieces chunks))
   unfolding pieces
-  each-piece [] = tt
-  each-piece (chunk ∷ chunks) = rw (texts_pieces chunk chunks) (each_append P (cut chunk.text) (texts_of (pieces chunks)) (each-cut chunk.text) (each-piece chunks))
+  each_piece [] = tt
+  each_piece (chunk ∷ chunks) = rw (texts_pieces chunk chunks) (each_append P (cut chunk.text) (texts_of (pieces chunks)) (each_cut chunk.text) (each_piece chunks))
 
 -- ---- what a piece adds
 
@@ -86,26 +86,26 @@ module _ (P : List ℕ → Type 0) (margins : Margins) (n : ℕ) (piece : Piece)
   abbrev Between : Type 0
   Between = (before behind : ℕ) → before + behind ≤ margins.label + margins.code + 1 → P (spaces before ++ (piece.text ++ spaces behind))
 
-  aligned-between : (alignment : Alignment) → Between → P (aligned alignment margins.label (piece.text ++ spaces 1))
-  aligned-between Left between = rw append_assoc (between 0 (suc (margins.label - length (piece.text ++ spaces 1))) (omega arith))
-  aligned-between Right between = between (margins.label - length (piece.text ++ spaces 1)) 1 (omega arith)
+  aligned_between : (alignment : Alignment) → Between → P (aligned alignment margins.label (piece.text ++ spaces 1))
+  aligned_between Left between = rw append_assoc (between 0 (suc (margins.label - length (piece.text ++ spaces 1))) (omega arith))
+  aligned_between Right between = between (margins.label - length (piece.text ++ spaces 1)) 1 (omega arith)
 
-  commented-between : (follows : Follows) → Between → P (commented margins n follows piece.text)
-  commented-between Nothing between = rw append-nil at (between (margins.label + margins.code - n) 0 (omega arith))
-  commented-between Newline between = rw append-nil at (between (margins.label + margins.code - n) 0 (omega arith))
-  commented-between Other between = between (margins.label - n) 1 (omega arith)
+  commented_between : (follows : Follows) → Between → P (commented margins n follows piece.text)
+  commented_between Nothing between = rw append-nil at (between (margins.label + margins.code - n) 0 (omega arith))
+  commented_between Newline between = rw append-nil at (between (margins.label + margins.code - n) 0 (omega arith))
+  commented_between Other between = between (margins.label - n) 1 (omega arith)
 
-  laid-between : (ty : ChunkType) → Between → P (laid ty margins n piece)
-  laid-between Label between =
+  laid_between : (ty : ChunkType) → Between → P (laid ty margins n piece)
+  laid_between Label between =
       cond_both P (ltb margins.label n) (piece.text ++ spaces 1) (aligned margins.alignment margins.label (piece.text ++ spaces 1))
-      (λ _. between 0 1 (omega arith)) (λ _. aligned-between margins.alignment between)
-  laid-between Code between = rw append-nil at (between (margins.label - n) 0 (omega arith))
-  laid-between Comment between = commented-between piece.follows between
+      (λ _. between 0 1 (omega arith)) (λ _. aligned_between margins.alignment between)
+  laid_between Code between = rw append-nil at (between (margins.label - n) 0 (omega arith))
+  laid_between Comment between = commented_between piece.follows between
 
   -- holds of what a piece adds, where it holds of nothing for a piece that is ignored
-  pub added-between : (ignored margins n piece ≡ true → P []) → (ignored margins n piece ≡ false → Between) → P (added margins n piece)
+  pub added_between : (ignored margins n piece ≡ true → P []) → (ignored margins n piece ≡ false → Between) → P (added margins n piece)
   unfolding added
-  added-between none between = cond_both P (ignored margins n piece) [] (laid piece.ty margins n piece) none (λ e. laid-between piece.ty (between e))
+  added_between none between = cond_both P (ignored margins n piece) [] (laid piece.ty margins n piece) none (λ e. laid_between piece.ty (between e))
 
 -- ---- the lines kept
 

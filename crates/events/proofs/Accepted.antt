@@ -33,8 +33,8 @@ use Rattle.printing.proofs.Holding.{holds_nothing, same}
 use Rattle.events.specs.Accepted.{Acceptable}
 use Rattle.events.specs.Trees.{events_of}
 use Rattle.events.proofs.Texts.{Holds}
-use Rattle.events.proofs.Pushes.{EveryPush, none, pushes, spaces, clears, trims, stops, ◌and◌, file-push}
-use Rattle.events.proofs.Storable.{Short, file-short, file-storable}
+use Rattle.events.proofs.Pushes.{EveryPush, none, pushes, spaces, clears, trims, stops, ◌and◌, file_push}
+use Rattle.events.proofs.Storable.{Short, file_short, file_storable}
 
 -- ---- what is held
 
@@ -139,17 +139,17 @@ file_accepted bytes options room {chunks} {pending} passed narrow is =
     let file = file_passed 65535 64 bytes passed in
     let limit = length_passed 65535 bytes file.size in
     let fine : EveryPush Fine (events_of (record { options = options; indent = 0 }) (read_file 64 bytes).tree) =
-    file-push (λ text. Short text × (accepted_text text ≡ true)) Fine
+    file_push (λ text. Short text × (accepted_text text ≡ true)) Fine
     (λ text small. (omega (arith, small.0), small.1))
     (λ text fine. (omega (arith, fine.0), fine.1))
     (λ text fine. (omega (arith, fine.0, length-append text (58 ∷ [])), rw (accepted_append, fine.1)))
     options narrow 64 bytes (omega arith)
-    (λ text member. (file-short 64 bytes limit text member, texts_passed (read_file 64 bytes).texts file.texts text member)) in
+    (λ text member. (file_short 64 bytes limit text member, texts_passed (read_file 64 bytes).texts file.texts text member)) in
     let all : AllFine (reverse chunks) = fine_reverse chunks (rw is at (fine_held room fine (held [] false) (tt, tt))) in
     record {
       formed = all.0;
       texts = all.1;
       checked = stored_accepted (reverse chunks) all.0 all.1
-          (held_length_lem room _ (file-storable 64 bytes limit options (omega arith) narrow) is);
+          (held_length_lem room _ (file_storable 64 bytes limit options (omega arith) narrow) is);
       restored = chunks_stored (reverse chunks) all.0;
     }

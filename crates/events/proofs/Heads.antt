@@ -1,12 +1,12 @@
 -- A token's head as the walk finds it in the bytes is the head of the token's tree; so are the token's number and whether it has a block.
---   head-is : rule class ≡ nodes 0 23 located → head_at levels bytes class at ≡ Found head
+--   head_is : rule class ≡ nodes 0 23 located → head_at levels bytes class at ≡ Found head
 --     → head_of (read levels bytes class at .tree) ≡ read head.levels bytes head.class head.place .tree
---   head-missing : head_at levels bytes class at ≡ NoHead why → head_refusal (read levels bytes class at .tree) ≡ Failed why
---   head-refused : head_at levels bytes class at ≡ Found head → read_own bytes head.place head.class head.levels ≡ Refused why
+--   head_missing : head_at levels bytes class at ≡ NoHead why → head_refusal (read levels bytes class at .tree) ≡ Failed why
+--   head_refused : head_at levels bytes class at ≡ Found head → read_own bytes head.place head.class head.levels ≡ Refused why
 --     → head_refusal (read levels bytes class at .tree) ≡ Failed why
 --   head_read : head_at levels bytes class at ≡ Found head → read_own bytes head.place head.class head.levels ≡ Record own
 --     → (head_refusal (read levels bytes class at .tree) ≡ Passed) × (head_trivia (read levels bytes class at .tree) ≡ trivia_of bytes own)
---   own-refused, own_read : the same of a record's own bytes and its own trivia
+--   own_refused, own_read : the same of a record's own bytes and its own trivia
 --   number_read : read_own bytes at class levels ≡ Record own → token_number (read levels bytes class at .tree) ≡ get_or bytes at 0
 --   block_read : read_own bytes at class levels ≡ Record own → has_block (read levels bytes class at .tree) ≡ block_bit (get_or bytes at 0) (own.map / 2)
 use mathlib.Core.Path.{◌≡◌, refl, sym, ap, ◌∙◌}
@@ -45,8 +45,8 @@ use Rattle.tree.proofs.OwnBytes.{leaf_number}
 use Rattle.tree.proofs.Readings.{no_record}
 use Rattle.events.specs.Views.{view, own_trivia, head_of, head_trivia, token_number, stands, has_block, bit_at, block_bit}
 use Rattle.events.specs.Refusals.{first_refusal, own_refusal, head_refusal}
-use Rattle.events.proofs.OwnParts.{Fielded, token_number_lem, both_stand, record_headed, record-fields}
-use Rattle.events.proofs.Refusals.{skip-passed, skip-refused}
+use Rattle.events.proofs.OwnParts.{Fielded, token_number_lem, both_stand, record_headed, record_fields}
+use Rattle.events.proofs.Refusals.{skip_passed, skip_refused}
 
 -- ---- what is claimed
 
@@ -78,8 +78,8 @@ own_says (suc levels) bytes class at = on_says (read levels bytes) bytes class a
 
 module _ (levels : ℕ) (bytes : List ℕ) (class : Class) (at : ℕ) where
   -- own bytes that are refused are the tree's refusal
-  pub own-refused : (why : Refusal) → read_own bytes at class levels ≡ Refused why → own_refusal (read levels bytes class at).tree ≡ Failed why
-  own-refused why is = rw is at (own_says levels bytes class at)
+  pub own_refused : (why : Refusal) → read_own bytes at class levels ≡ Refused why → own_refusal (read levels bytes class at).tree ≡ Failed why
+  own_refused why is = rw is at (own_says levels bytes class at)
 
   -- those that were read hold the tree's own trivia
   pub own_read : (own : Own) → read_own bytes at class levels ≡ Record own
@@ -102,10 +102,10 @@ module _ (reader : Reader) where
   first_part class slots bits at fits = rw (and_true_left (eqb (bits % 2) 1) (fields_fit slots (bits / 2)) fits)
 
   -- the second, behind it
-  second-part : (class next : Class) (slots : List Slot) (bits at : ℕ) → fields_fit (must class ∷ must next ∷ slots) bits ≡ true
+  second_part : (class next : Class) (slots : List Slot) (bits at : ℕ) → fields_fit (must class ∷ must next ∷ slots) bits ≡ true
       → get_or (read_parts reader (fields_due (must class ∷ must next ∷ slots) bits) at).trees 1 absent ≡ (reader next (reader class at).end).tree
   unfolding fields_fit fields_due read_parts
-  second-part class next slots bits at fits =
+  second_part class next slots bits at fits =
       let rest : (eqb (bits / 2 % 2) 1 && fields_fit slots (bits / 2 / 2)) ≡ true = and_true_right (eqb (bits % 2) 1) _ fits in
       rw (and_true_left (eqb (bits % 2) 1) _ fits, and_true_left (eqb (bits / 2 % 2) 1) (fields_fit slots (bits / 2 / 2)) rest)
 
@@ -189,8 +189,8 @@ second_says levels bytes class next at = go (skipped levels bytes class at) refl
     go : (found : Skipped) → skipped levels bytes class at ≡ found
         → HeadSays bytes (and_then (first_refusal (read levels bytes class at).tree) (own_refusal (read levels bytes next (read levels bytes class at).end).tree))
         (read levels bytes next (read levels bytes class at).end).tree (second_field levels next found)
-    go (Next end) is = let passed = skip-passed levels bytes class at end is in rw (passed.0, passed.1) (refl, refl)
-    go (NotSkipped why) is = rw (skip-refused levels bytes class at why is)
+    go (Next end) is = let passed = skip_passed levels bytes class at end is in rw (passed.0, passed.1) (refl, refl)
+    go (NotSkipped why) is = rw (skip_refused levels bytes class at why is)
 
 module _ (levels : ℕ) (bytes : List ℕ) (class : Class) (at : ℕ) (own : Own) (is : read_own bytes at class (suc levels) ≡ Record own) where
   -- the trees of a record's parts
@@ -206,65 +206,65 @@ module _ (levels : ℕ) (bytes : List ℕ) (class : Class) (at : ℕ) (own : Own
   known_kind = (record_headed bytes at class (suc levels) own is).1.kind_is
 
   -- its number
-  own-number : token_number record_tree ≡ get_or bytes at 0
-  own-number = token_number_lem (get_or bytes at 0) own.kind (text_of bytes own) part_trees known_kind
+  own_number : token_number record_tree ≡ get_or bytes at 0
+  own_number = token_number_lem (get_or bytes at 0) own.kind (text_of bytes own) part_trees known_kind
 
   -- where it is neither a list nor a leaf
   module _ (list : eqb (get_or bytes at 0) 24 ≡ false) (leaf : leaf_number (get_or bytes at 0) ≡ false) where
     -- its fields are due, and its map fits them
     held : Fielded bytes at class own
-    held = record-fields bytes at class (suc levels) own is list
+    held = record_fields bytes at class (suc levels) own is list
 
     -- where they are some slots those are due
-    due-as : (slots : List Slot) → fields own.kind (rule class).value ≡ slots → parts_due class own ≡ fields_due slots (own.map / 2)
-    due-as slots same = held.parts ∙ ap (λ (slots : List Slot). fields_due slots (own.map / 2)) same
+    due_as : (slots : List Slot) → fields own.kind (rule class).value ≡ slots → parts_due class own ≡ fields_due slots (own.map / 2)
+    due_as slots same = held.parts ∙ ap (λ (slots : List Slot). fields_due slots (own.map / 2)) same
 
     -- and fit
-    fits-as : (slots : List Slot) → fields own.kind (rule class).value ≡ slots → fields_fit slots (own.map / 2) ≡ true
-    fits-as slots same = rw same at (held.fits leaf)
+    fits_as : (slots : List Slot) → fields own.kind (rule class).value ≡ slots → fields_fit slots (own.map / 2) ≡ true
+    fits_as slots same = rw same at (held.fits leaf)
 
     -- the first that must stand
     first_read : (field : Class) (slots : List Slot) → fields own.kind (rule class).value ≡ must field ∷ slots
         → get_or part_trees 0 absent ≡ (read levels bytes field own.end).tree
     first_read field slots same =
-        ap (λ (parts : List Due). get_or (read_parts (read levels bytes) parts own.end).trees 0 absent) (due-as (must field ∷ slots) same)
-        ∙ first_part (read levels bytes) field slots (own.map / 2) own.end (fits-as (must field ∷ slots) same)
+        ap (λ (parts : List Due). get_or (read_parts (read levels bytes) parts own.end).trees 0 absent) (due_as (must field ∷ slots) same)
+        ∙ first_part (read levels bytes) field slots (own.map / 2) own.end (fits_as (must field ∷ slots) same)
 
     -- a second one
-    second-read : (field next : Class) (slots : List Slot) → fields own.kind (rule class).value ≡ must field ∷ must next ∷ slots
+    second_read : (field next : Class) (slots : List Slot) → fields own.kind (rule class).value ≡ must field ∷ must next ∷ slots
         → get_or part_trees 1 absent ≡ (read levels bytes next (read levels bytes field own.end).end).tree
-    second-read field next slots same =
-        ap (λ (parts : List Due). get_or (read_parts (read levels bytes) parts own.end).trees 1 absent) (due-as (must field ∷ must next ∷ slots) same)
-        ∙ second-part (read levels bytes) field next slots (own.map / 2) own.end (fits-as (must field ∷ must next ∷ slots) same)
+    second_read field next slots same =
+        ap (λ (parts : List Due). get_or (read_parts (read levels bytes) parts own.end).trees 1 absent) (due_as (must field ∷ must next ∷ slots) same)
+        ∙ second_part (read levels bytes) field next slots (own.map / 2) own.end (fits_as (must field ∷ must next ∷ slots) same)
 
     -- a kind whose head is such a second field
-    behind-says : (kind : Kind) (field next : Class) (slots : List Slot) → own.kind ≡ kind → fields kind (rule class).value ≡ must field ∷ must next ∷ slots
+    behind_says : (kind : Kind) (field next : Class) (slots : List Slot) → own.kind ≡ kind → fields kind (rule class).value ≡ must field ∷ must next ∷ slots
         → head_refusal (built kind (text_of bytes own) part_trees) ≡ and_then (first_refusal (get_or part_trees 0 absent)) (own_refusal (get_or part_trees 1 absent))
         → head_of (built kind (text_of bytes own) part_trees) ≡ get_or part_trees 1 absent
         → HeadSays bytes (head_refusal record_tree) (head_of record_tree) (second_field levels next (skipped levels bytes field own.end))
-    behind-says kind field next slots same due refusal head =
+    behind_says kind field next slots same due refusal head =
         let slots-are : fields own.kind (rule class).value ≡ must field ∷ must next ∷ slots = ap (λ (kind : Kind). fields kind (rule class).value) same ∙ due in
         let head-refusal = ap (λ (kind : Kind). head_refusal (built kind (text_of bytes own) part_trees)) same ∙ refusal in
-        let head-is = ap (λ (kind : Kind). head_of (built kind (text_of bytes own) part_trees)) same ∙ head in
-        rw (head-refusal, head-is, first_read field (must next ∷ slots) slots-are, second-read field next slots slots-are) (second_says levels bytes field next own.end)
+        let head_is = ap (λ (kind : Kind). head_of (built kind (text_of bytes own) part_trees)) same ∙ head in
+        rw (head-refusal, head_is, first_read field (must next ∷ slots) slots-are, second_read field next slots slots-are) (second_says levels bytes field next own.end)
 
     -- `Data`
-    data-says : eqb (get_or bytes at 0) 5 ≡ true
+    data_says : eqb (get_or bytes at 0) 5 ≡ true
         → HeadSays bytes (head_refusal record_tree) (head_of record_tree) (second_field levels DataSize (skipped levels bytes ExpressionArguments own.end))
     unfolding built head_refusal view
-    data-says five =
+    data_says five =
         let kind : kind_of 5 ≡ Known own.kind = rw (eqb-true (get_or bytes at 0) 5 five) at known_kind in
         let same : own.kind ≡ variant.Data = cc in
-        behind-says variant.Data ExpressionArguments DataSize [] same refl refl refl
+        behind_says variant.Data ExpressionArguments DataSize [] same refl refl refl
 
     -- a binary expression
-    binary-says : eqb (get_or bytes at 0) 28 ≡ true
+    binary_says : eqb (get_or bytes at 0) 28 ≡ true
         → HeadSays bytes (head_refusal record_tree) (head_of record_tree) (second_field levels LocatedExpression (skipped levels bytes BinaryOp own.end))
     unfolding built head_refusal view
-    binary-says binary =
+    binary_says binary =
         let kind : kind_of 28 ≡ Known own.kind = rw (eqb-true (get_or bytes at 0) 28 binary) at known_kind in
         let same : own.kind ≡ variant.BinaryExpression = cc in
-        behind-says variant.BinaryExpression BinaryOp LocatedExpression (must LocatedExpression ∷ []) same refl refl refl
+        behind_says variant.BinaryExpression BinaryOp LocatedExpression (must LocatedExpression ∷ []) same refl refl refl
 
     -- any other
     first_says : heads (get_or bytes at 0) ≡ true → eqb (get_or bytes at 0) 5 ≡ false → eqb (get_or bytes at 0) 28 ≡ false
@@ -272,20 +272,20 @@ module _ (levels : ℕ) (bytes : List ℕ) (class : Class) (at : ℕ) (own : Own
         (Found (record { place = own.end; class = first_class class (fields own.kind (rule class).value); levels = levels }))
     first_says nodal five binary =
         let field : Class = first_class class (fields own.kind (rule class).value) in
-        let parts = first_head own.kind class (rule class).value (text_of bytes own) part_trees (rw own-number nodal) (rw own-number five) (rw own-number binary) in
+        let parts = first_head own.kind class (rule class).value (text_of bytes own) part_trees (rw own_number nodal) (rw own_number five) (rw own_number binary) in
         let first = first_read field (behind_first (fields own.kind (rule class).value)) parts.2 in
         rw (parts.0, parts.1, first) (refl, refl)
 
   -- its head is what the bytes say
-  field-says : heads (get_or bytes at 0) ≡ true → HeadSays bytes (head_refusal record_tree) (head_of record_tree) (field_head (suc levels) bytes class (get_or bytes at 0) own)
+  field_says : heads (get_or bytes at 0) ≡ true → HeadSays bytes (head_refusal record_tree) (head_of record_tree) (field_head (suc levels) bytes class (get_or bytes at 0) own)
   unfolding field_head
-  field-says nodal =
+  field_says nodal =
       let list = (heads_fields (get_or bytes at 0) nodal).0 in
       let leaf = (heads_fields (get_or bytes at 0) nodal).1 in
       by_test (eqb (get_or bytes at 0) 5)
-      (λ five. simp (five, sub-one) (data-says list leaf five))
+      (λ five. simp (five, sub-one) (data_says list leaf five))
       (λ five. by_test (eqb (get_or bytes at 0) 28)
-      (λ binary. simp (five, binary, sub-one) (binary-says list leaf binary))
+      (λ binary. simp (five, binary, sub-one) (binary_says list leaf binary))
       (λ binary. simp (five, binary, sub-one) (first_says list leaf nodal five binary)))
 
 -- ---- a head within a token
@@ -305,7 +305,7 @@ inner_says (suc levels) bytes class at nodal = go (read_own bytes at class (suc 
     go : (found : OwnRead) → read_own bytes at class (suc levels) ≡ found
         → HeadSays bytes (head_refusal (read_on (read levels bytes) bytes class at found).tree) (head_of (read_on (read levels bytes) bytes class at found).tree)
         (inner_on (suc levels) bytes class at found)
-    go (Record own) is = field-says levels bytes class at own is (nodal (get_or bytes at 0) (record_headed bytes at class (suc levels) own is).1.standing)
+    go (Record own) is = field_says levels bytes class at own is (nodal (get_or bytes at 0) (record_headed bytes at class (suc levels) own is).1.standing)
     go (Refused why) is = refl
 
 -- numbers in a range
@@ -354,96 +354,96 @@ module _ (bytes : List ℕ) (class : Class) (located : Bool) (tokens : rule clas
     parts = part_trees levels bytes class at own is
 
     -- a kind whose head is that of its only field
-    wrapped-says : (kind : Kind) (field : Class) → ((number : ℕ) → may_stand (rule field) number ≡ true → heads number ≡ true)
+    wrapped_says : (kind : Kind) (field : Class) → ((number : ℕ) → may_stand (rule field) number ≡ true → heads number ≡ true)
         → eqb (get_or bytes at 0) 24 ≡ false → leaf_number (get_or bytes at 0) ≡ false → own.kind ≡ kind → fields kind (rule class).value ≡ must field ∷ []
         → head_refusal (built kind (text_of bytes own) parts) ≡ head_refusal (get_or parts 0 absent)
         → head_of (built kind (text_of bytes own) parts) ≡ head_of (get_or parts 0 absent)
         → HeadSays bytes (head_refusal token) (head_of token) (inner_head levels bytes field own.end)
-    wrapped-says kind field nodal list leaf same due refusal head =
+    wrapped_says kind field nodal list leaf same due refusal head =
         let slots-are : fields own.kind (rule class).value ≡ must field ∷ [] = ap (λ (kind : Kind). fields kind (rule class).value) same ∙ due in
         let head-refusal = ap (λ (kind : Kind). head_refusal (built kind (text_of bytes own) parts)) same ∙ refusal in
-        let head-is = ap (λ (kind : Kind). head_of (built kind (text_of bytes own) parts)) same ∙ head in
-        rw (head-refusal, head-is, first_read levels bytes class at own is list leaf field [] slots-are) (inner_says levels bytes field own.end nodal)
+        let head_is = ap (λ (kind : Kind). head_of (built kind (text_of bytes own) parts)) same ∙ head in
+        rw (head-refusal, head_is, first_read levels bytes class at own is list leaf field [] slots-are) (inner_says levels bytes field own.end nodal)
 
     -- that of `Braces` and of `Config` is the block's
-    block-says : (eqb (get_or bytes at 0) 2 || eqb (get_or bytes at 0) 3) ≡ true → HeadSays bytes (head_refusal token) (head_of token) (inner_head levels bytes BlockRecord own.end)
+    block_says : (eqb (get_or bytes at 0) 2 || eqb (get_or bytes at 0) 3) ≡ true → HeadSays bytes (head_refusal token) (head_of token) (inner_head levels bytes BlockRecord own.end)
     unfolding built head_refusal view
-    block-says block =
+    block_says block =
         by_test (eqb (get_or bytes at 0) 2)
         (λ two.
         let byte : get_or bytes at 0 ≡ 2 = eqb-true (get_or bytes at 0) 2 two in
         let kind : kind_of 2 ≡ Known own.kind = rw byte at (known_kind levels bytes class at own is) in
         let same : own.kind ≡ variant.Braces = cc in
-        wrapped-says variant.Braces BlockRecord block_nodal (rw byte) (rw byte) same refl refl refl)
+        wrapped_says variant.Braces BlockRecord block_nodal (rw byte) (rw byte) same refl refl refl)
         (λ two.
         let byte : get_or bytes at 0 ≡ 3 = eqb-true (get_or bytes at 0) 3 (rw two at block) in
         let kind : kind_of 3 ≡ Known own.kind = rw byte at (known_kind levels bytes class at own is) in
         let same : own.kind ≡ variant.Config = cc in
-        wrapped-says variant.Config BlockRecord block_nodal (rw byte) (rw byte) same refl refl refl)
+        wrapped_says variant.Config BlockRecord block_nodal (rw byte) (rw byte) same refl refl refl)
 
     -- that of an `Expression` the expression's
-    expression-says : eqb (get_or bytes at 0) 9 ≡ true → HeadSays bytes (head_refusal token) (head_of token) (inner_head levels bytes BareExpression own.end)
+    expression_says : eqb (get_or bytes at 0) 9 ≡ true → HeadSays bytes (head_refusal token) (head_of token) (inner_head levels bytes BareExpression own.end)
     unfolding built head_refusal view
-    expression-says nine =
+    expression_says nine =
         let byte : get_or bytes at 0 ≡ 9 = eqb-true (get_or bytes at 0) 9 nine in
         let kind : kind_of 9 ≡ Known own.kind = rw byte at (known_kind levels bytes class at own is) in
         let same : own.kind ≡ variant.Expression = cc in
-        wrapped-says variant.Expression BareExpression expression_nodal (rw byte) (rw byte) same refl refl refl
+        wrapped_says variant.Expression BareExpression expression_nodal (rw byte) (rw byte) same refl refl refl
 
     -- that of any token is what the bytes say
-    record-says : HeadSays bytes (head_refusal token) (head_of token) (head_on (suc levels) bytes class at (Record own))
-    record-says =
+    record_says : HeadSays bytes (head_refusal token) (head_of token) (head_on (suc levels) bytes class at (Record own))
+    record_says =
         let stand : may_stand (nodes 0 23 located) (get_or bytes at 0) ≡ true = rw tokens at (record_headed bytes at class (suc levels) own is).1.standing in
         by_test (eqb (get_or bytes at 0) 2 || eqb (get_or bytes at 0) 3)
-        (λ block. simp (block, sub-one) (block-says block))
+        (λ block. simp (block, sub-one) (block_says block))
         (λ block. by_test (eqb (get_or bytes at 0) 9)
-        (λ nine. simp (block, nine, sub-one) (expression-says nine))
-        (λ nine. simp (block, nine) (field-says levels bytes class at own is (token_nodal located (get_or bytes at 0) stand block nine))))
+        (λ nine. simp (block, nine, sub-one) (expression_says nine))
+        (λ nine. simp (block, nine) (field_says levels bytes class at own is (token_nodal located (get_or bytes at 0) stand block nine))))
 
   -- and where it is refused
-  token-says : (levels : ℕ) (at : ℕ)
+  token_says : (levels : ℕ) (at : ℕ)
       → HeadSays bytes (head_refusal (read levels bytes class at).tree) (head_of (read levels bytes class at).tree) (head_at levels bytes class at)
   unfolding head_at read head_refusal view
-  token-says zero at = go (read_own bytes at class zero) refl
+  token_says zero at = go (read_own bytes at class zero) refl
     where
       go : (found : OwnRead) → read_own bytes at class zero ≡ found
           → HeadSays bytes (head_refusal (read_on unread bytes class at found).tree) (head_of (read_on unread bytes class at found).tree) (head_on zero bytes class at found)
       go (Record own) is = no_record bytes at class own is
       go (Refused why) is = refl
-  token-says (suc levels) at = go (read_own bytes at class (suc levels)) refl
+  token_says (suc levels) at = go (read_own bytes at class (suc levels)) refl
     where
       go : (found : OwnRead) → read_own bytes at class (suc levels) ≡ found
           → HeadSays bytes (head_refusal (read_on (read levels bytes) bytes class at found).tree) (head_of (read_on (read levels bytes) bytes class at found).tree)
           (head_on (suc levels) bytes class at found)
-      go (Record own) is = record-says levels at own is
+      go (Record own) is = record_says levels at own is
       go (Refused why) is = refl
 
   -- a head that was found is the token's
-  pub head-is : (levels : ℕ) (at : ℕ) (head : Head) → head_at levels bytes class at ≡ Found head
+  pub head_is : (levels : ℕ) (at : ℕ) (head : Head) → head_at levels bytes class at ≡ Found head
       → head_of (read levels bytes class at).tree ≡ (read head.levels bytes head.class head.place).tree
-  head-is levels at head found = (rw found at (token-says levels at)).0
+  head_is levels at head found = (rw found at (token_says levels at)).0
 
   module _ (levels : ℕ) (at : ℕ) where
     -- a refusal on the way to the head
-    pub head-missing : (why : Refusal) → head_at levels bytes class at ≡ NoHead why → head_refusal (read levels bytes class at).tree ≡ Failed why
-    head-missing why found = rw found at (token-says levels at)
+    pub head_missing : (why : Refusal) → head_at levels bytes class at ≡ NoHead why → head_refusal (read levels bytes class at).tree ≡ Failed why
+    head_missing why found = rw found at (token_says levels at)
 
     -- the refusal of a head that was found is its own
-    head-own : (head : Head) → head_at levels bytes class at ≡ Found head
+    head_own_lem : (head : Head) → head_at levels bytes class at ≡ Found head
         → head_refusal (read levels bytes class at).tree ≡ own_refusal (read head.levels bytes head.class head.place).tree
-    head-own head found = let says = rw found at (token-says levels at) in says.1 ∙ ap own_refusal says.0
+    head_own_lem head found = let says = rw found at (token_says levels at) in says.1 ∙ ap own_refusal says.0
 
     -- a refusal of the head's own bytes
-    pub head-refused : (head : Head) (why : Refusal) → head_at levels bytes class at ≡ Found head → read_own bytes head.place head.class head.levels ≡ Refused why
+    pub head_refused : (head : Head) (why : Refusal) → head_at levels bytes class at ≡ Found head → read_own bytes head.place head.class head.levels ≡ Refused why
         → head_refusal (read levels bytes class at).tree ≡ Failed why
-    head-refused head why found is = head-own head found ∙ own-refused head.levels bytes head.class head.place why is
+    head_refused head why found is = head_own_lem head found ∙ own_refused head.levels bytes head.class head.place why is
 
     -- a head that was read
     pub head_read : (head : Head) (own : Own) → head_at levels bytes class at ≡ Found head → read_own bytes head.place head.class head.levels ≡ Record own
         → (head_refusal (read levels bytes class at).tree ≡ Passed) × (head_trivia (read levels bytes class at).tree ≡ trivia_of bytes own)
     head_read head own found is =
         let reads = own_read head.levels bytes head.class head.place own is in
-        (head-own head found ∙ reads.0, ap own_trivia (head-is levels at head found) ∙ reads.1)
+        (head_own_lem head found ∙ reads.0, ap own_trivia (head_is levels at head found) ∙ reads.1)
 
 -- ---- a token's number and its block
 
@@ -525,26 +525,26 @@ module _ (levels : ℕ) (bytes : List ℕ) (class : Class) (at : ℕ) (own : Own
       → stands (get_or (part_trees levels bytes class at own is) place absent) ≡ bit_at place (own.map / 2)
   part_stands kind place list same inside =
       let slots : List Slot = fields own.kind (rule class).value in
-      ap (λ (parts : List Due). stands (get_or (read_parts (read levels bytes) parts own.end).trees place absent)) (record-fields bytes at class (suc levels) own is list).parts
+      ap (λ (parts : List Due). stands (get_or (read_parts (read levels bytes) parts own.end).trees place absent)) (record_fields bytes at class (suc levels) own is list).parts
       ∙ field_stands (read levels bytes) (read_stands levels bytes) slots (own.map / 2) own.end place (rw same inside)
 
   -- "`tag_else` and `else_` stand together or not at all"
-  pub else-stands : own.kind ≡ variant.If
+  pub else_stands : own.kind ≡ variant.If
       → stands (get_or (read_parts (read levels bytes) (parts_due class own) own.end).trees 3 absent)
       ≡ stands (get_or (read_parts (read levels bytes) (parts_due class own) own.end).trees 4 absent)
   unfolding built view
-  else-stands same =
+  else_stands same =
       let ten : 10 ≡ get_or bytes at 0 = token_number_lem (get_or bytes at 0) variant.If [] [] (known_kind levels bytes class at own is ∙ ap Known same) in
       let list : eqb (get_or bytes at 0) 24 ≡ false = rw (← ten) refl in
-      let ends = (record-fields bytes at class (suc levels) own is list).ends (rw (← ten) refl) in
+      let ends = (record_fields bytes at class (suc levels) own is list).ends (rw (← ten) refl) in
       part_stands variant.If 3 list same (omega arith) ∙ both_stand (own.map / 2) (rw (← ten) at ends)
       ∙ sym (part_stands variant.If 4 list same (omega arith))
 
   -- the block of a record whose own bytes were read
-  block-record : has_block (record_tree levels bytes class at own is) ≡ block_bit (get_or bytes at 0) (own.map / 2)
-  block-record =
+  block_record : has_block (record_tree levels bytes class at own is) ≡ block_bit (get_or bytes at 0) (own.map / 2)
+  block_record =
       block_built own.kind (text_of bytes own) (part_trees levels bytes class at own is)
-      ∙ rw (own-number levels bytes class at own is) (by_test (eqb (get_or bytes at 0) 11)
+      ∙ rw (own_number levels bytes class at own is) (by_test (eqb (get_or bytes at 0) 11)
       (λ eleven.
       let byte : get_or bytes at 0 ≡ 11 = eqb-true (get_or bytes at 0) 11 eleven in
       let kind : kind_of 11 ≡ Known own.kind = rw byte at (known_kind levels bytes class at own is) in
@@ -563,11 +563,11 @@ pub number_read : (levels : ℕ) (bytes : List ℕ) (class : Class) (at : ℕ) (
     → token_number (read levels bytes class at).tree ≡ get_or bytes at 0
 unfolding view
 number_read zero bytes class at own is = no_record bytes at class own is
-number_read (suc levels) bytes class at own is = rw (read_record levels bytes class at own is) (own-number levels bytes class at own is)
+number_read (suc levels) bytes class at own is = rw (read_record levels bytes class at own is) (own_number levels bytes class at own is)
 
 -- it has a block where that bit of its map stands
 pub block_read : (levels : ℕ) (bytes : List ℕ) (class : Class) (at : ℕ) (own : Own) → read_own bytes at class levels ≡ Record own
     → has_block (read levels bytes class at).tree ≡ block_bit (get_or bytes at 0) (own.map / 2)
 unfolding view
 block_read zero bytes class at own is = no_record bytes at class own is
-block_read (suc levels) bytes class at own is = rw (read_record levels bytes class at own is) (block-record levels bytes class at own is)
+block_read (suc levels) bytes class at own is = rw (read_record levels bytes class at own is) (block_record levels bytes class at own is)

@@ -19,7 +19,7 @@ use Rattle.tree.specs.declared.grammar.Kind.TheVariants as variant
 use Rattle.tree.specs.declared.grammar.Class.{Class}
 use Rattle.tree.specs.declared.own.Own.{Own}
 use Rattle.tree.specs.declared.own.OwnRead.TheVariants.{Record}
-use Rattle.tree.proofs.Readings.{every-reading}
+use Rattle.tree.proofs.Readings.{every_reading}
 use Rattle.printing.specs.Events.{Events, ◌▹◌}
 use Rattle.printing.specs.Events as event
 use Rattle.printing.specs.declared.Context.{Context}
@@ -29,7 +29,7 @@ use Rattle.events.specs.Views.{token_number, stands, index_of}
 use Rattle.events.specs.Refusals.{first_refusal}
 use Rattle.events.specs.Trees.{stop_at, first, behind, block_end, Place, leaf, labelled, arguments, imports, in_string, tokens, item_events, value_shown}
 use Rattle.events.specs.Trees.{deeper, opening, else_events, operand_events, events_in}
-use Rattle.events.proofs.Heads.{read_stands, else-stands}
+use Rattle.events.proofs.Heads.{read_stands, else_stands}
 use Rattle.events.proofs.Refusals.{read_refusal}
 
 -- where the events of a tree do not stop it has no refusal, wherever it stands
@@ -213,23 +213,23 @@ built_judges variant.ArgItem text trees below alone context place shown free = r
 
 module _ (reader : Reader) where
   -- parts are absent or were read
-  parts-judge : ((class : Class) (at : ℕ) → Judges (reader class at).tree) → (parts : List Due) (at index : ℕ) → Judges (get_or (read_parts reader parts at).trees index absent)
+  parts_judge : ((class : Class) (at : ℕ) → Judges (reader class at).tree) → (parts : List Due) (at index : ℕ) → Judges (get_or (read_parts reader parts at).trees index absent)
   unfolding read_parts first_refusal
-  parts-judge below [] at index context place shown free = refl
-  parts-judge below (nothing ∷ parts) at zero context place shown free = refl
-  parts-judge below (nothing ∷ parts) at (suc index) context place shown free = parts-judge below parts at index context place shown free
-  parts-judge below (due class ∷ parts) at zero context place shown free = below class at context place shown free
-  parts-judge below (due class ∷ parts) at (suc index) context place shown free = parts-judge below parts (reader class at).end index context place shown free
+  parts_judge below [] at index context place shown free = refl
+  parts_judge below (nothing ∷ parts) at zero context place shown free = refl
+  parts_judge below (nothing ∷ parts) at (suc index) context place shown free = parts_judge below parts at index context place shown free
+  parts_judge below (due class ∷ parts) at zero context place shown free = below class at context place shown free
+  parts_judge below (due class ∷ parts) at (suc index) context place shown free = parts_judge below parts (reader class at).end index context place shown free
 
   -- one that does not stand is absent
-  parts-absent : ((class : Class) (at : ℕ) → stands (reader class at).tree ≡ true) → (parts : List Due) (at index : ℕ)
+  parts_absent : ((class : Class) (at : ℕ) → stands (reader class at).tree ≡ true) → (parts : List Due) (at index : ℕ)
       → stands (get_or (read_parts reader parts at).trees index absent) ≡ false → first_refusal (get_or (read_parts reader parts at).trees index absent) ≡ Passed
   unfolding read_parts first_refusal
-  parts-absent stand [] at index none = refl
-  parts-absent stand (nothing ∷ parts) at zero none = refl
-  parts-absent stand (nothing ∷ parts) at (suc index) none = parts-absent stand parts at index none
-  parts-absent stand (due class ∷ parts) at zero none = true_false (sym (stand class at) ∙ none)
-  parts-absent stand (due class ∷ parts) at (suc index) none = parts-absent stand parts (reader class at).end index none
+  parts_absent stand [] at index none = refl
+  parts_absent stand (nothing ∷ parts) at zero none = refl
+  parts_absent stand (nothing ∷ parts) at (suc index) none = parts_absent stand parts at index none
+  parts_absent stand (due class ∷ parts) at zero none = true_false (sym (stand class at) ∙ none)
+  parts_absent stand (due class ∷ parts) at (suc index) none = parts_absent stand parts (reader class at).end index none
 
 -- a record of its own bytes, where its parts judge
 record_judges : (levels : ℕ) (bytes : List ℕ) (class : Class) (at : ℕ) (own : Own) → read_own bytes at class (suc levels) ≡ Record own
@@ -239,16 +239,16 @@ unfolding events_in first_refusal
 record_judges levels bytes class at own is below context place shown free =
     let parts : List Due = parts_due class own in
     let trees : List Tree = (read_parts (read levels bytes) parts own.end).trees in
-    let gone = parts-absent (read levels bytes) (read_stands levels bytes) parts own.end in
-    built_judges own.kind (text_of bytes own) trees (parts-judge (read levels bytes) below parts own.end)
-    (λ same none. (gone 3 none, gone 4 (sym (else-stands levels bytes class at own is same) ∙ none)))
+    let gone = parts_absent (read levels bytes) (read_stands levels bytes) parts own.end in
+    built_judges own.kind (text_of bytes own) trees (parts_judge (read levels bytes) below parts own.end)
+    (λ same none. (gone 3 none, gone 4 (sym (else_stands levels bytes class at own is same) ∙ none)))
     context place true free.1
 
 -- every tree that is read judges itself
 read_judges : (levels : ℕ) (bytes : List ℕ) (class : Class) (at : ℕ) → Judges (read levels bytes class at).tree
 unfolding events_in
 read_judges levels bytes =
-    every-reading bytes (λ levels class at reading. Judges reading.tree)
+    every_reading bytes (λ levels class at reading. Judges reading.tree)
     (λ levels class at reader why context place shown free. absurd free)
     (λ levels class at own is below. record_judges levels bytes class at own is below)
     levels

@@ -1,7 +1,7 @@
 -- The kind of a record that was read, and the parts that are due of it: a list's items, or as many fields as the kind has.
 --   token_number_lem : kind_of number ≡ Known kind → token_number (built kind text trees) ≡ number
---   record-parts : read_own bytes at class levels ≡ Record own → (own.kind ≡ variant.Vec) ⊎ Fielded bytes at class own
---   record-fields : read_own bytes at class levels ≡ Record own → eqb (get_or bytes at 0) 24 ≡ false → Fielded bytes at class own
+--   record_parts : read_own bytes at class levels ≡ Record own → (own.kind ≡ variant.Vec) ⊎ Fielded bytes at class own
+--   record_fields : read_own bytes at class levels ≡ Record own → eqb (get_or bytes at 0) 24 ≡ false → Fielded bytes at class own
 use mathlib.Core.Path.{◌≡◌, refl, sym, ap, ◌∙◌}
 use mathlib.Core.Logic.{◌⊎◌, inl, inr, ⊎_elim}
 use mathlib.Core.List.{List, [], append-nil}
@@ -25,7 +25,7 @@ use Rattle.tree.specs.declared.own.Own.{Own}
 use Rattle.tree.specs.declared.own.OwnRead.TheVariants.{Record}
 use Rattle.tree.specs.declared.own.TriviaSpan.{TriviaSpan}
 use Rattle.tree.proofs.KindLayout.{kind_number, kind_number_lem}
-use Rattle.tree.proofs.OwnBytes.{Headed, leaf_number, own-cases, leaf_other}
+use Rattle.tree.proofs.OwnBytes.{Headed, leaf_number, own_cases, leaf_other}
 use Rattle.tree.proofs.RoundTrip.{no_items, node_fits}
 use Rattle.events.specs.Views.{view, token_number, bit_at}
 
@@ -104,7 +104,7 @@ pub record Fielded (bytes : List ℕ) (at : ℕ) (class : Class) (own : Own) : T
 pub record_headed : (bytes : List ℕ) (at : ℕ) (class : Class) (levels : ℕ) (own : Own) → read_own bytes at class levels ≡ Record own
     → (trivia : TriviaSpan) × Headed bytes at class own.kind trivia
 record_headed bytes at class =
-    own-cases bytes at class (λ (own : Own). (trivia : TriviaSpan) × Headed bytes at class own.kind trivia)
+    own_cases bytes at class (λ (own : Own). (trivia : TriviaSpan) × Headed bytes at class own.kind trivia)
     (λ kind trivia headed number room. (trivia, headed))
     (λ kind trivia end headed leaf stands text. (trivia, headed))
     (λ kind trivia headed list no_text. (trivia, headed))
@@ -126,9 +126,9 @@ module _ (bytes : List ℕ) (at : ℕ) (class : Class) where
   }
 
   -- a record that was read is a list or has its fields
-  pub record-parts : (levels : ℕ) (own : Own) → read_own bytes at class levels ≡ Record own → Parted own
-  record-parts =
-      own-cases bytes at class Parted
+  pub record_parts : (levels : ℕ) (own : Own) → read_own bytes at class levels ≡ Record own → Parted own
+  record_parts =
+      own_cases bytes at class Parted
       (λ kind trivia headed number room.
       let known : kind_of 24 ≡ Known kind = rw number at headed.kind_is in
       let same : kind ≡ variant.Vec = cc in
@@ -137,12 +137,12 @@ module _ (bytes : List ℕ) (at : ℕ) (class : Class) where
       (λ kind trivia headed list no_text. inr (fielded kind trivia trivia.end trivia.end headed list))
 
   -- so one that is no list has its fields
-  pub record-fields : (levels : ℕ) (own : Own) → read_own bytes at class levels ≡ Record own → eqb (get_or bytes at 0) 24 ≡ false → Fielded bytes at class own
+  pub record_fields : (levels : ℕ) (own : Own) → read_own bytes at class levels ≡ Record own → eqb (get_or bytes at 0) 24 ≡ false → Fielded bytes at class own
   unfolding built view
-  record-fields levels own is other =
+  record_fields levels own is other =
       ⊎_elim
       (λ list.
       let number : 24 ≡ get_or bytes at 0 = token_number_lem (get_or bytes at 0) variant.Vec [] [] ((record_headed bytes at class levels own is).1.kind_is ∙ ap Known list) in
       true_false (sym (eq-eqb (get_or bytes at 0) 24 (sym number)) ∙ other))
       (λ held. held)
-      (record-parts levels own is)
+      (record_parts levels own is)

@@ -1,5 +1,5 @@
 -- What every text of a tree has, every text that its events push has, with an indent that a chunk may have.
---   file-push : .. EveryPush P (events_of (record { options = options; indent = 0 }) (read_file levels bytes).tree)
+--   file_push : .. EveryPush P (events_of (record { options = options; indent = 0 }) (read_file levels bytes).tree)
 use mathlib.Core.Path.{◌≡◌, refl}
 use mathlib.Core.List.{List, [], ◌∷◌, ◌++◌, map}
 use mathlib.Core.Bool.{Bool, true, false, cond, not, ◌&&◌, ◌||◌}
@@ -40,7 +40,7 @@ use Rattle.events.specs.Trees.{stop_at, skipping, word, trivium_events, trivia_e
 use Rattle.events.specs.Trees.{behind, break_before, Closing, file_end, block_end, Place, leaf, labelled, arguments, imports, in_string, tokens}
 use Rattle.events.specs.Trees.{closing_events, end_events, item_events, leaf_events, value_shown, opening, else_events, operand_events, events_in}
 use Rattle.events.specs.Trees.{events_of}
-use Rattle.events.proofs.Texts.{EveryTrivia, EveryText, own-trivia, head-trivia, Holds, read-texts}
+use Rattle.events.proofs.Texts.{EveryTrivia, EveryText, own_trivia_lem, head_trivia_lem, Holds, read_texts}
 
 -- each push has an indent that a chunk may have, and a text of which P holds
 infixr 50 ◌and◌
@@ -168,273 +168,273 @@ module _ (Q P : List ℕ → Type 0)
     chosen test some others s o = cond_both (EveryPush P) test some others (λ t. s) (λ t. o)
 
     -- a refusal that a reading may have found
-    stop-push : (found : Checked) → EveryPush P (stop_at found)
-    stop-push Passed = none
-    stop-push (Failed why) = stops
+    stop_push : (found : Checked) → EveryPush P (stop_at found)
+    stop_push Passed = none
+    stop_push (Failed why) = stops
 
     -- a field that is skipped
-    skip-push : (tree : Tree) → EveryPush P (skipping tree)
-    skip-push tree = stop-push (first_refusal tree)
+    skip_push : (tree : Tree) → EveryPush P (skipping tree)
+    skip_push tree = stop_push (first_refusal tree)
 
     -- ---- trivia
 
     -- an item
-    trivium-push : (n : ℕ) → n ≤ 4096 → (item : Trivium) → Q item.text → EveryPush P (trivium_events (inside options n) item)
+    trivium_push : (n : ℕ) → n ≤ 4096 → (item : Trivium) → Q item.text → EveryPush P (trivium_events (inside options n) item)
     unfolding accepted_byte
-    trivium-push n low item text =
+    trivium_push n low item text =
         chosen (eqb item.code 0) _ _ none (chosen (eqb item.code 1) _ _ (one n 10 low refl) (pushes low (given item.text text)))
 
     -- items in stored order
-    trivia-push : (n : ℕ) → n ≤ 4096 → (trivia : List Trivium) → EveryTrivia Q trivia → EveryPush P (trivia_events (inside options n) trivia)
+    trivia_push : (n : ℕ) → n ≤ 4096 → (trivia : List Trivium) → EveryTrivia Q trivia → EveryPush P (trivia_events (inside options n) trivia)
     unfolding EveryTrivia trivia_events
-    trivia-push n low [] texts = none
-    trivia-push n low (item ∷ items) texts = trivium-push n low item texts.0 and trivia-push n low items texts.1
+    trivia_push n low [] texts = none
+    trivia_push n low (item ∷ items) texts = trivium_push n low item texts.0 and trivia_push n low items texts.1
 
     -- those first in a block
-    lead-push : (n : ℕ) → n ≤ 4096 → (trivia : List Trivium) → EveryTrivia Q trivia → EveryPush P (lead_events (inside options n) trivia)
+    lead_push : (n : ℕ) → n ≤ 4096 → (trivia : List Trivium) → EveryTrivia Q trivia → EveryPush P (lead_events (inside options n) trivia)
     unfolding EveryTrivia lead_events
-    lead-push n low [] texts = none
-    lead-push n low (item ∷ items) texts =
-        chosen (only_newline item) _ _ (lead-push n low items texts.1) (trivium-push n low item texts.0 and trivia-push n low items texts.1)
+    lead_push n low [] texts = none
+    lead_push n low (item ∷ items) texts =
+        chosen (only_newline item) _ _ (lead_push n low items texts.1) (trivium_push n low item texts.0 and trivia_push n low items texts.1)
 
     -- those before a token of a list
-    list-push : (n : ℕ) → n ≤ 4096 → (drops : Bool) (trivia : List Trivium) → EveryTrivia Q trivia → EveryPush P (list_trivia (inside options n) drops trivia)
-    list-push n low true trivia texts = lead-push n low trivia texts
-    list-push n low false trivia texts = trivia-push n low trivia texts
+    list_push : (n : ℕ) → n ≤ 4096 → (drops : Bool) (trivia : List Trivium) → EveryTrivia Q trivia → EveryPush P (list_trivia (inside options n) drops trivia)
+    list_push n low true trivia texts = lead_push n low trivia texts
+    list_push n low false trivia texts = trivia_push n low trivia texts
 
     -- ---- lists
 
     -- the newline before a token
-    break-push : (n : ℕ) → n ≤ 4096 → (before : Before) (number : ℕ) (block : Bool) → EveryPush P (break_before (inside options n) before number block)
+    break_push : (n : ℕ) → n ≤ 4096 → (before : Before) (number : ℕ) (block : Bool) → EveryPush P (break_before (inside options n) before number block)
     unfolding accepted_byte
-    break-push n low first number block = none
-    break-push n low (behind previous) number block =
+    break_push n low first number block = none
+    break_push n low (behind previous) number block =
         chosen (not (eqb number 8) && cond (eqb previous number) (after_same number block) (after_other previous number block)) _ _ (one n 10 low refl) none
 
     -- the end of a token list
-    closing-push : (n : ℕ) → n ≤ 4096 → (drops : Bool) (before : Before) (closing : Closing) → ClosingTexts Q closing
+    closing_push : (n : ℕ) → n ≤ 4096 → (drops : Bool) (before : Before) (closing : Closing) → ClosingTexts Q closing
         → EveryPush P (closing_events (inside options n) drops before closing)
-    closing-push n low drops before file_end closed = none
-    closing-push n low drops before (block_end rparen) closed =
-        stop-push (own_refusal rparen) and list-push n low drops (own_trivia rparen) closed and break-push n low before 7 false
+    closing_push n low drops before file_end closed = none
+    closing_push n low drops before (block_end rparen) closed =
+        stop_push (own_refusal rparen) and list_push n low drops (own_trivia rparen) closed and break_push n low before 7 false
 
     -- the end of a list
-    end-push : (n : ℕ) → n ≤ 4096 → (place : Place) → PlaceTexts Q place → EveryPush P (end_events (inside options n) place)
-    end-push n low (leaf style) closed = none
-    end-push n low labelled closed = none
-    end-push n low arguments closed = clears
-    end-push n low imports closed = clears
-    end-push n low in_string closed = none
-    end-push n low (tokens drops before closing) closed = closing-push n low drops before closing closed
+    end_push : (n : ℕ) → n ≤ 4096 → (place : Place) → PlaceTexts Q place → EveryPush P (end_events (inside options n) place)
+    end_push n low (leaf style) closed = none
+    end_push n low labelled closed = none
+    end_push n low arguments closed = clears
+    end_push n low imports closed = clears
+    end_push n low in_string closed = none
+    end_push n low (tokens drops before closing) closed = closing_push n low drops before closing closed
 
     -- an item, and those behind it
-    item-push : (n : ℕ) → n ≤ 4096 → (place : Place) → PlaceTexts Q place → (item : Tree) → EveryText Q item
+    item_push : (n : ℕ) → n ≤ 4096 → (place : Place) → PlaceTexts Q place → (item : Tree) → EveryText Q item
         → (bare whole : Events) → EveryPush P bare → EveryPush P whole
         → (rest : Place → Events) → ((next : Place) → PlaceTexts Q next → EveryPush P (rest next))
         → EveryPush P (item_events (inside options n) place item bare whole rest)
-    item-push n low (leaf style) closed item texts bare whole b w rest r = w and r (leaf style) tt
-    item-push n low labelled closed item texts bare whole b w rest r = w and r labelled tt
-    item-push n low arguments closed item texts bare whole b w rest r = w and r arguments tt
-    item-push n low imports closed item texts bare whole b w rest r = w and r imports tt
-    item-push n low in_string closed item texts bare whole b w rest r = b and r in_string tt
-    item-push n low (tokens drops before closing) closed item texts bare whole b w rest r =
-        stop-push (head_refusal item) and list-push n low drops (head_trivia item) (head-trivia Q item texts) and break-push n low before (token_number item) (has_block item)
+    item_push n low (leaf style) closed item texts bare whole b w rest r = w and r (leaf style) tt
+    item_push n low labelled closed item texts bare whole b w rest r = w and r labelled tt
+    item_push n low arguments closed item texts bare whole b w rest r = w and r arguments tt
+    item_push n low imports closed item texts bare whole b w rest r = w and r imports tt
+    item_push n low in_string closed item texts bare whole b w rest r = b and r in_string tt
+    item_push n low (tokens drops before closing) closed item texts bare whole b w rest r =
+        stop_push (head_refusal item) and list_push n low drops (head_trivia item) (head_trivia_lem Q item texts) and break_push n low before (token_number item) (has_block item)
         and b and r (tokens false (behind (token_number item)) closing) closed
 
     -- ---- leaves, and what surrounds blocks and operands
 
     -- a leaf
-    leaf-push : (n : ℕ) → n ≤ 4096 → (place : Place) (text : List ℕ) → Q text → EveryPush P (leaf_events (inside options n) place text)
-    leaf-push n low (leaf style) text own = pushes low (printed_text P each (inside options n) style text (given text own))
-    leaf-push n low labelled text own = pushes low (colon text own)
-    leaf-push n low arguments text own = pushes low (given text own)
-    leaf-push n low imports text own = pushes low (given text own)
-    leaf-push n low in_string text own = pushes low (given text own)
-    leaf-push n low (tokens drops before closing) text own = pushes low (given text own)
+    leaf_push : (n : ℕ) → n ≤ 4096 → (place : Place) (text : List ℕ) → Q text → EveryPush P (leaf_events (inside options n) place text)
+    leaf_push n low (leaf style) text own = pushes low (printed_text P each (inside options n) style text (given text own))
+    leaf_push n low labelled text own = pushes low (colon text own)
+    leaf_push n low arguments text own = pushes low (given text own)
+    leaf_push n low imports text own = pushes low (given text own)
+    leaf_push n low in_string text own = pushes low (given text own)
+    leaf_push n low (tokens drops before closing) text own = pushes low (given text own)
 
     -- the opening brace
-    opening-push : (n : ℕ) → n ≤ 4096 → (position : BracePosition) (brace : Events) → EveryPush P brace → EveryPush P (opening (inside options n) position brace)
+    opening_push : (n : ℕ) → n ≤ 4096 → (position : BracePosition) (brace : Events) → EveryPush P brace → EveryPush P (opening (inside options n) position brace)
     unfolding accepted_byte
-    opening-push n low SameLine brace b = b and one n 10 low refl
-    opening-push n low NewLine brace b = one n 10 low refl and b and one n 10 low refl
+    opening_push n low SameLine brace b = b and one n 10 low refl
+    opening_push n low NewLine brace b = one n 10 low refl and b and one n 10 low refl
 
     -- `else` and its block
-    else-push : (n : ℕ) → n ≤ 4096 → (position : BracePosition) (tag block : Events) → EveryPush P tag → EveryPush P block
+    else_push : (n : ℕ) → n ≤ 4096 → (position : BracePosition) (tag block : Events) → EveryPush P tag → EveryPush P block
         → EveryPush P (else_events (inside options n) position tag block)
     unfolding accepted_byte
-    else-push n low SameLine tag block t b = one n 32 low refl and t and one n 32 low refl and b
-    else-push n low NewLine tag block t b = one n 10 low refl and t and b
+    else_push n low SameLine tag block t b = one n 32 low refl and t and one n 32 low refl and b
+    else_push n low NewLine tag block t b = one n 10 low refl and t and b
 
     -- what stands behind an operand
-    operand-push : (mode : List ℕ) (rchar suffix : Events) → EveryPush P rchar → EveryPush P suffix → EveryPush P (operand_events mode rchar suffix)
-    operand-push mode rchar suffix r s = chosen (eqb (get_or mode 0 0) 3) _ _ (s and r) (chosen (eqb (get_or mode 0 0) 4) _ _ (r and s) s)
+    operand_push : (mode : List ℕ) (rchar suffix : Events) → EveryPush P rchar → EveryPush P suffix → EveryPush P (operand_events mode rchar suffix)
+    operand_push mode rchar suffix r s = chosen (eqb (get_or mode 0 0) 3) _ _ (s and r) (chosen (eqb (get_or mode 0 0) 4) _ _ (r and s) s)
 
     -- ---- a tree: each block in it is at most 64 further in
-    events-push : (n : ℕ) (place : Place) (shown : Bool) (tree : Tree) → PlaceTexts Q place → EveryText Q tree → n + 64 * nesting tree ≤ 4096
+    events_push : (n : ℕ) (place : Place) (shown : Bool) (tree : Tree) → PlaceTexts Q place → EveryText Q tree → n + 64 * nesting tree ≤ 4096
         → EveryPush P (events_in (inside options n) place shown tree)
     unfolding events_in EveryText nesting accepted_byte
-    events-push n place shown absent closed texts room = none
-    events-push n place shown (refused refusal) closed texts room = stops
-    events-push n place shown (node offset trivia tree) closed texts room =
-        chosen shown _ _ (trivia-push n (omega arith) trivia texts.0) none and events-push n place true tree closed texts.1 room
-    events-push n place shown nil closed texts room = end-push n (omega arith) place closed
-    events-push n place shown (cons item items) closed texts room =
-        item-push n (omega arith) place closed item texts.0 _ _
-        (events-push n (leaf plain) false item tt texts.0 (omega arith)) (events-push n place true item closed texts.0 (omega arith))
-        _ (λ next shut. events-push n next true items shut texts.1 (omega arith))
-    events-push n place shown (Align tag value) closed texts room =
+    events_push n place shown absent closed texts room = none
+    events_push n place shown (refused refusal) closed texts room = stops
+    events_push n place shown (node offset trivia tree) closed texts room =
+        chosen shown _ _ (trivia_push n (omega arith) trivia texts.0) none and events_push n place true tree closed texts.1 room
+    events_push n place shown nil closed texts room = end_push n (omega arith) place closed
+    events_push n place shown (cons item items) closed texts room =
+        item_push n (omega arith) place closed item texts.0 _ _
+        (events_push n (leaf plain) false item tt texts.0 (omega arith)) (events_push n place true item closed texts.0 (omega arith))
+        _ (λ next shut. events_push n next true items shut texts.1 (omega arith))
+    events_push n place shown (Align tag value) closed texts room =
         let low : n ≤ 4096 = omega arith in
-        events-push n (leaf plain) false tag tt texts.0 (omega arith) and one n 32 low refl
-        and events-push n (leaf plain) true value tt texts.1 (omega arith)
-    events-push n place shown (Assert tag value message) closed texts room =
+        events_push n (leaf plain) false tag tt texts.0 (omega arith) and one n 32 low refl
+        and events_push n (leaf plain) true value tt texts.1 (omega arith)
+    events_push n place shown (Assert tag value message) closed texts room =
         let low : n ≤ 4096 = omega arith in
-        events-push n (leaf plain) false tag tt texts.0 (omega arith) and one n 32 low refl
-        and events-push n (leaf plain) true value tt texts.1 (omega arith) and spaces
-        and events-push n (leaf plain) true message tt texts.2 (omega arith)
-    events-push n place shown (Braces block) closed texts room = events-push n (leaf plain) true block tt texts room
-    events-push n place shown (Config block) closed texts room = events-push n (leaf plain) true block tt texts room
-    events-push n place shown (ConfigPair key eq value) closed texts room =
+        events_push n (leaf plain) false tag tt texts.0 (omega arith) and one n 32 low refl
+        and events_push n (leaf plain) true value tt texts.1 (omega arith) and spaces
+        and events_push n (leaf plain) true message tt texts.2 (omega arith)
+    events_push n place shown (Braces block) closed texts room = events_push n (leaf plain) true block tt texts room
+    events_push n place shown (Config block) closed texts room = events_push n (leaf plain) true block tt texts room
+    events_push n place shown (ConfigPair key eq value) closed texts room =
         let low : n ≤ 4096 = omega arith in
-        events-push n (leaf plain) false key tt texts.0 (omega arith) and one n 32 low refl
-        and events-push n (leaf plain) true eq tt texts.1 (omega arith) and one n 32 low refl
-        and events-push n (leaf plain) true value tt texts.2 (omega arith)
-    events-push n place shown (Data values size) closed texts room =
+        events_push n (leaf plain) false key tt texts.0 (omega arith) and one n 32 low refl
+        and events_push n (leaf plain) true eq tt texts.1 (omega arith) and one n 32 low refl
+        and events_push n (leaf plain) true value tt texts.2 (omega arith)
+    events_push n place shown (Data values size) closed texts room =
         let low : n ≤ 4096 = omega arith in
-        skip-push values and events-push n (leaf data_size) false size tt texts.1 (omega arith) and one n 32 low refl
-        and events-push n arguments true values tt texts.0 (omega arith)
-    events-push n place shown (Definition tag id value) closed texts room =
+        skip_push values and events_push n (leaf data_size) false size tt texts.1 (omega arith) and one n 32 low refl
+        and events_push n arguments true values tt texts.0 (omega arith)
+    events_push n place shown (Definition tag id value) closed texts room =
         let low : n ≤ 4096 = omega arith in
-        events-push n (leaf plain) false tag tt texts.0 (omega arith) and one n 32 low refl
-        and events-push n (leaf plain) true id tt texts.1 (omega arith) and one n 32 low refl
-        and events-push n (leaf plain) true value tt texts.2 (omega arith)
-    events-push n place shown (Eof unit) closed texts room = skip-push unit
-    events-push n place shown (Error text) closed texts room = events-push n (leaf plain) false text tt texts room
-    events-push n place shown (Expression expression) closed texts room = events-push n (leaf plain) true expression tt texts room
-    events-push n place shown (If tag_if value then tag_else otherwise) closed texts room =
+        events_push n (leaf plain) false tag tt texts.0 (omega arith) and one n 32 low refl
+        and events_push n (leaf plain) true id tt texts.1 (omega arith) and one n 32 low refl
+        and events_push n (leaf plain) true value tt texts.2 (omega arith)
+    events_push n place shown (Eof unit) closed texts room = skip_push unit
+    events_push n place shown (Error text) closed texts room = events_push n (leaf plain) false text tt texts room
+    events_push n place shown (Expression expression) closed texts room = events_push n (leaf plain) true expression tt texts room
+    events_push n place shown (If tag_if value then tag_else otherwise) closed texts room =
         let low : n ≤ 4096 = omega arith in
-        events-push n (leaf plain) false tag_if tt texts.0 (omega arith) and one n 32 low refl
-        and events-push n (leaf plain) true value tt texts.1 (omega arith) and one n 32 low refl
-        and events-push n (leaf plain) true then tt texts.2 (omega arith)
+        events_push n (leaf plain) false tag_if tt texts.0 (omega arith) and one n 32 low refl
+        and events_push n (leaf plain) true value tt texts.1 (omega arith) and one n 32 low refl
+        and events_push n (leaf plain) true then tt texts.2 (omega arith)
         and chosen (stands tag_else) _ _
-        (else-push n low options.braces.position _ _ (events-push n (leaf plain) true tag_else tt texts.3 (omega arith))
-        (events-push n (leaf plain) true otherwise tt texts.4 (omega arith))) none
-    events-push n place shown (Import tag args source filename block) closed texts room =
+        (else_push n low options.braces.position _ _ (events_push n (leaf plain) true tag_else tt texts.3 (omega arith))
+        (events_push n (leaf plain) true otherwise tt texts.4 (omega arith))) none
+    events_push n place shown (Import tag args source filename block) closed texts room =
         let low : n ≤ 4096 = omega arith in
-        events-push n (leaf plain) false tag tt texts.0 (omega arith) and one n 32 low refl and events-push n imports true args tt texts.1 (omega arith)
-        and one n 32 low refl and events-push n (leaf plain) true source tt texts.2 (omega arith) and one n 32 low refl
-        and events-push n (leaf plain) true filename tt texts.3 (omega arith) and spaces
-        and events-push n (leaf plain) true block tt texts.4 (omega arith)
-    events-push n place shown (File tag filename) closed texts room =
+        events_push n (leaf plain) false tag tt texts.0 (omega arith) and one n 32 low refl and events_push n imports true args tt texts.1 (omega arith)
+        and one n 32 low refl and events_push n (leaf plain) true source tt texts.2 (omega arith) and one n 32 low refl
+        and events_push n (leaf plain) true filename tt texts.3 (omega arith) and spaces
+        and events_push n (leaf plain) true block tt texts.4 (omega arith)
+    events_push n place shown (File tag filename) closed texts room =
         let low : n ≤ 4096 = omega arith in
-        events-push n (leaf plain) false tag tt texts.0 (omega arith) and one n 32 low refl
-        and events-push n (leaf plain) true filename tt texts.1 (omega arith)
-    events-push n place shown (Instruction mnemonic' operand) closed texts room =
-        events-push n (leaf mnemonic) false mnemonic' tt texts.0 (omega arith) and spaces
-        and events-push n (leaf plain) true operand tt texts.1 (omega arith) and clears
-    events-push n place shown (Label id colon block) closed texts room =
-        events-push n labelled false id tt texts.0 (omega arith) and skip-push colon and events-push n (leaf plain) true block tt texts.2 (omega arith)
-    events-push n place shown (Loop tag expr block) closed texts room =
+        events_push n (leaf plain) false tag tt texts.0 (omega arith) and one n 32 low refl
+        and events_push n (leaf plain) true filename tt texts.1 (omega arith)
+    events_push n place shown (Instruction mnemonic' operand) closed texts room =
+        events_push n (leaf mnemonic) false mnemonic' tt texts.0 (omega arith) and spaces
+        and events_push n (leaf plain) true operand tt texts.1 (omega arith) and clears
+    events_push n place shown (Label id colon block) closed texts room =
+        events_push n labelled false id tt texts.0 (omega arith) and skip_push colon and events_push n (leaf plain) true block tt texts.2 (omega arith)
+    events_push n place shown (Loop tag expr block) closed texts room =
         let low : n ≤ 4096 = omega arith in
-        events-push n (leaf plain) false tag tt texts.0 (omega arith) and one n 32 low refl
-        and events-push n (leaf plain) true expr tt texts.1 (omega arith) and one n 32 low refl
-        and events-push n (leaf plain) true block tt texts.2 (omega arith)
-    events-push n place shown (MacroDefinition tag id lparen args rparen block) closed texts room =
+        events_push n (leaf plain) false tag tt texts.0 (omega arith) and one n 32 low refl
+        and events_push n (leaf plain) true expr tt texts.1 (omega arith) and one n 32 low refl
+        and events_push n (leaf plain) true block tt texts.2 (omega arith)
+    events_push n place shown (MacroDefinition tag id lparen args rparen block) closed texts room =
         let low : n ≤ 4096 = omega arith in
-        events-push n (leaf plain) false tag tt texts.0 (omega arith) and one n 32 low refl
-        and events-push n (leaf plain) true id tt texts.1 (omega arith) and events-push n (leaf plain) true lparen tt texts.2 (omega arith)
-        and events-push n arguments true args tt texts.3 (omega arith) and events-push n (leaf plain) true rparen tt texts.4 (omega arith) and spaces
-        and events-push n (leaf plain) true block tt texts.5 (omega arith)
-    events-push n place shown (MacroInvocation id lparen args rparen) closed texts room =
-        events-push n (leaf plain) false id tt texts.0 (omega arith) and events-push n (leaf plain) true lparen tt texts.1 (omega arith)
-        and events-push n arguments true args tt texts.2 (omega arith) and events-push n (leaf plain) true rparen tt texts.3 (omega arith)
-    events-push n place shown (ProgramCounterDefinition star eq value) closed texts room =
+        events_push n (leaf plain) false tag tt texts.0 (omega arith) and one n 32 low refl
+        and events_push n (leaf plain) true id tt texts.1 (omega arith) and events_push n (leaf plain) true lparen tt texts.2 (omega arith)
+        and events_push n arguments true args tt texts.3 (omega arith) and events_push n (leaf plain) true rparen tt texts.4 (omega arith) and spaces
+        and events_push n (leaf plain) true block tt texts.5 (omega arith)
+    events_push n place shown (MacroInvocation id lparen args rparen) closed texts room =
+        events_push n (leaf plain) false id tt texts.0 (omega arith) and events_push n (leaf plain) true lparen tt texts.1 (omega arith)
+        and events_push n arguments true args tt texts.2 (omega arith) and events_push n (leaf plain) true rparen tt texts.3 (omega arith)
+    events_push n place shown (ProgramCounterDefinition star eq value) closed texts room =
         let low : n ≤ 4096 = omega arith in
-        events-push n (leaf plain) false star tt texts.0 (omega arith) and one n 32 low refl
-        and events-push n (leaf plain) true eq tt texts.1 (omega arith) and one n 32 low refl
-        and events-push n (leaf plain) true value tt texts.2 (omega arith)
-    events-push n place shown (Segment tag id block) closed texts room =
+        events_push n (leaf plain) false star tt texts.0 (omega arith) and one n 32 low refl
+        and events_push n (leaf plain) true eq tt texts.1 (omega arith) and one n 32 low refl
+        and events_push n (leaf plain) true value tt texts.2 (omega arith)
+    events_push n place shown (Segment tag id block) closed texts room =
         let low : n ≤ 4096 = omega arith in
-        events-push n (leaf plain) false tag tt texts.0 (omega arith) and one n 32 low refl
-        and events-push n (leaf plain) true id tt texts.1 (omega arith) and one n 32 low refl
-        and events-push n (leaf plain) true block tt texts.2 (omega arith)
-    events-push n place shown (Test tag id block) closed texts room =
-        events-push n (leaf plain) false tag tt texts.0 (omega arith) and spaces and events-push n (leaf plain) true id tt texts.1 (omega arith)
-        and spaces and events-push n (leaf plain) true block tt texts.2 (omega arith)
-    events-push n place shown (Text tag encoding' text) closed texts room =
-        events-push n (leaf plain) false tag tt texts.0 (omega arith) and spaces
-        and events-push n (leaf encoding) true encoding' tt texts.1 (omega arith) and spaces
-        and events-push n (leaf plain) true text tt texts.2 (omega arith)
-    events-push n place shown (Trace tag lparen args rparen) closed texts room =
-        events-push n (leaf plain) false tag tt texts.0 (omega arith) and spaces and events-push n (leaf plain) true lparen tt texts.1 (omega arith)
-        and events-push n arguments true args tt texts.2 (omega arith) and events-push n (leaf plain) true rparen tt texts.3 (omega arith)
-    events-push n place shown (VariableDefinition ty id eq value) closed texts room =
+        events_push n (leaf plain) false tag tt texts.0 (omega arith) and one n 32 low refl
+        and events_push n (leaf plain) true id tt texts.1 (omega arith) and one n 32 low refl
+        and events_push n (leaf plain) true block tt texts.2 (omega arith)
+    events_push n place shown (Test tag id block) closed texts room =
+        events_push n (leaf plain) false tag tt texts.0 (omega arith) and spaces and events_push n (leaf plain) true id tt texts.1 (omega arith)
+        and spaces and events_push n (leaf plain) true block tt texts.2 (omega arith)
+    events_push n place shown (Text tag encoding' text) closed texts room =
+        events_push n (leaf plain) false tag tt texts.0 (omega arith) and spaces
+        and events_push n (leaf encoding) true encoding' tt texts.1 (omega arith) and spaces
+        and events_push n (leaf plain) true text tt texts.2 (omega arith)
+    events_push n place shown (Trace tag lparen args rparen) closed texts room =
+        events_push n (leaf plain) false tag tt texts.0 (omega arith) and spaces and events_push n (leaf plain) true lparen tt texts.1 (omega arith)
+        and events_push n arguments true args tt texts.2 (omega arith) and events_push n (leaf plain) true rparen tt texts.3 (omega arith)
+    events_push n place shown (VariableDefinition ty id eq value) closed texts room =
         let low : n ≤ 4096 = omega arith in
-        events-push n (leaf variable_type) false ty tt texts.0 (omega arith) and one n 32 low refl
-        and events-push n (leaf plain) true id tt texts.1 (omega arith) and one n 32 low refl
-        and events-push n (leaf plain) true eq tt texts.2 (omega arith) and one n 32 low refl
-        and events-push n (leaf plain) true value tt texts.3 (omega arith)
-    events-push n place shown (Vec items) closed texts room = events-push n place true items closed texts room
-    events-push n place shown (Leaf text) closed texts room =
+        events_push n (leaf variable_type) false ty tt texts.0 (omega arith) and one n 32 low refl
+        and events_push n (leaf plain) true id tt texts.1 (omega arith) and one n 32 low refl
+        and events_push n (leaf plain) true eq tt texts.2 (omega arith) and one n 32 low refl
+        and events_push n (leaf plain) true value tt texts.3 (omega arith)
+    events_push n place shown (Vec items) closed texts room = events_push n place true items closed texts room
+    events_push n place shown (Leaf text) closed texts room =
         let low : n ≤ 4096 = omega arith in
-        leaf-push n low place text texts
-    events-push n place shown (PathItem text) closed texts room =
+        leaf_push n low place text texts
+    events_push n place shown (PathItem text) closed texts room =
         let low : n ≤ 4096 = omega arith in
         one n 123 low refl and pushes low (given text texts) and one n 125 low refl
-    events-push n place shown (Block lparen inner rparen) closed texts room =
+    events_push n place shown (Block lparen inner rparen) closed texts room =
         let low : n ≤ 4096 = omega arith in
-        opening-push n low options.braces.position _ (events-push n (leaf plain) false lparen tt texts.0 (omega arith))
-        and events-push (n + options.whitespace.indent) (tokens true first (block_end rparen)) true inner (own-trivia Q rparen texts.2) texts.1 (omega arith)
-        and trims and one n 10 low refl and events-push n (leaf plain) false rparen tt texts.2 (omega arith)
-    events-push n place shown (BinaryExpression op lhs rhs) closed texts room =
+        opening_push n low options.braces.position _ (events_push n (leaf plain) false lparen tt texts.0 (omega arith))
+        and events_push (n + options.whitespace.indent) (tokens true first (block_end rparen)) true inner (own_trivia_lem Q rparen texts.2) texts.1 (omega arith)
+        and trims and one n 10 low refl and events_push n (leaf plain) false rparen tt texts.2 (omega arith)
+    events_push n place shown (BinaryExpression op lhs rhs) closed texts room =
         let low : n ≤ 4096 = omega arith in
-        skip-push op and events-push n (leaf plain) true lhs tt texts.1 (omega arith) and one n 32 low refl
-        and events-push n (leaf operator) true op tt texts.0 (omega arith) and one n 32 low refl
-        and events-push n (leaf plain) true rhs tt texts.2 (omega arith)
-    events-push n place shown (Factor factor tag_not tag_neg) closed texts room =
-        chosen (stands tag_not || stands tag_neg) _ _ (skip-push factor) none
-        and events-push n (leaf plain) true tag_not tt texts.1 (omega arith) and events-push n (leaf plain) true tag_neg tt texts.2 (omega arith)
-        and events-push n (leaf plain) true factor tt texts.0 (omega arith)
-    events-push n place shown (CurrentProgramCounter star) closed texts room = events-push n (leaf plain) true star tt texts room
-    events-push n place shown (ExprParens lparen inner rparen) closed texts room =
-        events-push n (leaf plain) true lparen tt texts.0 (omega arith) and events-push n (leaf plain) true inner tt texts.1 (omega arith)
-        and events-push n (leaf plain) true rparen tt texts.2 (omega arith)
-    events-push n place shown (FunctionCall name lparen args rparen) closed texts room =
-        events-push n (leaf plain) true name tt texts.0 (omega arith) and events-push n (leaf plain) true lparen tt texts.1 (omega arith)
-        and events-push n arguments true args tt texts.2 (omega arith) and events-push n (leaf plain) true rparen tt texts.3 (omega arith)
-    events-push n place shown (IdentifierValue path modifier') closed texts room =
-        chosen (stands modifier') _ _ (skip-push path) none
-        and events-push n (leaf modifier) true modifier' tt texts.1 (omega arith) and events-push n (leaf plain) true path tt texts.0 (omega arith)
-    events-push n place shown (Number ty value) closed texts room =
-        events-push n (leaf number_type) true ty tt texts.0 (omega arith) and events-push n (leaf plain) true value tt texts.1 (omega arith)
-    events-push n place shown (StringFactor string) closed texts room = events-push n (leaf plain) true string tt texts room
-    events-push n place shown (InterpolatedString lquote items) closed texts room =
+        skip_push op and events_push n (leaf plain) true lhs tt texts.1 (omega arith) and one n 32 low refl
+        and events_push n (leaf operator) true op tt texts.0 (omega arith) and one n 32 low refl
+        and events_push n (leaf plain) true rhs tt texts.2 (omega arith)
+    events_push n place shown (Factor factor tag_not tag_neg) closed texts room =
+        chosen (stands tag_not || stands tag_neg) _ _ (skip_push factor) none
+        and events_push n (leaf plain) true tag_not tt texts.1 (omega arith) and events_push n (leaf plain) true tag_neg tt texts.2 (omega arith)
+        and events_push n (leaf plain) true factor tt texts.0 (omega arith)
+    events_push n place shown (CurrentProgramCounter star) closed texts room = events_push n (leaf plain) true star tt texts room
+    events_push n place shown (ExprParens lparen inner rparen) closed texts room =
+        events_push n (leaf plain) true lparen tt texts.0 (omega arith) and events_push n (leaf plain) true inner tt texts.1 (omega arith)
+        and events_push n (leaf plain) true rparen tt texts.2 (omega arith)
+    events_push n place shown (FunctionCall name lparen args rparen) closed texts room =
+        events_push n (leaf plain) true name tt texts.0 (omega arith) and events_push n (leaf plain) true lparen tt texts.1 (omega arith)
+        and events_push n arguments true args tt texts.2 (omega arith) and events_push n (leaf plain) true rparen tt texts.3 (omega arith)
+    events_push n place shown (IdentifierValue path modifier') closed texts room =
+        chosen (stands modifier') _ _ (skip_push path) none
+        and events_push n (leaf modifier) true modifier' tt texts.1 (omega arith) and events_push n (leaf plain) true path tt texts.0 (omega arith)
+    events_push n place shown (Number ty value) closed texts room =
+        events_push n (leaf number_type) true ty tt texts.0 (omega arith) and events_push n (leaf plain) true value tt texts.1 (omega arith)
+    events_push n place shown (StringFactor string) closed texts room = events_push n (leaf plain) true string tt texts room
+    events_push n place shown (InterpolatedString lquote items) closed texts room =
         let low : n ≤ 4096 = omega arith in
-        events-push n (leaf plain) true lquote tt texts.0 (omega arith) and events-push n in_string true items tt texts.1 (omega arith)
+        events_push n (leaf plain) true lquote tt texts.0 (omega arith) and events_push n in_string true items tt texts.1 (omega arith)
         and one n 34 low refl
-    events-push n place shown (Operand expr lchar rchar mode suffix) closed texts room =
-        chosen (stands lchar) _ _ (skip-push expr) none
-        and events-push n (leaf plain) true lchar tt texts.1 (omega arith) and events-push n (leaf plain) true expr tt texts.0 (omega arith)
-        and skip-push rchar and skip-push mode
-        and operand-push (index_of mode) _ _ (events-push n (leaf plain) true rchar tt texts.2 (omega arith)) (events-push n (leaf plain) true suffix tt texts.4 (omega arith))
-    events-push n place shown (RegisterSuffix comma register') closed texts room =
-        events-push n (leaf plain) true comma tt texts.0 (omega arith) and spaces
-        and events-push n (leaf register) true register' tt texts.1 (omega arith) and clears
-    events-push n place shown (ImportAs tag path) closed texts room =
+    events_push n place shown (Operand expr lchar rchar mode suffix) closed texts room =
+        chosen (stands lchar) _ _ (skip_push expr) none
+        and events_push n (leaf plain) true lchar tt texts.1 (omega arith) and events_push n (leaf plain) true expr tt texts.0 (omega arith)
+        and skip_push rchar and skip_push mode
+        and operand_push (index_of mode) _ _ (events_push n (leaf plain) true rchar tt texts.2 (omega arith)) (events_push n (leaf plain) true suffix tt texts.4 (omega arith))
+    events_push n place shown (RegisterSuffix comma register') closed texts room =
+        events_push n (leaf plain) true comma tt texts.0 (omega arith) and spaces
+        and events_push n (leaf register) true register' tt texts.1 (omega arith) and clears
+    events_push n place shown (ImportAs tag path) closed texts room =
         let low : n ≤ 4096 = omega arith in
-        events-push n (leaf plain) true tag tt texts.0 (omega arith) and one n 32 low refl
-        and events-push n (leaf plain) true path tt texts.1 (omega arith)
-    events-push n place shown (ImportAll star alias) closed texts room =
-        events-push n (leaf plain) true star tt texts.0 (omega arith) and spaces and events-push n (leaf plain) true alias tt texts.1 (omega arith)
+        events_push n (leaf plain) true tag tt texts.0 (omega arith) and one n 32 low refl
+        and events_push n (leaf plain) true path tt texts.1 (omega arith)
+    events_push n place shown (ImportAll star alias) closed texts room =
+        events_push n (leaf plain) true star tt texts.0 (omega arith) and spaces and events_push n (leaf plain) true alias tt texts.1 (omega arith)
         and clears
-    events-push n place shown (SpecificImportArg path alias) closed texts room =
-        events-push n (leaf plain) true path tt texts.0 (omega arith) and spaces and events-push n (leaf plain) true alias tt texts.1 (omega arith)
-    events-push n place shown (ArgItem value comma) closed texts room =
-        events-push n (leaf plain) (value_shown place) value tt texts.0 (omega arith) and events-push n (leaf plain) true comma tt texts.1 (omega arith)
+    events_push n place shown (SpecificImportArg path alias) closed texts room =
+        events_push n (leaf plain) true path tt texts.0 (omega arith) and spaces and events_push n (leaf plain) true alias tt texts.1 (omega arith)
+    events_push n place shown (ArgItem value comma) closed texts room =
+        events_push n (leaf plain) (value_shown place) value tt texts.0 (omega arith) and events_push n (leaf plain) true comma tt texts.1 (omega arith)
         and spaces
 
     -- ---- a file, read to at most 64 levels
-    pub file-push : (levels : ℕ) (bytes : List ℕ) → levels ≤ 64 → Holds Q (read_file levels bytes).texts
+    pub file_push : (levels : ℕ) (bytes : List ℕ) → levels ≤ 64 → Holds Q (read_file levels bytes).texts
         → EveryPush P (events_of (inside options 0) (read_file levels bytes).tree)
-    file-push levels bytes deep texts =
-        events-push 0 (tokens false first file_end) true (read_file levels bytes).tree tt
-        (read-texts Q levels bytes Tokens 0 texts) (omega (arith, read_nesting levels bytes Tokens 0))
+    file_push levels bytes deep texts =
+        events_push 0 (tokens false first file_end) true (read_file levels bytes).tree tt
+        (read_texts Q levels bytes Tokens 0 texts) (omega (arith, read_nesting levels bytes Tokens 0))

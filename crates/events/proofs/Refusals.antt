@@ -1,7 +1,7 @@
 -- The first refusal in a tree that was read is the one that reading met first; so what is skipped holds none, or the one that skipping meets.
 --   read_refusal : first_refusal (read levels bytes class at .tree) ≡ read levels bytes class at .checked
---   skip-passed : skipped levels bytes class at ≡ Next end → (first_refusal (read levels bytes class at .tree) ≡ Passed) × (end ≡ read levels bytes class at .end)
---   skip-refused : skipped levels bytes class at ≡ NotSkipped why → first_refusal (read levels bytes class at .tree) ≡ Failed why
+--   skip_passed : skipped levels bytes class at ≡ Next end → (first_refusal (read levels bytes class at .tree) ≡ Passed) × (end ≡ read levels bytes class at .end)
+--   skip_refused : skipped levels bytes class at ≡ NotSkipped why → first_refusal (read levels bytes class at .tree) ≡ Failed why
 use mathlib.Core.Path.{◌≡◌, refl, sym, ap, ◌∙◌}
 use mathlib.Core.Logic.{⊎_elim}
 use mathlib.Core.List.{List, [], ◌∷◌}
@@ -26,11 +26,11 @@ use Rattle.tree.specs.declared.grammar.Class.{Class}
 use Rattle.tree.specs.declared.own.Own.{Own}
 use Rattle.tree.specs.declared.own.OwnRead.TheVariants.{Record}
 use Rattle.tree.specs.declared.parts.Skipped.TheVariants.{Next, NotSkipped}
-use Rattle.tree.proofs.Readings.{every-reading}
+use Rattle.tree.proofs.Readings.{every_reading}
 use Rattle.tree.proofs.RoundTrip.{trees_counted, fields_counted}
 use Rattle.events.specs.Views.{view, token_number}
 use Rattle.events.specs.Refusals.{first_refusal}
-use Rattle.events.proofs.OwnParts.{Fielded, token_number_lem, record_headed, record-parts}
+use Rattle.events.proofs.OwnParts.{Fielded, token_number_lem, record_headed, record_parts}
 
 -- ---- the parts of a tree
 
@@ -140,13 +140,13 @@ record_refusal bytes reader at class levels own is =
     let counted : length trees ≡ length (fields own.kind (rule class).value) =
     trees_counted reader (parts_due class own) own.end ∙ ap length held.parts ∙ fields_counted (fields own.kind (rule class).value) (own.map / 2) in
     fields_refusal own.kind (rule class).value text trees (rw number held.other) ∙ rw (← counted) (refusal_all trees))
-    (record-parts bytes at class levels own is)
+    (record_parts bytes at class levels own is)
 
 -- the first refusal in a tree is the one that reading met first
 pub read_refusal : (levels : ℕ) (bytes : List ℕ) (class : Class) (at : ℕ) → first_refusal (read levels bytes class at).tree ≡ (read levels bytes class at).checked
 unfolding first_refusal
 read_refusal levels bytes =
-    every-reading bytes (λ levels class at reading. first_refusal reading.tree ≡ reading.checked)
+    every_reading bytes (λ levels class at reading. first_refusal reading.tree ≡ reading.checked)
     (λ levels class at reader why. refl)
     (λ levels class at own is below.
     record_refusal bytes (read levels bytes) at class (suc levels) own is ∙ parts_refusal (read levels bytes) below (parts_due class own) own.end)
@@ -165,14 +165,14 @@ stop_on end why (Failed other) e = let same : other ≡ why = cc in rw same
 
 module _ (levels : ℕ) (bytes : List ℕ) (class : Class) (at : ℕ) where
   -- a record that was skipped holds no refusal
-  pub skip-passed : (end : ℕ) → skipped levels bytes class at ≡ Next end
+  pub skip_passed : (end : ℕ) → skipped levels bytes class at ≡ Next end
       → (first_refusal (read levels bytes class at).tree ≡ Passed) × (end ≡ (read levels bytes class at).end)
   unfolding skipped
-  skip-passed end e =
+  skip_passed end e =
       let found = skip_on (read levels bytes class at).end end (read levels bytes class at).checked e in
       (read_refusal levels bytes class at ∙ found.0, found.1)
 
   -- one that was not holds the refusal that was met
-  pub skip-refused : (why : Refusal) → skipped levels bytes class at ≡ NotSkipped why → first_refusal (read levels bytes class at).tree ≡ Failed why
+  pub skip_refused : (why : Refusal) → skipped levels bytes class at ≡ NotSkipped why → first_refusal (read levels bytes class at).tree ≡ Failed why
   unfolding skipped
-  skip-refused why e = read_refusal levels bytes class at ∙ stop_on (read levels bytes class at).end why (read levels bytes class at).checked e
+  skip_refused why e = read_refusal levels bytes class at ∙ stop_on (read levels bytes class at).end why (read levels bytes class at).checked e

@@ -1,6 +1,6 @@
 -- The events of a file of at most 65,535 bytes, read to 64 levels, push only what has a stored form, where a block is at most 64 further in: an indent is
 -- at most 64 times 64, and four bytes of a record stand before a text.
---   file-storable : .. Storable (events_of (record { options = options; indent = 0 }) (read_file levels bytes).tree)
+--   file_storable : .. Storable (events_of (record { options = options; indent = 0 }) (read_file levels bytes).tree)
 use mathlib.Core.List.{List, [], ◌∷◌}
 use Prim.Native.Nat.{ℕ, ◌+◌, ◌≤◌, ◌<◌}
 use native.Mathlib.Omega.{arith}
@@ -8,12 +8,12 @@ use lib.ListN.{length, length-append}
 use Rattle.options.specs.declared.FormattingOptions.{FormattingOptions}
 use Rattle.tree.specs.Checking.{read_file}
 use Rattle.tree.specs.declared.grammar.Class.TheVariants.{Tokens}
-use Rattle.tree.proofs.Bounds.{texts-inside}
+use Rattle.tree.proofs.Bounds.{texts_inside}
 use Rattle.printing.specs.Events.{Events}
 use Rattle.printing.specs.Holding.{Storable}
 use Rattle.events.specs.Trees.{events_of}
 use Rattle.events.proofs.Texts.{Holds}
-use Rattle.events.proofs.Pushes.{EveryPush, none, pushes, spaces, clears, trims, stops, ◌and◌, file-push}
+use Rattle.events.proofs.Pushes.{EveryPush, none, pushes, spaces, clears, trims, stops, ◌and◌, file_push}
 
 -- a text that may have a colon behind it and a space before it
 abbrev pub Short : List ℕ → Type 0
@@ -37,14 +37,14 @@ inside_short bytes (b ∷ text) place limit inside = omega (arith, inside (omega
 
 module _ (levels : ℕ) (bytes : List ℕ) (limit : length bytes ≤ 65535) where
   -- every text of a file is short
-  pub file-short : Holds Short (read_file levels bytes).texts
-  file-short text member = inside_short bytes text.bytes text.place limit (texts-inside bytes levels Tokens 0 text member)
+  pub file_short : Holds Short (read_file levels bytes).texts
+  file_short text member = inside_short bytes text.bytes text.place limit (texts_inside bytes levels Tokens 0 text member)
 
   -- what the events of a file push has a stored form
-  pub file-storable : (options : FormattingOptions) → levels ≤ 64 → options.whitespace.indent ≤ 64
+  pub file_storable : (options : FormattingOptions) → levels ≤ 64 → options.whitespace.indent ≤ 64
       → Storable (events_of (record { options = options; indent = 0 }) (read_file levels bytes).tree)
-  file-storable options deep narrow =
+  file_storable options deep narrow =
       all_storable
-      (file-push Short (λ text. length text ≤ 65534)
+      (file_push Short (λ text. length text ≤ 65534)
       (λ text small. omega (arith, small.0)) (λ text short. omega arith) (λ text short. omega (arith, length-append text (58 ∷ [])))
-      options narrow levels bytes deep file-short)
+      options narrow levels bytes deep file_short)

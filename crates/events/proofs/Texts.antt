@@ -1,5 +1,5 @@
 -- What holds of every text that was read holds of every text of the tree, trivia included.
---   read-texts : .. ((text : Placed) → List.Memᴰ text (read levels bytes class at .texts) → P text.bytes) → EveryText P (read levels bytes class at .tree)
+--   read_texts : .. ((text : Placed) → List.Memᴰ text (read levels bytes class at .texts) → P text.bytes) → EveryText P (read levels bytes class at .tree)
 use mathlib.Core.Path.{refl}
 use mathlib.Core.List.Memᴰ
 use mathlib.Core.List.{List, [], ◌∷◌, Memᴰ}
@@ -14,7 +14,7 @@ use Rattle.tree.specs.Reading.{Placed, trivium_behind, trivia_from, trivia_texts
 use Rattle.tree.specs.declared.grammar.Kind.{Kind}
 use Rattle.tree.specs.declared.grammar.Kind.TheVariants as variant
 use Rattle.tree.specs.declared.grammar.Class.{Class}
-use Rattle.tree.proofs.Readings.{every-reading}
+use Rattle.tree.proofs.Readings.{every_reading}
 use Rattle.events.specs.Views.{view, own_trivia, head_trivia}
 
 -- every text of trivia
@@ -77,200 +77,200 @@ module _ (P : List ℕ → Type 0) where
   -- ---- of a tree's trivia
 
   -- its own
-  pub own-trivia : (tree : Tree) → EveryText P tree → EveryTrivia P (own_trivia tree)
+  pub own_trivia_lem : (tree : Tree) → EveryText P tree → EveryTrivia P (own_trivia tree)
   unfolding EveryTrivia EveryText view
-  own-trivia absent texts = tt
-  own-trivia (refused refusal) texts = tt
-  own-trivia (node place trivia tree) texts = texts.0
-  own-trivia nil texts = tt
-  own-trivia (cons item items) texts = tt
-  own-trivia (Align tag value) texts = tt
-  own-trivia (Assert tag value message) texts = tt
-  own-trivia (Braces block) texts = tt
-  own-trivia (Config block) texts = tt
-  own-trivia (ConfigPair key eq value) texts = tt
-  own-trivia (Data values size) texts = tt
-  own-trivia (Definition tag id value) texts = tt
-  own-trivia (Eof unit) texts = tt
-  own-trivia (Error text) texts = tt
-  own-trivia (Expression expression) texts = tt
-  own-trivia (If tag_if value then tag_else otherwise) texts = tt
-  own-trivia (Import tag args source filename block) texts = tt
-  own-trivia (File tag filename) texts = tt
-  own-trivia (Instruction mnemonic operand) texts = tt
-  own-trivia (Label id colon block) texts = tt
-  own-trivia (Loop tag expr block) texts = tt
-  own-trivia (MacroDefinition tag id lparen args rparen block) texts = tt
-  own-trivia (MacroInvocation id lparen args rparen) texts = tt
-  own-trivia (ProgramCounterDefinition star eq value) texts = tt
-  own-trivia (Segment tag id block) texts = tt
-  own-trivia (Test tag id block) texts = tt
-  own-trivia (Text tag encoding text) texts = tt
-  own-trivia (Trace tag lparen args rparen) texts = tt
-  own-trivia (VariableDefinition ty id eq value) texts = tt
-  own-trivia (Vec items) texts = tt
-  own-trivia (Leaf text) texts = tt
-  own-trivia (PathItem text) texts = tt
-  own-trivia (Block lparen inner rparen) texts = tt
-  own-trivia (BinaryExpression op lhs rhs) texts = tt
-  own-trivia (Factor factor tag_not tag_neg) texts = tt
-  own-trivia (CurrentProgramCounter star) texts = tt
-  own-trivia (ExprParens lparen inner rparen) texts = tt
-  own-trivia (FunctionCall name lparen args rparen) texts = tt
-  own-trivia (IdentifierValue path modifier) texts = tt
-  own-trivia (Number ty value) texts = tt
-  own-trivia (StringFactor string) texts = tt
-  own-trivia (InterpolatedString lquote items) texts = tt
-  own-trivia (Operand expr lchar rchar mode suffix) texts = tt
-  own-trivia (RegisterSuffix comma register) texts = tt
-  own-trivia (ImportAs tag path) texts = tt
-  own-trivia (ImportAll star alias) texts = tt
-  own-trivia (SpecificImportArg path alias) texts = tt
-  own-trivia (ArgItem value comma) texts = tt
+  own_trivia_lem absent texts = tt
+  own_trivia_lem (refused refusal) texts = tt
+  own_trivia_lem (node place trivia tree) texts = texts.0
+  own_trivia_lem nil texts = tt
+  own_trivia_lem (cons item items) texts = tt
+  own_trivia_lem (Align tag value) texts = tt
+  own_trivia_lem (Assert tag value message) texts = tt
+  own_trivia_lem (Braces block) texts = tt
+  own_trivia_lem (Config block) texts = tt
+  own_trivia_lem (ConfigPair key eq value) texts = tt
+  own_trivia_lem (Data values size) texts = tt
+  own_trivia_lem (Definition tag id value) texts = tt
+  own_trivia_lem (Eof unit) texts = tt
+  own_trivia_lem (Error text) texts = tt
+  own_trivia_lem (Expression expression) texts = tt
+  own_trivia_lem (If tag_if value then tag_else otherwise) texts = tt
+  own_trivia_lem (Import tag args source filename block) texts = tt
+  own_trivia_lem (File tag filename) texts = tt
+  own_trivia_lem (Instruction mnemonic operand) texts = tt
+  own_trivia_lem (Label id colon block) texts = tt
+  own_trivia_lem (Loop tag expr block) texts = tt
+  own_trivia_lem (MacroDefinition tag id lparen args rparen block) texts = tt
+  own_trivia_lem (MacroInvocation id lparen args rparen) texts = tt
+  own_trivia_lem (ProgramCounterDefinition star eq value) texts = tt
+  own_trivia_lem (Segment tag id block) texts = tt
+  own_trivia_lem (Test tag id block) texts = tt
+  own_trivia_lem (Text tag encoding text) texts = tt
+  own_trivia_lem (Trace tag lparen args rparen) texts = tt
+  own_trivia_lem (VariableDefinition ty id eq value) texts = tt
+  own_trivia_lem (Vec items) texts = tt
+  own_trivia_lem (Leaf text) texts = tt
+  own_trivia_lem (PathItem text) texts = tt
+  own_trivia_lem (Block lparen inner rparen) texts = tt
+  own_trivia_lem (BinaryExpression op lhs rhs) texts = tt
+  own_trivia_lem (Factor factor tag_not tag_neg) texts = tt
+  own_trivia_lem (CurrentProgramCounter star) texts = tt
+  own_trivia_lem (ExprParens lparen inner rparen) texts = tt
+  own_trivia_lem (FunctionCall name lparen args rparen) texts = tt
+  own_trivia_lem (IdentifierValue path modifier) texts = tt
+  own_trivia_lem (Number ty value) texts = tt
+  own_trivia_lem (StringFactor string) texts = tt
+  own_trivia_lem (InterpolatedString lquote items) texts = tt
+  own_trivia_lem (Operand expr lchar rchar mode suffix) texts = tt
+  own_trivia_lem (RegisterSuffix comma register) texts = tt
+  own_trivia_lem (ImportAs tag path) texts = tt
+  own_trivia_lem (ImportAll star alias) texts = tt
+  own_trivia_lem (SpecificImportArg path alias) texts = tt
+  own_trivia_lem (ArgItem value comma) texts = tt
 
   -- its head's
-  pub head-trivia : (tree : Tree) → EveryText P tree → EveryTrivia P (head_trivia tree)
+  pub head_trivia_lem : (tree : Tree) → EveryText P tree → EveryTrivia P (head_trivia tree)
   unfolding EveryTrivia EveryText view
-  head-trivia absent texts = tt
-  head-trivia (refused refusal) texts = tt
-  head-trivia (node place trivia tree) texts = head-trivia tree texts.1
-  head-trivia nil texts = tt
-  head-trivia (cons item items) texts = tt
-  head-trivia (Align tag value) texts = own-trivia tag texts.0
-  head-trivia (Assert tag value message) texts = own-trivia tag texts.0
-  head-trivia (Braces block) texts = head-trivia block texts
-  head-trivia (Config block) texts = head-trivia block texts
-  head-trivia (ConfigPair key eq value) texts = own-trivia key texts.0
-  head-trivia (Data values size) texts = own-trivia size texts.1
-  head-trivia (Definition tag id value) texts = own-trivia tag texts.0
-  head-trivia (Eof unit) texts = own-trivia unit texts
-  head-trivia (Error text) texts = own-trivia text texts
-  head-trivia (Expression expression) texts = head-trivia expression texts
-  head-trivia (If tag_if value then tag_else otherwise) texts = own-trivia tag_if texts.0
-  head-trivia (Import tag args source filename block) texts = own-trivia tag texts.0
-  head-trivia (File tag filename) texts = own-trivia tag texts.0
-  head-trivia (Instruction mnemonic operand) texts = own-trivia mnemonic texts.0
-  head-trivia (Label id colon block) texts = own-trivia id texts.0
-  head-trivia (Loop tag expr block) texts = own-trivia tag texts.0
-  head-trivia (MacroDefinition tag id lparen args rparen block) texts = own-trivia tag texts.0
-  head-trivia (MacroInvocation id lparen args rparen) texts = own-trivia id texts.0
-  head-trivia (ProgramCounterDefinition star eq value) texts = own-trivia star texts.0
-  head-trivia (Segment tag id block) texts = own-trivia tag texts.0
-  head-trivia (Test tag id block) texts = own-trivia tag texts.0
-  head-trivia (Text tag encoding text) texts = own-trivia tag texts.0
-  head-trivia (Trace tag lparen args rparen) texts = own-trivia tag texts.0
-  head-trivia (VariableDefinition ty id eq value) texts = own-trivia ty texts.0
-  head-trivia (Vec items) texts = tt
-  head-trivia (Leaf text) texts = tt
-  head-trivia (PathItem text) texts = tt
-  head-trivia (Block lparen inner rparen) texts = own-trivia lparen texts.0
-  head-trivia (BinaryExpression op lhs rhs) texts = own-trivia lhs texts.1
-  head-trivia (Factor factor tag_not tag_neg) texts = own-trivia factor texts.0
-  head-trivia (CurrentProgramCounter star) texts = tt
-  head-trivia (ExprParens lparen inner rparen) texts = tt
-  head-trivia (FunctionCall name lparen args rparen) texts = tt
-  head-trivia (IdentifierValue path modifier) texts = tt
-  head-trivia (Number ty value) texts = tt
-  head-trivia (StringFactor string) texts = tt
-  head-trivia (InterpolatedString lquote items) texts = tt
-  head-trivia (Operand expr lchar rchar mode suffix) texts = tt
-  head-trivia (RegisterSuffix comma register) texts = tt
-  head-trivia (ImportAs tag path) texts = tt
-  head-trivia (ImportAll star alias) texts = tt
-  head-trivia (SpecificImportArg path alias) texts = tt
-  head-trivia (ArgItem value comma) texts = tt
+  head_trivia_lem absent texts = tt
+  head_trivia_lem (refused refusal) texts = tt
+  head_trivia_lem (node place trivia tree) texts = head_trivia_lem tree texts.1
+  head_trivia_lem nil texts = tt
+  head_trivia_lem (cons item items) texts = tt
+  head_trivia_lem (Align tag value) texts = own_trivia_lem tag texts.0
+  head_trivia_lem (Assert tag value message) texts = own_trivia_lem tag texts.0
+  head_trivia_lem (Braces block) texts = head_trivia_lem block texts
+  head_trivia_lem (Config block) texts = head_trivia_lem block texts
+  head_trivia_lem (ConfigPair key eq value) texts = own_trivia_lem key texts.0
+  head_trivia_lem (Data values size) texts = own_trivia_lem size texts.1
+  head_trivia_lem (Definition tag id value) texts = own_trivia_lem tag texts.0
+  head_trivia_lem (Eof unit) texts = own_trivia_lem unit texts
+  head_trivia_lem (Error text) texts = own_trivia_lem text texts
+  head_trivia_lem (Expression expression) texts = head_trivia_lem expression texts
+  head_trivia_lem (If tag_if value then tag_else otherwise) texts = own_trivia_lem tag_if texts.0
+  head_trivia_lem (Import tag args source filename block) texts = own_trivia_lem tag texts.0
+  head_trivia_lem (File tag filename) texts = own_trivia_lem tag texts.0
+  head_trivia_lem (Instruction mnemonic operand) texts = own_trivia_lem mnemonic texts.0
+  head_trivia_lem (Label id colon block) texts = own_trivia_lem id texts.0
+  head_trivia_lem (Loop tag expr block) texts = own_trivia_lem tag texts.0
+  head_trivia_lem (MacroDefinition tag id lparen args rparen block) texts = own_trivia_lem tag texts.0
+  head_trivia_lem (MacroInvocation id lparen args rparen) texts = own_trivia_lem id texts.0
+  head_trivia_lem (ProgramCounterDefinition star eq value) texts = own_trivia_lem star texts.0
+  head_trivia_lem (Segment tag id block) texts = own_trivia_lem tag texts.0
+  head_trivia_lem (Test tag id block) texts = own_trivia_lem tag texts.0
+  head_trivia_lem (Text tag encoding text) texts = own_trivia_lem tag texts.0
+  head_trivia_lem (Trace tag lparen args rparen) texts = own_trivia_lem tag texts.0
+  head_trivia_lem (VariableDefinition ty id eq value) texts = own_trivia_lem ty texts.0
+  head_trivia_lem (Vec items) texts = tt
+  head_trivia_lem (Leaf text) texts = tt
+  head_trivia_lem (PathItem text) texts = tt
+  head_trivia_lem (Block lparen inner rparen) texts = own_trivia_lem lparen texts.0
+  head_trivia_lem (BinaryExpression op lhs rhs) texts = own_trivia_lem lhs texts.1
+  head_trivia_lem (Factor factor tag_not tag_neg) texts = own_trivia_lem factor texts.0
+  head_trivia_lem (CurrentProgramCounter star) texts = tt
+  head_trivia_lem (ExprParens lparen inner rparen) texts = tt
+  head_trivia_lem (FunctionCall name lparen args rparen) texts = tt
+  head_trivia_lem (IdentifierValue path modifier) texts = tt
+  head_trivia_lem (Number ty value) texts = tt
+  head_trivia_lem (StringFactor string) texts = tt
+  head_trivia_lem (InterpolatedString lquote items) texts = tt
+  head_trivia_lem (Operand expr lchar rchar mode suffix) texts = tt
+  head_trivia_lem (RegisterSuffix comma register) texts = tt
+  head_trivia_lem (ImportAs tag path) texts = tt
+  head_trivia_lem (ImportAll star alias) texts = tt
+  head_trivia_lem (SpecificImportArg path alias) texts = tt
+  head_trivia_lem (ArgItem value comma) texts = tt
 
   -- ---- of a tree that was read
 
   -- the items of a list
-  chain-texts : (trees : List Tree) → ((place : ℕ) → EveryText P (get_or trees place absent)) → EveryText P (chain trees)
+  chain_texts : (trees : List Tree) → ((place : ℕ) → EveryText P (get_or trees place absent)) → EveryText P (chain trees)
   unfolding EveryText chain
-  chain-texts [] parts = tt
-  chain-texts (tree ∷ trees) parts = (parts 0, chain-texts trees (λ place. parts (suc place)))
+  chain_texts [] parts = tt
+  chain_texts (tree ∷ trees) parts = (parts 0, chain_texts trees (λ place. parts (suc place)))
 
   -- a record of its text and its parts
-  built-texts : (kind : Kind) (text : List ℕ) (trees : List Tree) → P text → ((place : ℕ) → EveryText P (get_or trees place absent))
+  built_texts : (kind : Kind) (text : List ℕ) (trees : List Tree) → P text → ((place : ℕ) → EveryText P (get_or trees place absent))
       → EveryText P (built kind text trees)
   unfolding EveryText built
-  built-texts variant.Align text trees own parts = (parts 0, parts 1)
-  built-texts variant.Assert text trees own parts = (parts 0, parts 1, parts 2)
-  built-texts variant.Braces text trees own parts = parts 0
-  built-texts variant.Config text trees own parts = parts 0
-  built-texts variant.ConfigPair text trees own parts = (parts 0, parts 1, parts 2)
-  built-texts variant.Data text trees own parts = (parts 0, parts 1)
-  built-texts variant.Definition text trees own parts = (parts 0, parts 1, parts 2)
-  built-texts variant.Eof text trees own parts = parts 0
-  built-texts variant.Error text trees own parts = parts 0
-  built-texts variant.Expression text trees own parts = parts 0
-  built-texts variant.If text trees own parts = (parts 0, parts 1, parts 2, parts 3, parts 4)
-  built-texts variant.Import text trees own parts = (parts 0, parts 1, parts 2, parts 3, parts 4)
-  built-texts variant.File text trees own parts = (parts 0, parts 1)
-  built-texts variant.Instruction text trees own parts = (parts 0, parts 1)
-  built-texts variant.Label text trees own parts = (parts 0, parts 1, parts 2)
-  built-texts variant.Loop text trees own parts = (parts 0, parts 1, parts 2)
-  built-texts variant.MacroDefinition text trees own parts = (parts 0, parts 1, parts 2, parts 3, parts 4, parts 5)
-  built-texts variant.MacroInvocation text trees own parts = (parts 0, parts 1, parts 2, parts 3)
-  built-texts variant.ProgramCounterDefinition text trees own parts = (parts 0, parts 1, parts 2)
-  built-texts variant.Segment text trees own parts = (parts 0, parts 1, parts 2)
-  built-texts variant.Test text trees own parts = (parts 0, parts 1, parts 2)
-  built-texts variant.Text text trees own parts = (parts 0, parts 1, parts 2)
-  built-texts variant.Trace text trees own parts = (parts 0, parts 1, parts 2, parts 3)
-  built-texts variant.VariableDefinition text trees own parts = (parts 0, parts 1, parts 2, parts 3)
-  built-texts variant.Vec text trees own parts = chain-texts trees parts
-  built-texts variant.Leaf text trees own parts = own
-  built-texts variant.PathItem text trees own parts = own
-  built-texts variant.Block text trees own parts = (parts 0, parts 1, parts 2)
-  built-texts variant.BinaryExpression text trees own parts = (parts 0, parts 1, parts 2)
-  built-texts variant.Factor text trees own parts = (parts 0, parts 1, parts 2)
-  built-texts variant.CurrentProgramCounter text trees own parts = parts 0
-  built-texts variant.ExprParens text trees own parts = (parts 0, parts 1, parts 2)
-  built-texts variant.FunctionCall text trees own parts = (parts 0, parts 1, parts 2, parts 3)
-  built-texts variant.IdentifierValue text trees own parts = (parts 0, parts 1)
-  built-texts variant.Number text trees own parts = (parts 0, parts 1)
-  built-texts variant.StringFactor text trees own parts = parts 0
-  built-texts variant.InterpolatedString text trees own parts = (parts 0, parts 1)
-  built-texts variant.Operand text trees own parts = (parts 0, parts 1, parts 2, parts 3, parts 4)
-  built-texts variant.RegisterSuffix text trees own parts = (parts 0, parts 1)
-  built-texts variant.ImportAs text trees own parts = (parts 0, parts 1)
-  built-texts variant.ImportAll text trees own parts = (parts 0, parts 1)
-  built-texts variant.SpecificImportArg text trees own parts = (parts 0, parts 1)
-  built-texts variant.ArgItem text trees own parts = (parts 0, parts 1)
+  built_texts variant.Align text trees own parts = (parts 0, parts 1)
+  built_texts variant.Assert text trees own parts = (parts 0, parts 1, parts 2)
+  built_texts variant.Braces text trees own parts = parts 0
+  built_texts variant.Config text trees own parts = parts 0
+  built_texts variant.ConfigPair text trees own parts = (parts 0, parts 1, parts 2)
+  built_texts variant.Data text trees own parts = (parts 0, parts 1)
+  built_texts variant.Definition text trees own parts = (parts 0, parts 1, parts 2)
+  built_texts variant.Eof text trees own parts = parts 0
+  built_texts variant.Error text trees own parts = parts 0
+  built_texts variant.Expression text trees own parts = parts 0
+  built_texts variant.If text trees own parts = (parts 0, parts 1, parts 2, parts 3, parts 4)
+  built_texts variant.Import text trees own parts = (parts 0, parts 1, parts 2, parts 3, parts 4)
+  built_texts variant.File text trees own parts = (parts 0, parts 1)
+  built_texts variant.Instruction text trees own parts = (parts 0, parts 1)
+  built_texts variant.Label text trees own parts = (parts 0, parts 1, parts 2)
+  built_texts variant.Loop text trees own parts = (parts 0, parts 1, parts 2)
+  built_texts variant.MacroDefinition text trees own parts = (parts 0, parts 1, parts 2, parts 3, parts 4, parts 5)
+  built_texts variant.MacroInvocation text trees own parts = (parts 0, parts 1, parts 2, parts 3)
+  built_texts variant.ProgramCounterDefinition text trees own parts = (parts 0, parts 1, parts 2)
+  built_texts variant.Segment text trees own parts = (parts 0, parts 1, parts 2)
+  built_texts variant.Test text trees own parts = (parts 0, parts 1, parts 2)
+  built_texts variant.Text text trees own parts = (parts 0, parts 1, parts 2)
+  built_texts variant.Trace text trees own parts = (parts 0, parts 1, parts 2, parts 3)
+  built_texts variant.VariableDefinition text trees own parts = (parts 0, parts 1, parts 2, parts 3)
+  built_texts variant.Vec text trees own parts = chain_texts trees parts
+  built_texts variant.Leaf text trees own parts = own
+  built_texts variant.PathItem text trees own parts = own
+  built_texts variant.Block text trees own parts = (parts 0, parts 1, parts 2)
+  built_texts variant.BinaryExpression text trees own parts = (parts 0, parts 1, parts 2)
+  built_texts variant.Factor text trees own parts = (parts 0, parts 1, parts 2)
+  built_texts variant.CurrentProgramCounter text trees own parts = parts 0
+  built_texts variant.ExprParens text trees own parts = (parts 0, parts 1, parts 2)
+  built_texts variant.FunctionCall text trees own parts = (parts 0, parts 1, parts 2, parts 3)
+  built_texts variant.IdentifierValue text trees own parts = (parts 0, parts 1)
+  built_texts variant.Number text trees own parts = (parts 0, parts 1)
+  built_texts variant.StringFactor text trees own parts = parts 0
+  built_texts variant.InterpolatedString text trees own parts = (parts 0, parts 1)
+  built_texts variant.Operand text trees own parts = (parts 0, parts 1, parts 2, parts 3, parts 4)
+  built_texts variant.RegisterSuffix text trees own parts = (parts 0, parts 1)
+  built_texts variant.ImportAs text trees own parts = (parts 0, parts 1)
+  built_texts variant.ImportAll text trees own parts = (parts 0, parts 1)
+  built_texts variant.SpecificImportArg text trees own parts = (parts 0, parts 1)
+  built_texts variant.ArgItem text trees own parts = (parts 0, parts 1)
 
   -- what holds of each of these texts
   abbrev pub Holds : List Placed → Type 0
   Holds texts = (text : Placed) → Memᴰ text texts → P text.bytes
 
   -- trivia
-  trivia-texts : (bytes : List ℕ) (at count : ℕ) → Holds (trivia_texts bytes at count) → EveryTrivia P (trivia_from bytes at count)
+  trivia_texts_lem : (bytes : List ℕ) (at count : ℕ) → Holds (trivia_texts bytes at count) → EveryTrivia P (trivia_from bytes at count)
   unfolding EveryTrivia trivia_texts trivia_from
-  trivia-texts bytes at zero each = tt
-  trivia-texts bytes at (suc count) each =
-      (each _ (Memᴰ.head refl), trivia-texts bytes (trivium_behind bytes at) count (λ text member. each text (Memᴰ.tail member)))
+  trivia_texts_lem bytes at zero each = tt
+  trivia_texts_lem bytes at (suc count) each =
+      (each _ (Memᴰ.head refl), trivia_texts_lem bytes (trivium_behind bytes at) count (λ text member. each text (Memᴰ.tail member)))
 
   -- parts
-  parts-texts : (reader : Reader) → ((class : Class) (at : ℕ) → Holds (reader class at).texts → EveryText P (reader class at).tree)
+  parts_texts : (reader : Reader) → ((class : Class) (at : ℕ) → Holds (reader class at).texts → EveryText P (reader class at).tree)
       → (parts : List Due) (at : ℕ) → Holds (read_parts reader parts at).texts → (place : ℕ) → EveryText P (get_or (read_parts reader parts at).trees place absent)
   unfolding EveryText read_parts
-  parts-texts reader below [] at each place = tt
-  parts-texts reader below (nothing ∷ parts) at each zero = tt
-  parts-texts reader below (nothing ∷ parts) at each (suc place) = parts-texts reader below parts at each place
-  parts-texts reader below (due class ∷ parts) at each zero =
+  parts_texts reader below [] at each place = tt
+  parts_texts reader below (nothing ∷ parts) at each zero = tt
+  parts_texts reader below (nothing ∷ parts) at each (suc place) = parts_texts reader below parts at each place
+  parts_texts reader below (due class ∷ parts) at each zero =
       below class at (λ text member. each text (Memᴰ.append_left (read_parts reader parts (reader class at).end).texts member))
-  parts-texts reader below (due class ∷ parts) at each (suc place) =
-      parts-texts reader below parts (reader class at).end (λ text member. each text (Memᴰ.append_right (reader class at).texts member)) place
+  parts_texts reader below (due class ∷ parts) at each (suc place) =
+      parts_texts reader below parts (reader class at).end (λ text member. each text (Memᴰ.append_right (reader class at).texts member)) place
 
   -- what holds of every text that was read holds of every text of the tree
-  pub read-texts : (levels : ℕ) (bytes : List ℕ) (class : Class) (at : ℕ) → Holds (read levels bytes class at).texts → EveryText P (read levels bytes class at).tree
+  pub read_texts : (levels : ℕ) (bytes : List ℕ) (class : Class) (at : ℕ) → Holds (read levels bytes class at).texts → EveryText P (read levels bytes class at).tree
   unfolding EveryText
-  read-texts levels bytes =
-      every-reading bytes (λ levels class at reading. Holds reading.texts → EveryText P reading.tree)
+  read_texts levels bytes =
+      every_reading bytes (λ levels class at reading. Holds reading.texts → EveryText P reading.tree)
       (λ levels class at reader why each. tt)
       (λ levels class at own is below each.
       let inner = read_parts (read levels bytes) (parts_due class own) own.end in
       let mine : Holds (texts_of bytes own) = λ text member. each text (Memᴰ.append_left inner.texts member) in
       let items = trivia_texts bytes own.trivia own.trivia_count in (
-        trivia-texts bytes own.trivia own.trivia_count (λ text member. mine text (Memᴰ.append_left _ member)),
-        built-texts own.kind _ inner.trees (mine _ (Memᴰ.append_right items (Memᴰ.head refl)))
-            (parts-texts (read levels bytes) below (parts_due class own) own.end (λ text member. each text (Memᴰ.append_right (texts_of bytes own) member))),
+        trivia_texts_lem bytes own.trivia own.trivia_count (λ text member. mine text (Memᴰ.append_left _ member)),
+        built_texts own.kind _ inner.trees (mine _ (Memᴰ.append_right items (Memᴰ.head refl)))
+            (parts_texts (read levels bytes) below (parts_due class own) own.end (λ text member. each text (Memᴰ.append_right (texts_of bytes own) member))),
       ))
       levels

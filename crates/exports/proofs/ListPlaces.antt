@@ -37,24 +37,24 @@ module _ (list : List ℕ) where
   end_rest at rest further inside (Found chunk) laid = further chunk.end laid.inside
   end_rest at rest further inside NoChunk laid = inside
 
-  end-within : (n at : ℕ) → at ≤ length list → end_from at (chunks_from n list at) ≤ length list
+  end_within : (n at : ℕ) → at ≤ length list → end_from at (chunks_from n list at) ≤ length list
   unfolding chunks_from end_from
-  end-within zero at inside = inside
-  end-within (suc n) at inside = end_rest at (chunks_from n list) (end-within n) inside (chunk_at list at) (chunk_laid list at)
+  end_within zero at inside = inside
+  end_within (suc n) at inside = end_rest at (chunks_from n list) (end_within n) inside (chunk_at list at) (chunk_laid list at)
 
   -- and so do their texts
-  texts-rest : (at : ℕ) (rest : ℕ → List StoredChunk) → ((end : ℕ) → Within (length list) (texts_checked list (rest end)))
+  texts_rest : (at : ℕ) (rest : ℕ → List StoredChunk) → ((end : ℕ) → Within (length list) (texts_checked list (rest end)))
       → (found : ChunkAt) → LaidAs list at found → Within (length list) (texts_checked list (rest_on rest found))
   unfolding texts_checked
-  texts-rest at rest further (Found chunk) laid =
+  texts_rest at rest further (Found chunk) laid =
       cond_both (Within (length list)) (accepted_text (slice chunk.start chunk.end list)) _ _ (λ fine. further chunk.end)
       (λ bad. omega (arith, fault_some _ bad, length-slice chunk.start chunk.end list laid.inside, laid.some, laid.inside))
-  texts-rest at rest further NoChunk laid = tt
+  texts_rest at rest further NoChunk laid = tt
 
-  texts-within : (n at : ℕ) → Within (length list) (texts_checked list (chunks_from n list at))
+  texts_within : (n at : ℕ) → Within (length list) (texts_checked list (chunks_from n list at))
   unfolding chunks_from texts_checked
-  texts-within zero at = tt
-  texts-within (suc n) at = texts-rest at (chunks_from n list) (texts-within n) (chunk_at list at) (chunk_laid list at)
+  texts_within zero at = tt
+  texts_within (suc n) at = texts_rest at (chunks_from n list) (texts_within n) (chunk_at list at) (chunk_laid list at)
 
 pub list_within : (list : List ℕ) → Within 1048576 (chunks_checked list)
 unfolding chunks_checked layout_checked stored_chunks
@@ -63,9 +63,9 @@ list_within list =
     cond_both judged (ltb 1048576 (length list)) _ _ (λ long. omega arith)
     (λ fits.
     let short : length list ≤ 1048576 = ltb-false 1048576 (length list) fits in
-    let end = end-within list (length list) 0 (omega arith) in
+    let end = end_within list (length list) 0 (omega arith) in
     cond_both judged (eqb (end_from 0 (chunks_from (length list) list 0)) (length list)) _ _
-    (λ whole. wider (length list) 1048576 short (texts_checked list (chunks_from (length list) list 0)) (texts-within list (length list) 0)) (λ bad. omega (arith, end)))
+    (λ whole. wider (length list) 1048576 short (texts_checked list (chunks_from (length list) list 0)) (texts_within list (length list) 0)) (λ bad. omega (arith, end)))
 
 -- ---- options
 

@@ -22,7 +22,7 @@ use Rattle.chunks.proofs.Forms.{chunk_length, indent_length}
 use Rattle.printing.specs.Events.{Events}
 use Rattle.printing.specs.Holding.{Held, held, refused, held_length, hold_chunk, without_newlines, hold, Storable}
 use Rattle.printing.proofs.Stops.{Free, none, pushes, spaces, clears, trims, ◌and◌}
-use Rattle.events.proofs.Storable.{file-storable}
+use Rattle.events.proofs.Storable.{file_storable}
 use Rattle.tree.specs.Checking.{batch_checked}
 use Rattle.tree.proofs.Limits.{length_passed}
 use Rattle.tree.proofs.Readings.{file_passed}
@@ -79,16 +79,16 @@ events_within room (one and others) storable state within = events_within room o
 -- ---- of a tree
 
 module _ (tree : List ℕ) (size : ℕ) (options : FormattingOptions) (narrow : options.whitespace.indent ≤ 64) where
-  walked-within : (checked : Checked) → batch_checked tree ≡ checked → Within 65535 checked
+  walked_within : (checked : Checked) → batch_checked tree ≡ checked → Within 65535 checked
       → HeldWithin (held_unless checked (hold size (file_events options tree) (held [] false)))
   unfolding held_length
-  walked-within Passed passed within =
+  walked_within Passed passed within =
       let short = length_passed 65535 tree (file_passed 65535 64 tree passed).size in
-      events_within size (file_free tree options passed) (file-storable 64 tree short options (omega arith) narrow) (held [] false) (omega arith)
-  walked-within (Failed why) is within = omega (arith, within)
+      events_within size (file_free tree options passed) (file_storable 64 tree short options (omega arith) narrow) (held [] false) (omega arith)
+  walked_within (Failed why) is within = omega (arith, within)
 
 read_within : (tree : List ℕ) (size : ℕ) (found : OptionsRead) → ReadWithin found → HeldWithin (held_with found tree size)
-read_within tree size (Options options) narrow = walked-within tree size options narrow (batch_checked tree) refl (tree_within tree)
+read_within tree size (Options options) narrow = walked_within tree size options narrow (batch_checked tree) refl (tree_within tree)
 read_within tree size (Refused why) within = omega (arith, within)
 
 pub held_within : (tree options : List ℕ) (size : ℕ) → HeldWithin (chunks_held tree options size)

@@ -17,7 +17,7 @@ use Rattle.text.proofs.Choices.{cond_both}
 use Rattle.chunks.specs.Stored.{Chunk, stored_list}
 use Rattle.chunks.specs.Reading.{chunks_of}
 use Rattle.chunks.specs.Judging.{chunks_checked}
-use Rattle.chunks.proofs.Judging.{passed-short}
+use Rattle.chunks.proofs.Judging.{passed_short}
 use Rattle.columns.specs.Setting.{margins_of, text_of, unless_failed, outcome_on, join_outcome}
 use Rattle.columns.specs.Promise.{Promised}
 use Rattle.tree.specs.Checking.{read_file, batch_checked}
@@ -48,7 +48,7 @@ checked_small Passed within = omega arith
 checked_small (Failed why) within = omega (arith, within)
 
 held_small : (found : Held) (room : List ℕ) → HeldWithin found → RoomHolds found room → Small (chunks_answer found)
-held_small (held chunks pending) room within holds = omega (arith, passed-short (stored_list (reverse chunks)) holds.1.checked)
+held_small (held chunks pending) room within holds = omega (arith, passed_short (stored_list (reverse chunks)) holds.1.checked)
 held_small (refused why) room within holds = omega (arith, within)
 
 format_small : (tree : List ℕ) (found : OptionsRead) (chunks : Held) (room : ℕ) → ReadWithin found → HeldWithin chunks

@@ -36,7 +36,7 @@ use Rattle.tree.specs.declared.own.Span.TheVariants.{Behind, Broken}
 use Rattle.tree.specs.declared.own.TriviaSpan.{TriviaSpan}
 use Rattle.tree.specs.declared.own.TriviaRead.{TriviaRead}
 use Rattle.tree.specs.declared.own.TriviaRead.TheVariants.{Trivia, BrokenTrivia}
-use Rattle.tree.proofs.Bounds.{Inside, texts-inside}
+use Rattle.tree.proofs.Bounds.{Inside, texts_inside}
 use Rattle.exports.proofs.Within.{Within, both_within, wider}
 
 -- a record whose own bytes were refused
@@ -52,42 +52,42 @@ module _ (bytes : List ℕ) where
     list_within kind map trivia (Read count) = tt
     list_within kind map trivia Missing = inside
 
-    leaf-within : (kind : Kind) (map : ℕ) (trivia : TriviaSpan) (span : Span) → OwnWithin (length bytes) (leaf_on at kind map trivia span)
-    leaf-within kind map trivia (Behind end) = tt
-    leaf-within kind map trivia Broken = inside
+    leaf_within : (kind : Kind) (map : ℕ) (trivia : TriviaSpan) (span : Span) → OwnWithin (length bytes) (leaf_on at kind map trivia span)
+    leaf_within kind map trivia (Behind end) = tt
+    leaf_within kind map trivia Broken = inside
 
-    rest-within : (text : TextRule) (number : ℕ) (kind : Kind) (map : ℕ) (trivia : TriviaSpan) → OwnWithin (length bytes) (rest_of bytes at text number kind map trivia)
+    rest_within : (text : TextRule) (number : ℕ) (kind : Kind) (map : ℕ) (trivia : TriviaSpan) → OwnWithin (length bytes) (rest_of bytes at text number kind map trivia)
     unfolding rest_of
-    rest-within text number kind map trivia =
+    rest_within text number kind map trivia =
         cond_both (OwnWithin (length bytes)) (eqb number 24) _ _ (λ list. list_within kind map trivia (read_number bytes trivia.end))
         (λ other.
         cond_both (OwnWithin (length bytes)) ((eqb number 25 || eqb number 26) && leb 2 map) _ _
-        (λ some. leaf-within kind map trivia (text_end bytes trivia.end text)) (λ none. tt))
+        (λ some. leaf_within kind map trivia (text_end bytes trivia.end text)) (λ none. tt))
 
-    trivia-within : (given : Rule) (number : ℕ) (kind : Kind) (map : ℕ) (trivia : TriviaRead)
+    trivia_within : (given : Rule) (number : ℕ) (kind : Kind) (map : ℕ) (trivia : TriviaRead)
         → OwnWithin (length bytes) (trivia_of_record bytes at given number kind map trivia)
-    trivia-within given number kind map (Trivia trivia) = rest-within given.text number kind map trivia
-    trivia-within given number kind map BrokenTrivia = inside
+    trivia_within given number kind map (Trivia trivia) = rest_within given.text number kind map trivia
+    trivia_within given number kind map BrokenTrivia = inside
 
-    map-within : (given : Rule) (number : ℕ) (kind : KindRead) → OwnWithin (length bytes) (map_of_record bytes at given number kind)
-    map-within given number Unknown = inside
-    map-within given number (Known kind) =
+    map_within : (given : Rule) (number : ℕ) (kind : KindRead) → OwnWithin (length bytes) (map_of_record bytes at given number kind)
+    map_within given number Unknown = inside
+    map_within given number (Known kind) =
         cond_both (OwnWithin (length bytes)) (ltb (length bytes) (at + 2)) _ _ (λ short. inside)
         (λ long.
         let map = get_or bytes (at + 1) 0 in
         cond_both (OwnWithin (length bytes)) (map_fits given number kind map) _ _
-        (λ fits. trivia-within given number kind map (trivia_read bytes (at + 2) (map % 2))) (λ other. inside))
+        (λ fits. trivia_within given number kind map (trivia_read bytes (at + 2) (map % 2))) (λ other. inside))
 
-  own-within : (at : ℕ) (class : Class) (levels : ℕ) → OwnWithin (length bytes) (read_own bytes at class levels)
+  own_within : (at : ℕ) (class : Class) (levels : ℕ) → OwnWithin (length bytes) (read_own bytes at class levels)
   unfolding read_own own_at
-  own-within at class levels =
+  own_within at class levels =
       cond_both (OwnWithin (length bytes)) (leb (length bytes) at) _ _ (λ past. omega arith)
       (λ here.
       let inside : at ≤ length bytes = omega (arith, leb-false (length bytes) at here) in
       cond_both (OwnWithin (length bytes)) (eqb levels 0) _ _ (λ deep. inside)
       (λ left.
       let number = get_or bytes at 0 in
-      cond_both (OwnWithin (length bytes)) (may_stand (rule class) number) _ _ (λ may. map-within at inside (rule class) number (kind_of number)) (λ other. inside)))
+      cond_both (OwnWithin (length bytes)) (may_stand (rule class) number) _ _ (λ may. map_within at inside (rule class) number (kind_of number)) (λ other. inside)))
 
   -- ---- so with a whole record
 
@@ -100,35 +100,35 @@ module _ (bytes : List ℕ) where
       both_within (length bytes) (reader class at).checked (read_parts reader parts (reader class at).end).checked
       (below class at) (parts_within reader below parts (reader class at).end)
 
-  record-within : (reader : Reader) → ((class : Class) (at : ℕ) → Within (length bytes) (reader class at).checked)
+  record_within : (reader : Reader) → ((class : Class) (at : ℕ) → Within (length bytes) (reader class at).checked)
       → (class : Class) (at : ℕ) (own : OwnRead) → OwnWithin (length bytes) own → Within (length bytes) (read_on reader bytes class at own).checked
-  record-within reader below class at (Record own) within = parts_within reader below (parts_due class own) own.end
-  record-within reader below class at (Refused why) within = within
+  record_within reader below class at (Record own) within = parts_within reader below (parts_due class own) own.end
+  record_within reader below class at (Refused why) within = within
 
   read_within : (levels : ℕ) (class : Class) (at : ℕ) → Within (length bytes) (read levels bytes class at).checked
   unfolding read
-  read_within zero class at = record-within unread (λ class at. tt) class at (read_own bytes at class zero) (own-within at class zero)
-  read_within (suc levels) class at = record-within (read levels bytes) (read_within levels) class at (read_own bytes at class (suc levels)) (own-within at class (suc levels))
+  read_within zero class at = record_within unread (λ class at. tt) class at (read_own bytes at class zero) (own_within at class zero)
+  read_within (suc levels) class at = record_within (read levels bytes) (read_within levels) class at (read_own bytes at class (suc levels)) (own_within at class (suc levels))
 
   -- ---- the end, and the texts
 
-  end-within : (end : ℕ) → Within (length bytes) (end_checked bytes end)
-  end-within end = cond_both (Within (length bytes)) (ltb end (length bytes)) _ _ (λ more. omega (arith, ltb-true end (length bytes) more)) (λ all. tt)
+  end_within : (end : ℕ) → Within (length bytes) (end_checked bytes end)
+  end_within end = cond_both (Within (length bytes)) (ltb end (length bytes)) _ _ (λ more. omega (arith, ltb-true end (length bytes) more)) (λ all. tt)
 
-  texts-within : (texts : List Placed) → ((text : Placed) → Memᴰ text texts → Inside bytes text) → Within (length bytes) (texts_checked texts)
+  texts_within : (texts : List Placed) → ((text : Placed) → Memᴰ text texts → Inside bytes text) → Within (length bytes) (texts_checked texts)
   unfolding texts_checked
-  texts-within [] inside = tt
-  texts-within (text ∷ texts) inside =
+  texts_within [] inside = tt
+  texts_within (text ∷ texts) inside =
       cond_both (Within (length bytes)) (accepted_text text.bytes) _ _
-      (λ fine. texts-within texts (λ other member. inside other (Memᴰ.tail member)))
+      (λ fine. texts_within texts (λ other member. inside other (Memᴰ.tail member)))
       (λ bad.
       let fault = fault_some text.bytes bad in
       omega (arith, fault, inside text (Memᴰ.head refl) (omega (arith, fault))))
 
   -- ---- a file, whose length is judged first
 
-  length-within : (rest : Checked) → (length bytes ≤ 65535 → Within 65535 rest) → Within 65535 (and_then (length_checked 65535 bytes) rest)
-  length-within rest further =
+  length_within : (rest : Checked) → (length bytes ≤ 65535 → Within 65535 rest) → Within 65535 (and_then (length_checked 65535 bytes) rest)
+  length_within rest further =
       cond_both (λ (first : Checked). Within 65535 (and_then first rest)) (eqb (length bytes) 0) _ _ (λ empty. omega arith)
       (λ some. cond_both (λ (first : Checked). Within 65535 (and_then first rest)) (ltb 65535 (length bytes)) _ _ (λ long. omega arith)
       (λ short. further (ltb-false 65535 (length bytes) short)))
@@ -139,8 +139,8 @@ tree_within bytes =
     let file : Reading = read_file 64 bytes in
     let texts = texts_checked file.texts in
     let behind = and_then (end_checked bytes file.end) texts in
-    length-within bytes (and_then file.checked behind)
+    length_within bytes (and_then file.checked behind)
     (λ short.
     wider (length bytes) 65535 short (and_then file.checked behind)
     (both_within (length bytes) file.checked behind (read_within bytes 64 Tokens 0)
-    (both_within (length bytes) (end_checked bytes file.end) texts (end-within bytes file.end) (texts-within bytes file.texts (texts-inside bytes 64 Tokens 0)))))
+    (both_within (length bytes) (end_checked bytes file.end) texts (end_within bytes file.end) (texts_within bytes file.texts (texts_inside bytes 64 Tokens 0)))))

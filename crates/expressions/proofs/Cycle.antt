@@ -42,8 +42,8 @@ use Rattle.leaves.specs.Lists.{item_trees, items_end}
 use Rattle.leaves.specs.Records.{field_trees, fields_end, Opens}
 use Rattle.leaves.specs.declared.record.Opened.{Opened}
 use Rattle.leaves.specs.declared.record.Opened.TheVariants as opened-is
-use Rattle.leaves.proofs.Fielded.{opened-range, opened-by-number}
-use Rattle.leaves.proofs.Records.{read-refused, read_record}
+use Rattle.leaves.proofs.Fielded.{opened_range, opened_by_number}
+use Rattle.leaves.proofs.Records.{read_refused, read_record}
 use Rattle.expressions.proofs.Stands.{field_stands}
 use Rattle.expressions.specs.Expressions.{expression_class, list_class, item_class, value_class, list_place, tag_events, tags_end}
 use Rattle.expressions.specs.declared.expression.Arguments.{Arguments}
@@ -223,26 +223,26 @@ module _ {context : Context} {shown : Bool} {levels : ℕ} {bytes : List ℕ} {o
     {state : CodeFormatter}
   where
     -- of the expressions, where it is no binary one
-    pub factor-is : (located : Bool) → Opens opened left last room context shown levels bytes (expression_class located) on → opened ≡ opened-is.Record own state
+    pub factor_is : (located : Bool) → Opens opened left last room context shown levels bytes (expression_class located) on → opened ≡ opened-is.Record own state
         → OneOf (0 ∷ not_binary) (tag_of kinds.the_type own.kind) → own.kind ≡ variant.Factor
-    factor-is located opens is others =
-        let number = factor_left located (kind_number own.kind) (opened-range opens is (expression_rule located)) (arm_number 0 not_binary own.kind others) in
-        opened-by-number opens is 29 variant.Factor number refl
+    factor_is located opens is others =
+        let number = factor_left located (kind_number own.kind) (opened_range opens is (expression_rule located)) (arm_number 0 not_binary own.kind others) in
+        opened_by_number opens is 29 variant.Factor number refl
 
     -- of the factor's cases, where it is none of those with an arm
-    pub counter-is : Opens opened left last room context shown levels bytes class.LocatedFactor on → opened ≡ opened-is.Record own state
+    pub counter_is : Opens opened left last room context shown levels bytes class.LocatedFactor on → opened ≡ opened-is.Record own state
         → OneOf (0 ∷ not_factor_case) (tag_of kinds.the_type own.kind) → own.kind ≡ variant.CurrentProgramCounter
-    counter-is opens is others =
-        let range = opened-range opens is refl in
+    counter_is opens is others =
+        let range = opened_range opens is refl in
         let number = counter_number (kind_number own.kind) range.0 range.1 (arm_number 0 not_factor_case own.kind others) in
-        opened-by-number opens is 30 variant.CurrentProgramCounter number refl
+        opened_by_number opens is 30 variant.CurrentProgramCounter number refl
 
     -- of arguments, where it is no star
-    pub list-is : (of : Arguments) → Opens opened left last room context shown levels bytes (list_class of) on → opened ≡ opened-is.Record own state
+    pub list_is : (of : Arguments) → Opens opened left last room context shown levels bytes (list_class of) on → opened ≡ opened-is.Record own state
         → OneOf (0 ∷ not_star) (tag_of kinds.the_type own.kind) → own.kind ≡ variant.Vec
-    list-is of opens is others =
+    list_is of opens is others =
         let number = list_number of (kind_number own.kind) (opened_standing opens is) (arm_number 0 not_star own.kind others) in
-        opened-by-number opens is 24 variant.Vec number refl
+        opened_by_number opens is 24 variant.Vec number refl
 
 -- the items of such a list
 pub list_items : (of : Arguments) → (rule (list_class of)).items ≡ ListOf (item_class of)
@@ -266,25 +266,25 @@ or_second false b e = refl
 
 module _ (context : Context) (levels : ℕ) (bytes : List ℕ) (bits at : ℕ) {answer : Printed} {left : List ℕ} {before : Run} where
   -- a factor without signs
-  pub unsigned-shown : (bit_at 1 bits || bit_at 2 bits) ≡ false
+  pub unsigned_shown : (bit_at 1 bits || bit_at 2 bits) ≡ false
       → Shown answer left (events_in context (leaf plain) true (read levels bytes class.LocatedFactor at).tree) before (read levels bytes class.LocatedFactor at).end
       → Shown answer left
       (events_in context (leaf plain) true (built variant.Factor [] (field_trees (read levels bytes) (fields variant.Factor class.LocatedExpression) bits at))) before
       (fields_end (read levels bytes) (fields variant.Factor class.LocatedExpression) bits at)
   unfolding built field_trees fields_end events_in bit_at run view
-  unsigned-shown none shown =
+  unsigned_shown none shown =
       let both = neither (eqb ((bits / 2) % 2) 1) (eqb (((bits / 2) / 2) % 2) 1) none in
       rw (both.0, both.1) (alike (λ x. refl) shown)
 
   -- a factor with signs: it is skipped, and printed behind them
-  pub signed-shown : {end : ℕ} → end ≡ tags_end bits (read levels bytes) at → (bit_at 1 bits || bit_at 2 bits) ≡ true
+  pub signed_shown : {end : ℕ} → end ≡ tags_end bits (read levels bytes) at → (bit_at 1 bits || bit_at 2 bits) ≡ true
       → Shown answer left
       (tag_events context bits (read levels bytes) at ▹ nothing ▹ events_in context (leaf plain) true (read levels bytes class.LocatedFactor at).tree ▹ nothing) before end
       → Shown answer left
       (events_in context (leaf plain) true (built variant.Factor [] (field_trees (read levels bytes) (fields variant.Factor class.LocatedExpression) bits at))) before
       (fields_end (read levels bytes) (fields variant.Factor class.LocatedExpression) bits at)
   unfolding built field_trees fields_end events_in bit_at run
-  signed-shown ended some shown =
+  signed_shown ended some shown =
       let first = eqb ((bits / 2) % 2) 1 in
       let second = eqb (((bits / 2) / 2) % 2) 1 in
       let one : (first || second) ≡ true = some in
@@ -294,7 +294,7 @@ module _ (context : Context) (levels : ℕ) (bytes : List ℕ) (bits at : ℕ) {
       (alike (λ x. refl) (rw ended at shown))
 
   -- an operator, which is stored before its left side and printed behind it
-  pub binary-shown : {rhs : ℕ} → rhs ≡ (read levels bytes class.LocatedExpression (read levels bytes class.BinaryOp at).end).end
+  pub binary_shown : {rhs : ℕ} → rhs ≡ (read levels bytes class.LocatedExpression (read levels bytes class.BinaryOp at).end).end
       → Shown answer left
       (skipping (read levels bytes class.BinaryOp at).tree
       ▹ events_in context (leaf plain) true (read levels bytes class.LocatedExpression (read levels bytes class.BinaryOp at).end).tree
@@ -305,7 +305,7 @@ module _ (context : Context) (levels : ℕ) (bytes : List ℕ) (bits at : ℕ) {
       (events_in context (leaf plain) true (built variant.BinaryExpression [] (field_trees (read levels bytes) (fields variant.BinaryExpression class.LocatedExpression) bits at)))
       before (fields_end (read levels bytes) (fields variant.BinaryExpression class.LocatedExpression) bits at)
   unfolding built field_trees fields_end events_in run
-  binary-shown ended shown = alike (λ x. refl) (rw ended at shown)
+  binary_shown ended shown = alike (λ x. refl) (rw ended at shown)
 
 -- ---- a list, item by item
 

@@ -37,7 +37,7 @@ use Rattle.leaves.specs.Records.{Opens}
 use Rattle.leaves.specs.declared.record.Opened.{Opened}
 use Rattle.leaves.specs.declared.record.Opened.TheVariants as opened-is
 use Rattle.leaves.proofs.Records.{read_record}
-use Rattle.leaves.proofs.Fielded.{opened-range, opened-by-number}
+use Rattle.leaves.proofs.Fielded.{opened_range, opened_by_number}
 
 -- ---- a list
 
@@ -51,7 +51,7 @@ opened_items {context} {shown} {levels} {bytes} {stands} {left} {room} {last} {o
     let headed = (record_headed bytes there.0 class.StringItems levels own (own-opens.from there.0 there.1).1).1 in
     let number = kind_number_lem (get_or bytes there.0 0) own.kind headed.kind_is in
     by_test (eqb (get_or bytes there.0 0) 24)
-    (λ list. opened-by-number opens is 24 variant.Vec (number ∙ eqb-true _ _ list) refl)
+    (λ list. opened_by_number opens is 24 variant.Vec (number ∙ eqb-true _ _ list) refl)
     (λ other.
     let within : (leb 24 (get_or bytes there.0 0) && leb (get_or bytes there.0 0) 24) ≡ true = rw other at headed.standing in
     let low = leb-true 24 (get_or bytes there.0 0) (and_true_left (leb 24 (get_or bytes there.0 0)) (leb (get_or bytes there.0 0) 24) within) in
@@ -75,16 +75,16 @@ module _ {context : Context} {shown : Bool} {levels : ℕ} {bytes : List ℕ} {s
     (opens : Opens opened left last room context shown levels bytes class.StringItem stands) {own : Own} {state : CodeFormatter} (is : opened ≡ opened-is.Record own state)
   where
     -- so an item that is no path is a text
-    pub text-item : OneOf others (tag_of the_type own.kind) → own.kind ≡ variant.Leaf
+    pub text_item : OneOf others (tag_of the_type own.kind) → own.kind ≡ variant.Leaf
     unfolding kind_number stored_with
-    text-item found =
-        let range = opened-range opens is refl in
+    text_item found =
+        let range = opened_range opens is refl in
         by_test (eqb (kind_number own.kind) 26)
-        (λ path. absurd (no_path own.kind found (opened-by-number opens is 26 variant.PathItem (eqb-true _ _ path) refl)))
+        (λ path. absurd (no_path own.kind found (opened_by_number opens is 26 variant.PathItem (eqb-true _ _ path) refl)))
         (λ other.
         let differs : kind_number own.kind ≡ 26 → ⊥ = eqb-false (kind_number own.kind) 26 other in
         let number : kind_number own.kind ≡ 25 = omega (arith, range.0, range.1, differs) in
-        opened-by-number opens is 25 variant.Leaf number refl)
+        opened_by_number opens is 25 variant.Leaf number refl)
 
 module _ (bytes : List ℕ) (levels : ℕ) (own : Own) where
   -- a text is read as one
@@ -94,10 +94,10 @@ module _ (bytes : List ℕ) (levels : ℕ) (own : Own) where
   text_read kind at is = rw ((read_record bytes class.StringItem at levels own is).1, kind) (refl, refl)
 
   -- and a path
-  pub path-read : own.kind ≡ variant.PathItem → (at : ℕ) → read_own bytes at class.StringItem levels ≡ own_is.Record own
+  pub path_read : own.kind ≡ variant.PathItem → (at : ℕ) → read_own bytes at class.StringItem levels ≡ own_is.Record own
       → ((read levels bytes class.StringItem at).tree ≡ node at (trivia_of bytes own) (PathItem (slice own.text own.end bytes))) × ((read levels bytes class.StringItem at).end ≡ own.end)
   unfolding parts_due fields_due read_parts built
-  path-read kind at is = rw ((read_record bytes class.StringItem at levels own is).1, kind) (refl, refl)
+  path_read kind at is = rw ((read_record bytes class.StringItem at levels own is).1, kind) (refl, refl)
 
 -- ---- items
 

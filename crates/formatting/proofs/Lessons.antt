@@ -1,5 +1,5 @@
 -- The tree call comes to what its definition says, and keeps demand 3: by the walk's promise and the column setter's alone.
---   refused-lesson : a tree that the walk refuses; joined-lesson : one whose chunks the setter joins
+--   refused_lesson : a tree that the walk refuses; joined_lesson : one whose chunks the setter joins
 use mathlib.Core.Path.{◌≡◌, refl, sym, ap, ◌∙◌}
 use mathlib.Core.List.{List, [], reverse}
 use mathlib.Core.Bool.{Bool, false}
@@ -24,7 +24,7 @@ use Rattle.tree.proofs.Readings.{file_passed}
 use Rattle.printing.specs.Holding.{Held, held, refused, hold, held_texts}
 use Rattle.printing.proofs.Held.{hold_ink}
 use Rattle.events.specs.Accepted.{Acceptable}
-use Rattle.reading.proofs.Files.{file-ink, file-ink-eight}
+use Rattle.reading.proofs.Files.{file_ink, file_ink_eight}
 use Rattle.columns.specs.Setting.{margins_of, text_of, join_outcome}
 use Rattle.columns.specs.Promise.{Promised, Faithful}
 use Rattle.tokens.specs.Chunks.{file_events, held_unless, chunks_held, chunks_answer, RoomHolds}
@@ -48,14 +48,14 @@ module _ (tree options : List ℕ) (size : ℕ) where
   refused_as why (Refused reason) is e = let same : refused reason ≡ refused why = rw is at e in let one : reason ≡ why = cc in rw (is, one) refl
 
   -- what is held of it
-  refused-by : (why : Refusal) (found : Held) → answer.Refused why ≡ chunks_answer found → found ≡ refused why
-  refused-by why (held chunks pending) e = accepted_refused (sym e)
-  refused-by why (refused reason) e = let one : why ≡ reason = cc in ap refused (sym one)
+  refused_by : (why : Refusal) (found : Held) → answer.Refused why ≡ chunks_answer found → found ≡ refused why
+  refused_by why (held chunks pending) e = accepted_refused (sym e)
+  refused_by why (refused reason) e = let one : why ≡ reason = cc in ap refused (sym one)
 
   -- there is nothing to promise of a refusal
-  no-lesson : (why : Refusal) (found : OptionsRead) → LessonUnder tree found (refusal why)
-  no-lesson why (Options chosen) = tt
-  no-lesson why (Refused reason) = tt
+  no_lesson : (why : Refusal) (found : OptionsRead) → LessonUnder tree found (refusal why)
+  no_lesson why (Options chosen) = tt
+  no_lesson why (Refused reason) = tt
 
   -- what is promised of the call, under the name of its answer and of the buffer afterwards
   pub record Formats (said : Answer) (before after : List ℕ) : Type 0 where
@@ -64,11 +64,11 @@ module _ (tree options : List ℕ) (size : ℕ) where
     pub lesson : Lesson tree options (formatted tree options size)
 
   -- a refusal is handed on, and the buffer is as before
-  pub refused-lesson : {said : Answer} {why : Refusal} {before : List ℕ} → said ≡ chunks_answer (chunks_held tree options size) → said ≡ answer.Refused why
+  pub refused_lesson : {said : Answer} {why : Refusal} {before : List ℕ} → said ≡ chunks_answer (chunks_held tree options size) → said ≡ answer.Refused why
       → Formats said before before
-  refused-lesson {said} {why} says is =
-      let known = refused_as why _ refl (refused-by why _ (sym is ∙ says)) in
-      record { answered = rw (known, is) refl; buffer = rw known refl; lesson = rw known (no-lesson why (read_options options)) }
+  refused_lesson {said} {why} says is =
+      let known = refused_as why _ refl (refused_by why _ (sym is ∙ says)) in
+      record { answered = rw (known, is) refl; buffer = rw known refl; lesson = rw known (no_lesson why (read_options options)) }
 
   -- ---- a walk that was accepted
 
@@ -86,20 +86,20 @@ module _ (tree options : List ℕ) (size : ℕ) where
     acceptable : Acceptable (reverse chunks)
 
   -- the check passed
-  held-passed : (found : Checked) (those : Held) {chunks : List Chunk} {pending : Bool} → held_unless found those ≡ held chunks pending
+  held_passed : (found : Checked) (those : Held) {chunks : List Chunk} {pending : Bool} → held_unless found those ≡ held chunks pending
       → (found ≡ Passed) × (those ≡ held chunks pending)
-  held-passed Passed those e = (refl, e)
-  held-passed (Failed why) those e = refused_held e
+  held_passed Passed those e = (refl, e)
+  held_passed (Failed why) those e = refused_held e
 
   module _ {used : ℕ} {left : List ℕ} where
     -- the options were read
-    walked-read : (found : OptionsRead) → read_options options ≡ found → (chunks : List Chunk) (pending : Bool) → chunks_held tree options size ≡ held chunks pending
+    walked_read : (found : OptionsRead) → read_options options ≡ found → (chunks : List Chunk) (pending : Bool) → chunks_held tree options size ≡ held chunks pending
         → answer.Accepted used ≡ answer.Accepted (length (stored_list (reverse chunks)))
         → (take (length (stored_list (reverse chunks))) left ≡ stored_list (reverse chunks)) × Acceptable (reverse chunks) → Walked used left
     unfolding chunks_held
-    walked-read (Refused reason) is chunks pending e counted room = refused_held (rw is at e)
-    walked-read (Options chosen) is chunks pending e counted room =
-        let known = held-passed (batch_checked tree) (hold size (file_events chosen tree) (held [] false)) (rw is at e) in
+    walked_read (Refused reason) is chunks pending e counted room = refused_held (rw is at e)
+    walked_read (Options chosen) is chunks pending e counted room =
+        let known = held_passed (batch_checked tree) (hold size (file_events chosen tree) (held [] false)) (rw is at e) in
         let count : used ≡ length (stored_list (reverse chunks)) = cc in
         record {
           chosen = chosen;
@@ -115,54 +115,54 @@ module _ (tree options : List ℕ) (size : ℕ) where
         }
 
     -- chunks are held
-    walked-held : (found : Held) → chunks_held tree options size ≡ found → answer.Accepted used ≡ chunks_answer found → RoomHolds found left → Walked used left
-    walked-held (held chunks pending) is says room = walked-read _ refl chunks pending is says room
-    walked-held (refused why) is says room = accepted_refused says
+    walked_held : (found : Held) → chunks_held tree options size ≡ found → answer.Accepted used ≡ chunks_answer found → RoomHolds found left → Walked used left
+    walked_held (held chunks pending) is says room = walked_read _ refl chunks pending is says room
+    walked_held (refused why) is says room = accepted_refused says
 
   module _ (left : List ℕ) {said : Answer} {used : ℕ} (says : said ≡ chunks_answer (chunks_held tree options size)) (is : said ≡ answer.Accepted used)
       (room : RoomHolds (chunks_held tree options size) left)
     where
       walked : Walked used left
-      walked = walked-held _ refl (sym is ∙ says) room
+      walked = walked_held _ refl (sym is ∙ says) room
 
       -- no more is used than the room has
-      pub used-fits : used ≤ length left
-      used-fits =
+      pub used_fits : used ≤ length left
+      used_fits =
           let counted : length (take used left) ≡ length (stored_list (reverse walked.chunks)) = ap length walked.part in
           omega (arith, length-take used left, walked.count)
 
       -- the setter comes to what the definition says
-      joins-to : join_outcome (take used left) options ≡ formatted tree options size
+      joins_to : join_outcome (take used left) options ≡ formatted tree options size
       unfolding join_outcome formatted
-      joins-to = rw (walked.part, walked.read, walked.acceptable.checked, walked.acceptable.restored, walked.whole) refl
+      joins_to = rw (walked.part, walked.read, walked.acceptable.checked, walked.acceptable.restored, walked.whole) refl
 
       -- the chunks that it reads are those that are held
-      same-chunks : chunks_of (take used left) ≡ reverse walked.chunks
-      same-chunks = rw walked.part walked.acceptable.restored
+      same_chunks : chunks_of (take used left) ≡ reverse walked.chunks
+      same_chunks = rw walked.part walked.acceptable.restored
 
       -- demand 3
-      lesson-kept : (bytes : List ℕ) → Faithful (reverse walked.chunks) bytes → Kept tree walked.chosen bytes
+      lesson_kept : (bytes : List ℕ) → Faithful (reverse walked.chunks) bytes → Kept tree walked.chosen bytes
       unfolding inks
-      lesson-kept bytes faithful =
+      lesson_kept bytes faithful =
           let file = file_passed 65535 64 tree walked.passed in
           let pushed = faithful.ink ∙ hold_ink size (file_events walked.chosen tree) [] false walked.holds in
           record {
-            inked = λ none. pushed ∙ file-ink-eight _ 64 tree file.layout none;
-            seven = λ none. pushed ∙ file-ink _ 64 tree file.layout none;
+            inked = λ none. pushed ∙ file_ink_eight _ 64 tree file.layout none;
+            seven = λ none. pushed ∙ file_ink _ 64 tree file.layout none;
             blanks = faithful.blanks;
             empties = faithful.empties;
             short = faithful.short;
           }
 
       -- so what the setter promises is what the call does
-      pub joined-lesson : {last : Answer} {before after : List ℕ} → last ≡ answer_in (join_outcome (take used left) options) (length before)
+      pub joined_lesson : {last : Answer} {before after : List ℕ} → last ≡ answer_in (join_outcome (take used left) options) (length before)
           → after ≡ buffer_after (join_outcome (take used left) options) before → Promised (chunks_of (take used left)) (join_outcome (take used left) options)
           → Formats last before after
       unfolding formatted
-      joined-lesson answered buffer promised =
-          let kept : Promised (reverse walked.chunks) (formatted tree options size) = rw (joins-to, same-chunks) at promised in
+      joined_lesson answered buffer promised =
+          let kept : Promised (reverse walked.chunks) (formatted tree options size) = rw (joins_to, same_chunks) at promised in
           record {
-            answered = rw (← joins-to) answered;
-            buffer = rw (← joins-to) buffer;
-            lesson = rw (walked.read, walked.whole) (lesson-kept _ (rw (walked.read, walked.whole) at kept));
+            answered = rw (← joins_to) answered;
+            buffer = rw (← joins_to) buffer;
+            lesson = rw (walked.read, walked.whole) (lesson_kept _ (rw (walked.read, walked.whole) at kept));
           }

@@ -33,27 +33,27 @@ standalone_ink margins bytes inked =
 
 module _ (n : ℕ) (bytes : List ℕ) (inked : all_blank bytes ≡ false) (blank : leb n (leading_blanks bytes) ≡ true) where
   -- behind a blank front the ink is still to come
-  behind-ink : all_blank (drop n bytes) ≡ false
-  behind-ink =
+  behind_ink : all_blank (drop n bytes) ≡ false
+  behind_ink =
       let whole = blank_append (take n bytes) (drop n bytes) in
       let front : all_blank (take n bytes) ≡ true = blank_front n bytes inked ∙ blank in
       sym (rw (take-append-drop n bytes, front, inked) at whole)
 
   -- trimming leaves the blank front, and what stands behind it trimmed
-  front-trim : trim_end bytes ≡ take n bytes ++ trim_end (drop n bytes)
-  front-trim = ap trim_end (sym (take-append-drop n bytes)) ∙ trim_append_ink (take n bytes) (drop n bytes) behind-ink
+  front_trim : trim_end bytes ≡ take n bytes ++ trim_end (drop n bytes)
+  front_trim = ap trim_end (sym (take-append-drop n bytes)) ∙ trim_append_ink (take n bytes) (drop n bytes) behind_ink
 
   -- the front is whole
   front_length : length (take n bytes) ≡ n
   front_length = length-take-le n bytes (omega (arith, leb-true n (leading_blanks bytes) blank, leading_lt bytes inked))
 
   -- so the ink ends behind the front
-  front-end : n ≤ ink_end bytes
-  front-end = omega (arith, front_length, ap length front-trim, length-append (take n bytes) (trim_end (drop n bytes)))
+  front_end_lem : n ≤ ink_end bytes
+  front_end_lem = omega (arith, front_length, ap length front_trim, length-append (take n bytes) (trim_end (drop n bytes)))
 
   -- what stands behind the front, trimmed, is the part up to the end of the ink
-  behind-trim : trim_end (drop n bytes) ≡ slice n (ink_end bytes) bytes
-  behind-trim = sym (ap (drop n) (sym (trim_take bytes) ∙ front-trim) ∙ drop_at (take n bytes) (trim_end (drop n bytes)) n front_length)
+  behind_trim : trim_end (drop n bytes) ≡ slice n (ink_end bytes) bytes
+  behind_trim = sym (ap (drop n) (sym (trim_take bytes) ∙ front_trim) ∙ drop_at (take n bytes) (trim_end (drop n bytes)) n front_length)
 
 -- ---- the three ways that a line is set
 
@@ -82,8 +82,8 @@ set_standalone margins line inked alone =
     let front : leb both (leading_blanks bytes) ≡ true = sym (standalone_ink margins bytes inked) ∙ alone in
     let lead : spaces indent ++ spaces margins.label ≡ spaces (indent + margins.label) = replicate-append-replicate {A = ℕ} indent margins.label 32 in
     rw (alone, ← append_assoc (spaces indent) (spaces margins.label) (drop both bytes), lead)
-    (trim_append_ink (spaces (indent + margins.label)) (drop both bytes) (behind-ink both bytes inked front)
-    ∙ ap (λ (rest : List ℕ). spaces (indent + margins.label) ++ rest) (behind-trim both bytes inked front))
+    (trim_append_ink (spaces (indent + margins.label)) (drop both bytes) (behind_ink both bytes inked front)
+    ∙ ap (λ (rest : List ℕ). spaces (indent + margins.label) ++ rest) (behind_trim both bytes inked front))
 
 -- ---- the cut
 
@@ -101,9 +101,9 @@ pub record CutSays (margins : Margins) (past : Past) (line : Line) (cut : Cut) :
 module _ (margins : Margins) (narrow : Narrow margins) (past : Past) (line : Line) (measure : Measure) (indent : ℕ)
     (inked-at : Inked measure line.bytes) (same : indent ≡ indent_of line.indent) (low : indent ≤ 4096) where
   -- of a line without ink
-  says-blank : all_blank line.bytes ≡ true → CutSays margins past line (record { kept = not (past.blank || past.standalone); standalone = false; lead = 0; low = 0; high = 0 })
+  says_blank : all_blank line.bytes ≡ true → CutSays margins past line (record { kept = not (past.blank || past.standalone); standalone = false; lead = 0; low = 0; high = 0 })
   unfolding keeps after standalone
-  says-blank blank = record {
+  says_blank blank = record {
     kept = rw blank;
     set = λ _. set_blank margins line blank;
     after = by_test (past.blank || past.standalone) (λ e. rw (blank, e)) (λ e. rw (blank, e));
@@ -111,10 +111,10 @@ module _ (margins : Margins) (narrow : Narrow margins) (past : Past) (line : Lin
   }
 
   -- of a standalone line
-  says-standalone : all_blank line.bytes ≡ false → standalone margins line.bytes ≡ true
+  says_standalone : all_blank line.bytes ≡ false → standalone margins line.bytes ≡ true
       → CutSays margins past line (record { kept = true; standalone = true; lead = indent + margins.label; low = margins.label + margins.code; high = measure.ink_end })
   unfolding keeps after
-  says-standalone inked alone =
+  says_standalone inked alone =
       let front : leb (margins.label + margins.code) (leading_blanks line.bytes) ≡ true = sym (standalone_ink margins line.bytes inked) ∙ alone in
       let some = ink_end_some line.bytes inked in
       let end = inked-at.end in
@@ -123,17 +123,17 @@ module _ (margins : Margins) (narrow : Narrow margins) (past : Past) (line : Lin
         set = λ _. rw (end, same) (set_standalone margins line inked alone);
         after = rw (inked, alone, ne_eqb measure.ink_end 0 (λ none. omega arith));
         fits = record {
-          part = omega (arith, front-end (margins.label + margins.code) line.bytes inked front);
+          part = omega (arith, front_end_lem (margins.label + margins.code) line.bytes inked front);
           within = omega arith;
           small = omega (arith, narrow.label);
         };
       }
 
   -- of any other line with ink
-  says-inked : all_blank line.bytes ≡ false → standalone margins line.bytes ≡ false
+  says_inked : all_blank line.bytes ≡ false → standalone margins line.bytes ≡ false
       → CutSays margins past line (record { kept = true; standalone = false; lead = indent; low = 0; high = measure.ink_end })
   unfolding keeps after
-  says-inked inked near =
+  says_inked inked near =
       let some = ink_end_some line.bytes inked in
       let end = inked-at.end in
       record {
@@ -144,14 +144,14 @@ module _ (margins : Margins) (narrow : Narrow margins) (past : Past) (line : Lin
       }
 
   -- the cut of a measured line says what becomes of the line
-  pub cut-says : CutSays margins past line (cut_of margins past measure indent)
-  cut-says =
+  pub cut_says : CutSays margins past line (cut_of margins past measure indent)
+  cut_says =
       let P = CutSays margins past line in
       let bytes = line.bytes in
       let both = margins.label + margins.code in
       cond_both P (eqb measure.ink_end 0) _ _
-      (λ none. says-blank (end_blank bytes (sym inked-at.end ∙ eqb-true measure.ink_end 0 none)))
+      (λ none. says_blank (end_blank bytes (sym inked-at.end ∙ eqb-true measure.ink_end 0 none)))
       (λ some.
       let inked = end_ink bytes (λ none. eqb-false measure.ink_end 0 some (inked-at.end ∙ none)) in
       let alone : standalone margins bytes ≡ leb both measure.leading = rw (inked-at.leading inked) (standalone_ink margins bytes inked) in
-      cond_both P (leb both measure.leading) _ _ (λ far. says-standalone inked (alone ∙ far)) (λ near. says-inked inked (alone ∙ near)))
+      cond_both P (leb both measure.leading) _ _ (λ far. says_standalone inked (alone ∙ far)) (λ near. says_inked inked (alone ∙ near)))

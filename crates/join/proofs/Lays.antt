@@ -39,41 +39,41 @@ padded text before behind few = record { ignored = refl; bytes = λ _. refl; sma
 
 module _ (margins : Margins) (narrow : Narrow margins) (n : ℕ) (text : List ℕ) where
   -- aligned in the label margin
-  aligned-lays : (alignment : Alignment) → Lays false (aligned alignment margins.label (text ++ spaces 1)) text (lay_aligned alignment (margins.label - (length text + 1)))
-  aligned-lays Left =
+  aligned_lays : (alignment : Alignment) → Lays false (aligned alignment margins.label (text ++ spaces 1)) text (lay_aligned alignment (margins.label - (length text + 1)))
+  aligned_lays Left =
       let pad = margins.label - (length text + 1) in
       rw (length-append text (spaces 1), append_assoc text (spaces 1) (spaces pad), replicate-append-replicate {A = ℕ} 1 pad 32) (padded text 0 (1 + pad) (omega arith))
-  aligned-lays Right = rw (length-append text (spaces 1)) (padded text (margins.label - (length text + 1)) 1 (omega arith))
+  aligned_lays Right = rw (length-append text (spaces 1)) (padded text (margins.label - (length text + 1)) 1 (omega arith))
 
   -- a label
-  label-lays : Lays false (labelled margins n text) text (lay_label margins n (length text))
-  label-lays =
+  label_lays : Lays false (labelled margins n text) text (lay_label margins n (length text))
+  label_lays =
       by_test (ltb margins.label n)
       (λ long. rw long (padded text 0 1 (omega arith)))
-      (λ short. rw short (aligned-lays margins.alignment))
+      (λ short. rw short (aligned_lays margins.alignment))
 
   -- code
-  code-lays : Lays (ignored_in Code margins n text) (coded margins n text) text (lay_code margins n (eqb (length text) 1 && has_newline text))
-  code-lays =
+  code_lays : Lays (ignored_in Code margins n text) (coded margins n text) text (lay_code margins n (eqb (length text) 1 && has_newline text))
+  code_lays =
       rw (← (newline_lone text))
       (by_test (ignored_in Code margins n text)
       (λ skipped. rw skipped (record { ignored = refl; bytes = λ kept. true_false kept; small = omega arith }))
       (λ kept. rw kept (rw append-nil at (padded text (margins.label - n) 0 (omega arith)))))
 
   -- a comment
-  comment-lays : (follows : Follows) → Lays false (commented margins n follows text) text (lay_comment margins n follows)
-  comment-lays Nothing = rw append-nil at (padded text (margins.label + margins.code - n) 0 (omega arith))
-  comment-lays Newline = rw append-nil at (padded text (margins.label + margins.code - n) 0 (omega arith))
-  comment-lays Other = padded text (margins.label - n) 1 (omega arith)
+  comment_lays : (follows : Follows) → Lays false (commented margins n follows text) text (lay_comment margins n follows)
+  comment_lays Nothing = rw append-nil at (padded text (margins.label + margins.code - n) 0 (omega arith))
+  comment_lays Newline = rw append-nil at (padded text (margins.label + margins.code - n) 0 (omega arith))
+  comment_lays Other = padded text (margins.label - n) 1 (omega arith)
 
 -- the lay of a piece is the lay of its text, by the type of its chunk
 pub piece_lays : (margins : Margins) → Narrow margins → (n : ℕ) (piece : Piece)
     → Lays (ignored margins n piece) (laid piece.ty margins n piece) piece.text (lay_of margins piece.ty n (length piece.text) (has_newline piece.text) piece.follows)
 unfolding ignored
-piece_lays margins narrow n piece = by-type piece.ty
+piece_lays margins narrow n piece = by_type piece.ty
   where
-    by-type : (ty : ChunkType)
+    by_type : (ty : ChunkType)
         → Lays (ignored_in ty margins n piece.text) (laid ty margins n piece) piece.text (lay_of margins ty n (length piece.text) (has_newline piece.text) piece.follows)
-    by-type Label = label-lays margins narrow n piece.text
-    by-type Code = code-lays margins narrow n piece.text
-    by-type Comment = comment-lays margins narrow n piece.text piece.follows
+    by_type Label = label_lays margins narrow n piece.text
+    by_type Code = code_lays margins narrow n piece.text
+    by_type Comment = comment_lays margins narrow n piece.text piece.follows

@@ -21,57 +21,57 @@ end_ink bytes f = by_test (all_blank bytes) (λ q. absurd (f (ink_end_zero bytes
 
 module _ {measure : Measure} {line : List ℕ} (known : Measured measure line) (bytes : List ℕ) where
   -- a line whose ink ends at 0 is blank
-  line-blank : measure.ink_end ≡ 0 → all_blank line ≡ true
-  line-blank none = end_blank line (sym known.end ∙ none)
+  line_blank : measure.ink_end ≡ 0 → all_blank line ≡ true
+  line_blank none = end_blank line (sym known.end ∙ none)
 
   -- any other has ink
-  line-ink : (measure.ink_end ≡ 0 → ⊥) → all_blank line ≡ false
-  line-ink some = end_ink line (λ e. some (known.end ∙ e))
+  line_ink : (measure.ink_end ≡ 0 → ⊥) → all_blank line ≡ false
+  line_ink some = end_ink line (λ e. some (known.end ∙ e))
 
   -- the length with the bytes
-  length-behind : {count : ℕ} → length bytes ≡ count → measure.length + count ≡ length (line ++ bytes)
-  length-behind many = omega (arith, known.length, length-append line bytes)
+  length_behind : {count : ℕ} → length bytes ≡ count → measure.length + count ≡ length (line ++ bytes)
+  length_behind many = omega (arith, known.length, length-append line bytes)
 
   -- with ink behind the line the ink ends where it ends there
-  end-behind : {end : ℕ} → all_blank bytes ≡ false → end ≡ ink_end bytes → measure.length + end ≡ ink_end (line ++ bytes)
-  end-behind ink e = rw (trim_append_ink line bytes ink) (omega (arith, known.length, length-append line (trim_end bytes)))
+  end_behind : {end : ℕ} → all_blank bytes ≡ false → end ≡ ink_end bytes → measure.length + end ≡ ink_end (line ++ bytes)
+  end_behind ink e = rw (trim_append_ink line bytes ink) (omega (arith, known.length, length-append line (trim_end bytes)))
 
   -- blanks behind blanks lead with them
-  pub blanks-behind-blanks : {count : ℕ} → measure.ink_end ≡ 0 → all_blank bytes ≡ true → length bytes ≡ count
+  pub blanks_behind_blanks : {count : ℕ} → measure.ink_end ≡ 0 → all_blank bytes ≡ true → length bytes ≡ count
       → Measured (record { length = measure.length + count; leading = measure.leading + count; ink_end = 0 }) (line ++ bytes)
-  blanks-behind-blanks none blank many =
-      let before = line-blank none in
+  blanks_behind_blanks none blank many =
+      let before = line_blank none in
       record {
-        length = length-behind many;
+        length = length_behind many;
         leading = omega (arith, known.leading, leading_append_blank line bytes before, leading_blank line before, leading_blank bytes blank);
         end = sym (ink_end_zero (line ++ bytes) (blank_append line bytes ∙ rw (before, blank)));
       }
 
   -- blanks behind ink change the length alone
-  pub blanks-behind-ink : {count : ℕ} → (measure.ink_end ≡ 0 → ⊥) → all_blank bytes ≡ true → length bytes ≡ count
+  pub blanks_behind_ink : {count : ℕ} → (measure.ink_end ≡ 0 → ⊥) → all_blank bytes ≡ true → length bytes ≡ count
       → Measured (record { length = measure.length + count; leading = measure.leading; ink_end = measure.ink_end }) (line ++ bytes)
-  blanks-behind-ink some blank many = record {
-    length = length-behind many;
-    leading = known.leading ∙ sym (leading_append_ink line bytes (line-ink some));
+  blanks_behind_ink some blank many = record {
+    length = length_behind many;
+    leading = known.leading ∙ sym (leading_append_ink line bytes (line_ink some));
     end = known.end ∙ sym (ap length (trim_append_blank line bytes blank));
   }
 
   -- ink behind blanks: its own blanks lead with them, and its ink is the first
-  pub ink-behind-blanks : {leading end : ℕ} → measure.ink_end ≡ 0 → all_blank bytes ≡ false → leading ≡ leading_blanks bytes → end ≡ ink_end bytes
+  pub ink_behind_blanks : {leading end : ℕ} → measure.ink_end ≡ 0 → all_blank bytes ≡ false → leading ≡ leading_blanks bytes → end ≡ ink_end bytes
       → Measured (record { length = measure.length + length bytes; leading = measure.length + leading; ink_end = measure.length + end }) (line ++ bytes)
-  ink-behind-blanks none ink e f = record {
-    length = length-behind refl;
-    leading = omega (arith, known.length, leading_append_blank line bytes (line-blank none));
-    end = end-behind ink f;
+  ink_behind_blanks none ink e f = record {
+    length = length_behind refl;
+    leading = omega (arith, known.length, leading_append_blank line bytes (line_blank none));
+    end = end_behind ink f;
   }
 
   -- ink behind ink leaves the leading blanks as they are
-  pub ink-behind-ink : {end : ℕ} → (measure.ink_end ≡ 0 → ⊥) → all_blank bytes ≡ false → end ≡ ink_end bytes
+  pub ink_behind_ink : {end : ℕ} → (measure.ink_end ≡ 0 → ⊥) → all_blank bytes ≡ false → end ≡ ink_end bytes
       → Measured (record { length = measure.length + length bytes; leading = measure.leading; ink_end = measure.length + end }) (line ++ bytes)
-  ink-behind-ink some ink f = record {
-    length = length-behind refl;
-    leading = known.leading ∙ sym (leading_append_ink line bytes (line-ink some));
-    end = end-behind ink f;
+  ink_behind_ink some ink f = record {
+    length = length_behind refl;
+    leading = known.leading ∙ sym (leading_append_ink line bytes (line_ink some));
+    end = end_behind ink f;
   }
 
 -- ---- a text between spaces, behind a line with ink
@@ -82,8 +82,8 @@ module _ {measure : Measure} {line : List ℕ} (known : Measured measure line) (
   between = spaces before ++ (text ++ spaces behind)
 
   -- how long the line is with them
-  between-length : measure.length + before + length text + behind ≡ length (line ++ between)
-  between-length =
+  between_length : measure.length + before + length text + behind ≡ length (line ++ between)
+  between_length =
       omega (
         arith,
         known.length,
@@ -95,30 +95,30 @@ module _ {measure : Measure} {line : List ℕ} (known : Measured measure line) (
       )
 
   -- its leading blanks stay
-  between-leading : measure.leading ≡ leading_blanks (line ++ between)
-  between-leading = known.leading ∙ sym (leading_append_ink line between (line-ink known between some))
+  between_leading : measure.leading ≡ leading_blanks (line ++ between)
+  between_leading = known.leading ∙ sym (leading_append_ink line between (line_ink known between some))
 
   -- a blank text leaves the end of the ink
-  pub between-blank : ink_end text ≡ 0 → Measured (record { length = measure.length + before + length text + behind; leading = measure.leading; ink_end = measure.ink_end }) (line ++ between)
-  between-blank none =
+  pub between_blank : ink_end text ≡ 0 → Measured (record { length = measure.length + before + length text + behind; leading = measure.leading; ink_end = measure.ink_end }) (line ++ between)
+  between_blank none =
       let blank : all_blank between ≡ true =
       blank_append (spaces before) (text ++ spaces behind) ∙ rw (spaces_blank before, blank_append text (spaces behind), end_blank text none, spaces_blank behind) in
-      record { length = between-length; leading = between-leading; end = known.end ∙ sym (ap length (trim_append_blank line between blank)) }
+      record { length = between_length; leading = between_leading; end = known.end ∙ sym (ap length (trim_append_blank line between blank)) }
 
   -- any other moves it to the text's
-  pub between-ink : {end : ℕ} → end ≡ ink_end text → (end ≡ 0 → ⊥)
+  pub between_ink : {end : ℕ} → end ≡ ink_end text → (end ≡ 0 → ⊥)
       → Measured (record { length = measure.length + before + length text + behind; leading = measure.leading; ink_end = measure.length + before + end }) (line ++ between)
-  between-ink {end} e inky =
+  between_ink {end} e inky =
       let ink : all_blank text ≡ false = end_ink text (λ none. inky (e ∙ none)) in
-      let behind-ink : all_blank (text ++ spaces behind) ≡ false = blank_append text (spaces behind) ∙ rw ink in
-      let all-ink : all_blank between ≡ false = blank_append (spaces before) (text ++ spaces behind) ∙ rw (spaces_blank before, behind-ink) in
+      let behind_ink : all_blank (text ++ spaces behind) ≡ false = blank_append text (spaces behind) ∙ rw ink in
+      let all-ink : all_blank between ≡ false = blank_append (spaces before) (text ++ spaces behind) ∙ rw (spaces_blank before, behind_ink) in
       let trimmed : trim_end (line ++ between) ≡ line ++ (spaces before ++ trim_end text) =
       trim_append_ink line between all-ink
-      ∙ ap (λ (rest : List ℕ). line ++ rest) (trim_append_ink (spaces before) (text ++ spaces behind) behind-ink
+      ∙ ap (λ (rest : List ℕ). line ++ rest) (trim_append_ink (spaces before) (text ++ spaces behind) behind_ink
       ∙ ap (λ (rest : List ℕ). spaces before ++ rest) (trim_append_blank text (spaces behind) (spaces_blank behind))) in
       record {
-        length = between-length;
-        leading = between-leading;
+        length = between_length;
+        leading = between_leading;
         end = omega (arith, known.length, ap length trimmed, length-append line (spaces before ++ trim_end text), length-append (spaces before) (trim_end text), length-replicate {A = ℕ} before 32);
       }
 

@@ -80,16 +80,16 @@ slice_front from n to list within =
 -- the first piece of a part, by the first newline in the part as the code lends it
 module _ (from to : ℕ) (list : List ℕ) {count : ℕ} (order : from ≤ to) (inside : to ≤ length list) (newline : count ≡ newline_at (take (to - from) (drop from list))) where
   -- the newline's place in the part
-  count-is : count ≡ newline_at (slice from to list)
-  count-is = newline ∙ ap newline_at (part_slice from to list)
+  count_is : count ≡ newline_at (slice from to list)
+  count_is = newline ∙ ap newline_at (part_slice from to list)
 
   -- ends behind that newline
-  pub ends-newline : count < to - from → (from + count + 1 ≡ from + piece_length (slice from to list)) × (true ≡ ltb (newline_at (slice from to list)) (to - from))
-  ends-newline within = (omega (arith, length-slice from to list inside, count-is), sym (rw (← count-is) (lt-ltb _ _ within)))
+  pub ends_newline : count < to - from → (from + count + 1 ≡ from + piece_length (slice from to list)) × (true ≡ ltb (newline_at (slice from to list)) (to - from))
+  ends_newline within = (omega (arith, length-slice from to list inside, count_is), sym (rw (← count_is) (lt-ltb _ _ within)))
 
   -- or with the part
-  pub ends-part : to - from ≤ count → (to ≡ from + piece_length (slice from to list)) × (false ≡ ltb (newline_at (slice from to list)) (to - from))
-  ends-part past = (omega (arith, length-slice from to list inside, count-is), sym (rw (← count-is) (le-ltb _ _ past)))
+  pub ends_part : to - from ≤ count → (to ≡ from + piece_length (slice from to list)) × (false ≡ ltb (newline_at (slice from to list)) (to - from))
+  ends_part past = (omega (arith, length-slice from to list inside, count_is), sym (rw (← count_is) (le-ltb _ _ past)))
 
 -- ---- the piece at a spot
 
@@ -103,34 +103,34 @@ piece_end list spot = spot.at + piece_length (rest_at list spot)
 
 module _ (list : List ℕ) (spot : Spot) (standing : Standing list spot) (inside : spot.at < length list) where
   -- the length of that text
-  rest-length : length (rest_at list spot) ≡ spot.end - spot.at
-  rest-length = length-slice spot.at spot.end list standing.inside
+  rest_length : length (rest_at list spot) ≡ spot.end - spot.at
+  rest_length = length-slice spot.at spot.end list standing.inside
 
   -- the piece has a byte
-  pub piece-some : spot.at < piece_end list spot
-  piece-some = omega (arith, rest-length, standing.some inside)
+  pub piece_some : spot.at < piece_end list spot
+  piece_some = omega (arith, rest_length, standing.some inside)
 
   -- it ends in its chunk
-  pub piece-within : piece_end list spot ≤ spot.end
-  piece-within = omega (arith, rest-length, standing.some inside)
+  pub piece_within : piece_end list spot ≤ spot.end
+  piece_within = omega (arith, rest_length, standing.some inside)
 
   -- its length
-  pub piece-length : length (piece_at list spot).text ≡ piece_end list spot - spot.at
+  pub piece_length_lem : length (piece_at list spot).text ≡ piece_end list spot - spot.at
   unfolding piece_at
-  piece-length = length-slice spot.at (piece_end list spot) list (omega (arith, piece-within, standing.inside))
+  piece_length_lem = length-slice spot.at (piece_end list spot) list (omega (arith, piece_within, standing.inside))
 
   -- the piece is the front of that text
-  text-front : take (piece_length (rest_at list spot)) (rest_at list spot) ≡ (piece_at list spot).text
+  text_front : take (piece_length (rest_at list spot)) (rest_at list spot) ≡ (piece_at list spot).text
   unfolding piece_at
-  text-front = slice_front spot.at (piece_length (rest_at list spot)) spot.end list piece-within
+  text_front = slice_front spot.at (piece_length (rest_at list spot)) spot.end list piece_within
 
   -- whether it has a newline
-  pub piece-newline-is : ltb (newline_at (rest_at list spot)) (spot.end - spot.at) ≡ has_newline (piece_at list spot).text
-  piece-newline-is = rw (← rest-length, ← text-front) (newline_within (rest_at list spot) ∙ sym (newline_first (rest_at list spot)))
+  pub piece_newline_is : ltb (newline_at (rest_at list spot)) (spot.end - spot.at) ≡ has_newline (piece_at list spot).text
+  piece_newline_is = rw (← rest_length, ← text_front) (newline_within (rest_at list spot) ∙ sym (newline_first (rest_at list spot)))
 
   -- the pieces from the spot on are the piece there and those behind it
-  pub pieces-cons : (behind : Spot) → Passed list spot (piece_end list spot) behind → pieces_at list spot ≡ piece_at list spot ∷ pieces_at list behind
+  pub pieces_cons : (behind : Spot) → Passed list spot (piece_end list spot) behind → pieces_at list spot ≡ piece_at list spot ∷ pieces_at list behind
   unfolding pieces_at pieces_of piece_at
-  pieces-cons behind passed =
-      rw (cut_first (rest_at list spot) (omega (arith, rest-length, standing.some inside)), text-front, drop-drop (piece_length (rest_at list spot)) spot.at (take spot.end list))
+  pieces_cons behind passed =
+      rw (cut_first (rest_at list spot) (omega (arith, rest_length, standing.some inside)), text_front, drop-drop (piece_length (rest_at list spot)) spot.at (take spot.end list))
       (ap (λ (ps : List Piece). piece_at list spot ∷ ps) (sym passed.pieces))

@@ -59,19 +59,19 @@ type_told list place chunk stored bits e =
 
 module _ (list : List ℕ) (place : ℕ) (laid : Laid list place) (inside : place < length list) where
   -- before the list's end a chunk is found
-  by-chunk : {P : Type 0} → ((chunk : StoredChunk) → chunk_at list place ≡ Found chunk → P) → P
-  by-chunk each = by_found (chunk_at list place) (λ none. omega (arith, laid, end_none list place none)) each
+  by_chunk : {P : Type 0} → ((chunk : StoredChunk) → chunk_at list place ≡ Found chunk → P) → P
+  by_chunk each = by_found (chunk_at list place) (λ none. omega (arith, laid, end_none list place none)) each
 
   -- whose head is three bytes at least
-  pub head-inside : place + 3 ≤ length list
-  head-inside = by-chunk (λ chunk e. let stored = found_laid list place chunk e in omega arith)
+  pub head_inside : place + 3 ≤ length list
+  head_inside = by_chunk (λ chunk e. let stored = found_laid list place chunk e in omega arith)
 
   -- a chunk without an indent is found by its map and its text length
   pub found_plain : {map count : ℕ} {ty : ChunkType} → map ≡ get_or list place 0 → map < 4 → ty ≡ type_of map → count ≡ number_at list (place + 1)
       → chunk_at list place ≡ Found (record { ty = ty; indent = 0; start = place + 3; end = place + 3 + count })
   unfolding stored_indent
   found_plain {map} here unset ty count =
-      by-chunk (λ chunk e.
+      by_chunk (λ chunk e.
       let stored = found_laid list place chunk e in
       let none : chunk.indent ≡ 0 = no_indent chunk.indent (omega (arith, stored.map)) in
       let width : length (stored_indent chunk.indent) ≡ 0 = rw none in
@@ -86,17 +86,17 @@ module _ (list : List ℕ) (place : ℕ) (laid : Laid list place) (inside : plac
     indented chunk stored none = omega (arith, stored.map, type_bits_small chunk.ty, ap indent_bit none)
 
     -- and its head is five bytes
-    pub indented-inside : place + 5 ≤ length list
-    indented-inside =
-        by-chunk (λ chunk e.
+    pub indented_inside : place + 5 ≤ length list
+    indented_inside =
+        by_chunk (λ chunk e.
         let stored = found_laid list place chunk e in
         omega (arith, ap length (indent_stored chunk.indent (indented chunk stored))))
 
     -- it is found by its map, its indent and its text length
-    pub found-indented : {indent count : ℕ} {ty : ChunkType} → ty ≡ type_of (map - 4) → indent ≡ number_at list (place + 1) → count ≡ number_at list (place + 3)
+    pub found_indented : {indent count : ℕ} {ty : ChunkType} → ty ≡ type_of (map - 4) → indent ≡ number_at list (place + 1) → count ≡ number_at list (place + 3)
         → chunk_at list place ≡ Found (record { ty = ty; indent = indent; start = place + 5; end = place + 5 + count })
-    found-indented ty indent count =
-        by-chunk (λ chunk e.
+    found_indented ty indent count =
+        by_chunk (λ chunk e.
         let stored = found_laid list place chunk e in
         let some = indented chunk stored in
         let width : length (stored_indent chunk.indent) ≡ 2 = ap length (indent_stored chunk.indent some) in
@@ -122,13 +122,13 @@ follows_chunk list place chunk e = ap following (chunks_at_found list place chun
 
 module _ (list : List ℕ) (place : ℕ) (chunk : StoredChunk) (e : chunk_at list place ≡ Found chunk) (inside : chunk.end ≤ length list) where
   -- which is a newline or not where its text is one byte
-  pub follows-one : chunk.end - chunk.start ≡ 1 → following (chunks_at list place) ≡ cond (eqb (get_or list chunk.start 0) 10) Newline Other
+  pub follows_one : chunk.end - chunk.start ≡ 1 → following (chunks_at list place) ≡ cond (eqb (get_or list chunk.start 0) 10) Newline Other
   unfolding is_newline
-  follows-one one = follows_chunk list place chunk e ∙ rw (slice_one chunk.start chunk.end list one inside)
+  follows_one one = follows_chunk list place chunk e ∙ rw (slice_one chunk.start chunk.end list one inside)
 
   -- and else is none
-  pub follows-other : (chunk.end - chunk.start ≡ 1 → ⊥) → following (chunks_at list place) ≡ Other
-  follows-other more =
+  pub follows_other : (chunk.end - chunk.start ≡ 1 → ⊥) → following (chunks_at list place) ≡ Other
+  follows_other more =
       follows_chunk list place chunk e
       ∙ rw (newline_lone (slice chunk.start chunk.end list), length-slice chunk.start chunk.end list inside, ne_eqb (chunk.end - chunk.start) 1 more)
 
@@ -137,7 +137,7 @@ pub last_is : (list : List ℕ) (place : ℕ) → Laid list place → is_last (f
 last_is list place laid =
     by_test (leb (length list) place)
     (λ past. rw (past, follows_nothing list place (leb-true _ _ past)))
-    (λ inside. by-chunk list place laid (leb-false _ _ inside) (λ chunk e.
+    (λ inside. by_chunk list place laid (leb-false _ _ inside) (λ chunk e.
     rw (inside, follows_chunk list place chunk e) (not_last (is_newline (slice chunk.start chunk.end list)))))
   where
     not_last : (newline : Bool) → is_last (cond newline Newline Other) ≡ false
@@ -186,9 +186,9 @@ reached_chunk list place chunk laid inside e fit = record {
 
 module _ (list : List ℕ) (spot : Spot) (end : ℕ) (standing : Standing list spot) (ahead : spot.at < end) where
   -- behind a piece, in the same chunk
-  pub passed-inside : end < spot.end → Passed list spot end (record { ty = spot.ty; indent = spot.indent; start = spot.start; at = end; end = spot.end })
+  pub passed_inside : end < spot.end → Passed list spot end (record { ty = spot.ty; indent = spot.indent; start = spot.start; at = end; end = spot.end })
   unfolding pieces_at
-  passed-inside inside = record {
+  passed_inside inside = record {
     pieces = rw (ne_eqb end spot.start (λ same. omega arith));
     standing = record {
       from = omega arith;
@@ -204,9 +204,9 @@ module _ (list : List ℕ) (spot : Spot) (end : ℕ) (standing : Standing list s
   }
 
   -- behind a chunk's last piece
-  pub passed-chunk : (behind : Spot) → end ≤ spot.end → spot.end ≤ end → Reached list end behind → Passed list spot end behind
+  pub passed_chunk : (behind : Spot) → end ≤ spot.end → spot.end ≤ end → Reached list end behind → Passed list spot end behind
   unfolding cut pieces_of
-  passed-chunk behind within past reached =
+  passed_chunk behind within past reached =
       let same : spot.end ≡ end = omega arith in
       record {
         pieces = reached.pieces ∙ rw (same, slice_empty end list);

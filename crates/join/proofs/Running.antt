@@ -31,7 +31,7 @@ use Rattle.join.specs.declared.lines.Cut.{Cut}
 use Rattle.join.specs.declared.lines.Guess.{Guess}
 use Rattle.join.proofs.Places.{follows_nothing}
 use Rattle.join.proofs.Windows.{puts_slice}
-use Rattle.join.proofs.Cuts.{before_of, CutSays, cut-says}
+use Rattle.join.proofs.Cuts.{before_of, CutSays, cut_says}
 
 -- ---- where a line is put
 
@@ -47,8 +47,8 @@ start_near past =
 
 module _ (past : Past) (cut : Cut) (bytes : List ℕ) (fit : CutFits cut (ink_end bytes)) where
   -- where the text ends with a line that is set
-  pub cut-end : past.length + length (cut_bytes past cut bytes) ≡ line_start past + cut.lead + (cut.high - cut.low)
-  cut-end =
+  pub cut_end : past.length + length (cut_bytes past cut bytes) ≡ line_start past + cut.lead + (cut.high - cut.low)
+  cut_end =
       rw (
         length-append (front past.any) (spaces cut.lead ++ slice cut.low cut.high bytes),
         length-append (spaces cut.lead) (slice cut.low cut.high bytes),
@@ -70,7 +70,7 @@ cut_written past cut bytes text text₁ text₂ start here room newline lead lin
     let before = front past.any ++ spaces cut.lead in
     let part = slice cut.low cut.high bytes in
     let whole : before ++ part ≡ cut_bytes past cut bytes = append_assoc (front past.any) (spaces cut.lead) part in
-    let front-end : start ≡ n + length (front past.any) = here ∙ start_front past in
+    let front_end_lem : start ≡ n + length (front past.any) = here ∙ start_front past in
     let before-length : length before ≡ length (front past.any) + cut.lead = length-append (front past.any) (spaces cut.lead) ∙ rw (length-replicate {A = ℕ} cut.lead 32) in
     let end : n + length before ≡ start + cut.lead = omega arith in
     let enough : n + length before ≤ length text = omega (arith, length-append before part, ap length whole) in
@@ -78,7 +78,7 @@ cut_written past cut bytes text text₁ text₂ start here room newline lead lin
     let base : start + cut.lead + (0 - cut.low) ≡ start + cut.lead = omega arith in
     let low : cut.low - 0 ≡ cut.low = omega arith in
     let high : cut.high - 0 ≡ cut.high = omega arith in
-    let led : text₂ ≡ sets text n before = lead ∙ rw (newline, front-end) (stored_append text n (front past.any) (spaces cut.lead) fit-before ∙ rw fit-before) in
+    let led : text₂ ≡ sets text n before = lead ∙ rw (newline, front_end_lem) (stored_append text n (front past.any) (spaces cut.lead) fit-before ∙ rw fit-before) in
     line ∙ puts_slice text₂ (record { base = start + cut.lead; low = cut.low; high = cut.high }) 0 bytes
     ∙ rw (base, low, high, led, ← end) (sym (sets_append text n before part) ∙ rw whole)
 
@@ -115,8 +115,8 @@ module _ (past : Past) (guess : Guess) (bytes text text₁ text₂ : List ℕ) {
     (newline : text₁ ≡ stored_buffer text past.length (front past.any)) (lead : text₂ ≡ stored_buffer text₁ start (spaces guess.lead))
     (line : text₃ ≡ puts text₂ (window_to (length text) (start + guess.lead) guess.low) 0 bytes) where
   -- the window shows nothing before the line
-  window-behind : past.length ≤ start → take past.length (puts text₂ (window_to (length text) (start + guess.lead) guess.low) 0 bytes) ≡ take past.length text₂
-  window-behind behind =
+  window_behind : past.length ≤ start → take past.length (puts text₂ (window_to (length text) (start + guess.lead) guess.low) 0 bytes) ≡ take past.length text₂
+  window_behind behind =
       let base = start + guess.lead in
       let shows : Window = record { base = base; low = guess.low; high = guess.low + (length text - base) } in
       let hides : Window = record { base = 0; low = 0; high = 0 } in
@@ -125,18 +125,18 @@ module _ (past : Past) (guess : Guess) (bytes text text₁ text₂ : List ℕ) {
       (λ e. rw e (ap (take past.length) (puts_slice text₂ hides 0 bytes)))
 
   -- the text so far is left
-  tried-kept : take past.length text₃ ≡ take past.length text
-  tried-kept =
+  tried_kept : take past.length text₃ ≡ take past.length text
+  tried_kept =
       let near = start_near past in
       let behind : past.length ≤ start = omega arith in
-      ap (take past.length) line ∙ window-behind behind ∙ ap (take past.length) lead ∙ take_stored past.length text₁ start (spaces guess.lead) behind
+      ap (take past.length) line ∙ window_behind behind ∙ ap (take past.length) lead ∙ take_stored past.length text₁ start (spaces guess.lead) behind
       ∙ ap (take past.length) newline ∙ take_stored past.length text past.length (front past.any) (omega arith)
 
   -- and the line stands behind it
-  tried-shown : (high : ℕ) → guess.low ≤ high → high ≤ length bytes → line_start past + guess.lead + (high - guess.low) ≤ length text
+  tried_shown : (high : ℕ) → guess.low ≤ high → high ≤ length bytes → line_start past + guess.lead + (high - guess.low) ≤ length text
       → take (line_start past + guess.lead + (high - guess.low)) text₃
       ≡ take past.length text ++ (front past.any ++ (spaces guess.lead ++ slice guess.low high bytes))
-  tried-shown high up within room =
+  tried_shown high up within room =
       let n = past.length in
       let base = start + guess.lead in
       let far = guess.low + (length text - base) in
@@ -159,22 +159,22 @@ module _ (past : Past) (guess : Guess) (bytes text text₁ text₂ : List ℕ) {
 -- a line of which all but blanks at its end is shown stands as if all of it were
 module _ {window : Window} {before text bytes : List ℕ} (showing : Showing window before text bytes true) where
   -- its ink is in what is shown
-  shown-ink : ink_end bytes ≤ length showing.shown
-  shown-ink = rw (showing.parts, trim_append_blank showing.shown showing.rest showing.blank) (ink_end_le showing.shown)
+  shown_ink : ink_end bytes ≤ length showing.shown
+  shown_ink = rw (showing.parts, trim_append_blank showing.shown showing.rest showing.blank) (ink_end_le showing.shown)
 
   -- so is each of its parts up to the end of the ink
-  pub shown-slice : (low high : ℕ) → high ≤ ink_end bytes → slice low high showing.shown ≡ slice low high bytes
-  shown-slice low high within =
-      sym (ap (drop low) (ap (take high) showing.parts ∙ take-append-le high showing.shown showing.rest (omega (arith, shown-ink))))
+  pub shown_slice : (low high : ℕ) → high ≤ ink_end bytes → slice low high showing.shown ≡ slice low high bytes
+  shown_slice low high within =
+      sym (ap (drop low) (ap (take high) showing.parts ∙ take-append-le high showing.shown showing.rest (omega (arith, shown_ink))))
 
 -- so the line is tried
 pub line_tried : (past : Past) (guess : Guess) (bytes text text₁ text₂ : List ℕ) {text₃ : List ℕ} (start : ℕ) → start ≡ line_start past
     → text₁ ≡ stored_buffer text past.length (front past.any) → text₂ ≡ stored_buffer text₁ start (spaces guess.lead)
     → Showing (window_to (length text) (start + guess.lead) guess.low) text₂ text₃ bytes true → Tried past guess bytes text text₃
 line_tried past guess bytes text text₁ text₂ start here newline lead showing = record {
-  kept = tried-kept past guess showing.shown text text₁ text₂ start here newline lead showing.written;
-  shown = λ high up within room. rw (← (shown-slice showing guess.low high within))
-      (tried-shown past guess showing.shown text text₁ text₂ start here newline lead showing.written high up (omega (arith, shown-ink showing)) room);
+  kept = tried_kept past guess showing.shown text text₁ text₂ start here newline lead showing.written;
+  shown = λ high up within room. rw (← (shown_slice showing guess.low high within))
+      (tried_shown past guess showing.shown text text₁ text₂ start here newline lead showing.written high up (omega (arith, shown_ink showing)) room);
 }
 
 -- a kept line through its own window, all but blanks at its end
@@ -185,7 +185,7 @@ pub cut_shown : (past : Past) (cut : Cut) (bytes text text₁ text₂ : List ℕ
     → Showing (record { base = start + cut.lead; low = cut.low; high = cut.high }) text₂ text₃ bytes true
     → text₃ ≡ sets text past.length (cut_bytes past cut bytes)
 cut_shown past cut bytes text text₁ text₂ start fit here room newline lead showing =
-    let same = shown-slice showing cut.low cut.high fit.within in
+    let same = shown_slice showing cut.low cut.high fit.within in
     cut_written past cut showing.shown text text₁ text₂ start here (rw same room) newline lead showing.written ∙ rw same
 
 -- ---- the line that pieces start with
@@ -306,79 +306,79 @@ module _ {margins : Margins} {list all : List ℕ} {past : Past} {spot : Spot}
 
   -- what the cut says of it
   says : CutSays margins past line cut
-  says = rw made (cut-says margins narrow past line walked.measure walked.indent found.inked found.indent found.low)
+  says = rw made (cut_says margins narrow past line walked.measure walked.indent found.inked found.indent found.low)
 
   -- the cut lies within the line
-  pub line-fits : CutFits cut (ink_end line.bytes)
-  line-fits = says.fits
+  pub line_fits : CutFits cut (ink_end line.bytes)
+  line_fits = says.fits
 
   -- the numbers of the text and of the cut do not grow large
   pub line_small : length list ≤ 1048576 → (past.length < 4503599627370496) × CutFits cut 4294967296
   line_small short =
       let here = running.standing in
       let there = found.standing in
-      let fit = line-fits in (
+      let fit = line_fits in (
         omega (arith, running.small),
         record { part = fit.part; within = omega (arith, ink_end_le line.bytes, found.small); small = fit.small },
       )
 
   -- the lines from here on are this line, if it is kept, and the lines behind it
-  lines-here : lines_from margins list (before_of past) spot ≡ map (set_line margins) (with_line cut.kept line (kept_lines margins (before_of (grown_by past cut)) fresh (pieces_at list walked.spot)))
+  lines_here : lines_from margins list (before_of past) spot ≡ map (set_line margins) (with_line cut.kept line (kept_lines margins (before_of (grown_by past cut)) fresh (pieces_at list walked.spot)))
   unfolding line_at
-  lines-here = ap (map (set_line margins)) (first_kept margins (before_of past) fresh (pieces_at list spot) found.ended) ∙ rw (says.after, ← says.kept, found.rest)
+  lines_here = ap (map (set_line margins)) (first_kept margins (before_of past) fresh (pieces_at list spot) found.ended) ∙ rw (says.after, ← says.kept, found.rest)
 
   -- all of the text, by a kept line
-  rest-kept : cut.kept ≡ true → all ≡ (running.done ++ bytes) ++ behind more
-  rest-kept kept =
+  rest_kept : cut.kept ≡ true → all ≡ (running.done ++ bytes) ++ behind more
+  rest_kept kept =
       running.rest
-      ∙ ap (λ (lines : List (List ℕ)). running.done ++ rest_of past.any lines) (lines-here ∙ rw kept)
+      ∙ ap (λ (lines : List (List ℕ)). running.done ++ rest_of past.any lines) (lines_here ∙ rw kept)
       ∙ ap (λ (rest : List ℕ). running.done ++ rest) (rest_cons past.any (set_line margins line) more)
       ∙ ap (λ (set : List ℕ). running.done ++ ((front past.any ++ set) ++ behind more)) (says.set kept)
       ∙ sym (append_assoc running.done bytes (behind more))
 
   -- a kept line has room where all of the text has
-  pub line-room : cut.kept ≡ true → past.length + length bytes ≤ length all
-  line-room kept =
-      omega (arith, running.long, ap length (rest-kept kept), length-append (running.done ++ bytes) (behind more), length-append running.done bytes)
+  pub line_room : cut.kept ≡ true → past.length + length bytes ≤ length all
+  line_room kept =
+      omega (arith, running.long, ap length (rest_kept kept), length-append (running.done ++ bytes) (behind more), length-append running.done bytes)
 
   -- the same holds behind a kept line
-  on-kept : cut.kept ≡ true → Running margins list all (grown_by past cut) walked.spot
-  on-kept kept =
-      let end = cut-end past cut line.bytes line-fits in
+  on_kept : cut.kept ≡ true → Running margins list all (grown_by past cut) walked.spot
+  on_kept kept =
+      let end = cut_end past cut line.bytes line_fits in
       let grown : (grown_by past cut).length ≡ line_start past + cut.lead + (cut.high - cut.low) = rw kept in
       let any : (grown_by past cut).any ≡ true = rw kept in
-      let fit = line-fits in
+      let fit = line_fits in
       record {
         done = running.done ++ bytes;
         long = grown ∙ omega (arith, length-append running.done bytes, running.long);
-        rest = rw any (rest-kept kept);
+        rest = rw any (rest_kept kept);
         standing = found.standing;
         small = omega (arith, start_near past, ink_end_le line.bytes, found.small, found.onward, running.small);
       }
 
   -- and behind a line that is not kept
-  on-dropped : cut.kept ≡ false → Running margins list all (grown_by past cut) walked.spot
-  on-dropped dropped =
+  on_dropped : cut.kept ≡ false → Running margins list all (grown_by past cut) walked.spot
+  on_dropped dropped =
       let same : grown_by past cut ≡ past = rw dropped in
       record {
         done = running.done;
         long = ap (λ (grown : Past). grown.length) same ∙ running.long;
         rest =
-            running.rest ∙ ap (λ (lines : List (List ℕ)). running.done ++ rest_of past.any lines) (lines-here ∙ rw dropped)
+            running.rest ∙ ap (λ (lines : List (List ℕ)). running.done ++ rest_of past.any lines) (lines_here ∙ rw dropped)
             ∙ ap (λ (grown : Past). running.done ++ rest_of grown.any more) (sym same);
         standing = found.standing;
         small = omega (arith, ap (λ (grown : Past). grown.length) same, found.onward, running.small);
       }
 
   -- so it holds behind every line
-  pub running-on : Running margins list all (grown_by past cut) walked.spot
-  running-on = by_test cut.kept (λ kept. on-kept kept) (λ dropped. on-dropped dropped)
+  pub running_on : Running margins list all (grown_by past cut) walked.spot
+  running_on = by_test cut.kept (λ kept. on_kept kept) (λ dropped. on_dropped dropped)
 
   -- ---- the line is written
 
   -- a line that went astray has room
-  pub astray-room : (guess : Guess) → astray cut guess ≡ true → past.length + length bytes ≤ length all
-  astray-room guess e = line-room (and_true_left cut.kept _ e)
+  pub astray_room : (guess : Guess) → astray cut guess ≡ true → past.length + length bytes ≤ length all
+  astray_room guess e = line_room (and_true_left cut.kept _ e)
 
   module _ {text text₁ text₂ : List ℕ} {guess : Guess} (held : take past.length text ≡ running.done) (size : length text ≡ length all)
       (tried : Tried past guess line.bytes text text₁) (mended : text₂ ≡ cond (astray cut guess) (sets text₁ past.length bytes) text₁)
@@ -386,9 +386,9 @@ module _ {margins : Margins} {list all : List ℕ} {past : Past} {spot : Spot}
     -- a kept line stands behind the text so far, as it was guessed or mended
     held_kept : cut.kept ≡ true → take (grown_by past cut).length text₂ ≡ running.done ++ bytes
     held_kept kept =
-        let fit = line-fits in
-        let room = line-room kept in
-        let end = cut-end past cut line.bytes fit in
+        let fit = line_fits in
+        let room = line_room kept in
+        let end = cut_end past cut line.bytes fit in
         let grown : (grown_by past cut).length ≡ line_start past + cut.lead + (cut.high - cut.low) = rw kept in
         by_test (eqb cut.lead guess.lead && eqb cut.low guess.low)
         (λ same.
@@ -403,12 +403,12 @@ module _ {margins : Margins} {list all : List ℕ} {past : Past} {spot : Spot}
         rw (grown ∙ sym end, anew) (all_of ∙ rw (take-length bytes, tried.kept, held)))
 
     -- so the buffer starts with the text behind every line
-    pub holding-on : Holding margins list all (grown_by past cut) walked.spot text₂
-    unfolding on-kept on-dropped
-    holding-on =
+    pub holding_on : Holding margins list all (grown_by past cut) walked.spot text₂
+    unfolding on_kept on_dropped
+    holding_on =
         by_test cut.kept
-        (λ kept. record { running = on-kept kept; held = held_kept kept })
+        (λ kept. record { running = on_kept kept; held = held_kept kept })
         (λ dropped.
         let same : (grown_by past cut).length ≡ past.length = rw dropped in
         let left : text₂ ≡ text₁ = mended ∙ rw dropped in
-        record { running = on-dropped dropped; held = rw (same, left) (tried.kept ∙ held) })
+        record { running = on_dropped dropped; held = rw (same, left) (tried.kept ∙ held) })

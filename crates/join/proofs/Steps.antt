@@ -28,7 +28,7 @@ use Rattle.join.specs.declared.piece.PieceEnd.{PieceEnd}
 use Rattle.join.specs.declared.piece.Spot.{Spot}
 use Rattle.join.specs.declared.piece.Step.{Step}
 use Rattle.join.proofs.Places.{last_is}
-use Rattle.join.proofs.Pieces.{slice_one, rest_at, piece_end, piece-some, piece-within, piece-length, piece-newline-is, pieces-cons}
+use Rattle.join.proofs.Pieces.{slice_one, rest_at, piece_end, piece_some, piece_within, piece_length_lem, piece_newline_is, pieces_cons}
 use Rattle.join.proofs.Lays.{Lays, piece_lays}
 
 -- where neither of two tests holds the first does not
@@ -45,17 +45,17 @@ module _ (margins : Margins) (list : List ℕ) (spot : Spot) (n : ℕ) (piece : 
     (end : piece.end ≡ piece_end list spot) (newline : piece.newline ≡ ltb (newline_at (rest_at list spot)) (spot.end - spot.at))
     (is : lay ≡ lay_at margins list spot n piece) (passed : Passed list spot piece.end behind) where
   -- how the piece is laid
-  lays-at : Lays (ignored margins n (piece_at list spot)) (laid spot.ty margins n (piece_at list spot)) (piece_at list spot).text lay
+  lays_at : Lays (ignored margins n (piece_at list spot)) (laid spot.ty margins n (piece_at list spot)) (piece_at list spot).text lay
   unfolding piece_at
-  lays-at =
-      rw (is, end, newline, ← (piece-length list spot standing inside), piece-newline-is list spot standing inside)
+  lays_at =
+      rw (is, end, newline, ← (piece_length_lem list spot standing inside), piece_newline_is list spot standing inside)
       (piece_lays margins narrow n (piece_at list spot))
 
   -- whether the piece ends its line
   ends_at : (skipped : Bool) → lay.ignored ≡ skipped → ends margins n (piece_at list spot) ≡ (leb (length list) spot.end || (piece.newline && not skipped))
   unfolding ends piece_at
   ends_at skipped e =
-      rw (lays-at.ignored ∙ e, last_is list spot.end standing.laid, newline ∙ piece-newline-is list spot standing inside)
+      rw (lays_at.ignored ∙ e, last_is list spot.end standing.laid, newline ∙ piece_newline_is list spot standing inside)
 
   -- the step, by what is written of the piece
   stepped : (step : Step) (skipped : Bool) (rest : List ℕ) → lay.ignored ≡ skipped → step.spot ≡ behind → step.from ≡ spot.at → step.from ≤ step.to → step.to ≤ piece.end
@@ -64,8 +64,8 @@ module _ (margins : Margins) (list : List ℕ) (spot : Spot) (n : ℕ) (piece : 
       → all_blank rest ≡ true → (step.ends ≡ false → rest ≡ [])
       → step.ends ≡ (leb (length list) spot.end || (piece.newline && not skipped)) → Stepped margins list spot n step
   stepped step skipped rest known there from part within few bytes blank all ended =
-      let some : spot.at < piece.end = omega (arith, piece-some list spot standing inside, end) in
-      let to : piece.end ≤ spot.end = omega (arith, piece-within list spot standing inside, end) in
+      let some : spot.at < piece.end = omega (arith, piece_some list spot standing inside, end) in
+      let to : piece.end ≤ spot.end = omega (arith, piece_within list spot standing inside, end) in
       let onward : piece.end ≤ step.spot.at = rw there passed.onward in
       record {
         rest = rest;
@@ -73,7 +73,7 @@ module _ (margins : Margins) (list : List ℕ) (spot : Spot) (n : ℕ) (piece : 
         blank = blank;
         all = all;
         ends = ended ∙ sym (ends_at skipped known);
-        pieces = rw there (pieces-cons list spot standing inside behind (rw end at passed));
+        pieces = rw there (pieces_cons list spot standing inside behind (rw end at passed));
         standing = rw there passed.standing;
         part = part;
         inside = omega (arith, standing.inside);
@@ -83,34 +83,34 @@ module _ (margins : Margins) (list : List ℕ) (spot : Spot) (n : ℕ) (piece : 
       }
 
   -- a piece that is ignored
-  pub stepped-ignored : {last : Bool} → lay.ignored ≡ true → last ≡ leb (length list) spot.end
+  pub stepped_ignored : {last : Bool} → lay.ignored ≡ true → last ≡ leb (length list) spot.end
       → Stepped margins list spot n (record { before = 0; from = spot.at; to = spot.at; behind = 0; ends = last; spot = behind })
   unfolding added all_blank
-  stepped-ignored skipped last =
-      stepped _ true [] skipped refl refl (omega arith) (omega (arith, piece-some list spot standing inside, end)) (omega arith)
-      (rw (lays-at.ignored ∙ skipped, slice_empty spot.at list)) refl (λ _. refl)
+  stepped_ignored skipped last =
+      stepped _ true [] skipped refl refl (omega arith) (omega (arith, piece_some list spot standing inside, end)) (omega arith)
+      (rw (lays_at.ignored ∙ skipped, slice_empty spot.at list)) refl (λ _. refl)
       (last ∙ rw (and-false piece.newline) (sym (or-false (leb (length list) spot.end))))
 
   -- what any other adds
-  added-kept : lay.ignored ≡ false → added margins n (piece_at list spot) ≡ spaces lay.before ++ (slice spot.at piece.end list ++ spaces lay.behind)
+  added_kept : lay.ignored ≡ false → added margins n (piece_at list spot) ≡ spaces lay.before ++ (slice spot.at piece.end list ++ spaces lay.behind)
   unfolding added piece_at
-  added-kept kept = rw (lays-at.ignored ∙ kept, end) (lays-at.bytes kept)
+  added_kept kept = rw (lays_at.ignored ∙ kept, end) (lays_at.bytes kept)
 
   -- any other
   pub stepped_kept : {ended : Bool} → lay.ignored ≡ false → ended ≡ (leb (length list) spot.end || piece.newline)
       → Stepped margins list spot n (record { before = lay.before; from = spot.at; to = piece.end; behind = lay.behind; ends = ended; spot = behind })
   unfolding all_blank
   stepped_kept kept ended =
-      stepped _ false [] kept refl refl (omega (arith, piece-some list spot standing inside, end)) (omega arith) (omega (arith, lays-at.small))
-      (added-kept kept ∙ sym (append-nil _)) refl (λ _. refl)
+      stepped _ false [] kept refl refl (omega (arith, piece_some list spot standing inside, end)) (omega arith) (omega (arith, lays_at.small))
+      (added_kept kept ∙ sym (append-nil _)) refl (λ _. refl)
       (rw (and-true piece.newline) ended)
 
   -- a newline that ends the line, of which nothing is laid
-  pub stepped-none : lay.ignored ≡ false → piece.newline ≡ true → slice spot.at piece.end list ≡ 10 ∷ []
+  pub stepped_none : lay.ignored ≡ false → piece.newline ≡ true → slice spot.at piece.end list ≡ 10 ∷ []
       → Stepped margins list spot n (record { before = 0; from = spot.at; to = spot.at; behind = 0; ends = true; spot = behind })
-  stepped-none kept newlined one =
+  stepped_none kept newlined one =
       let text = slice spot.at piece.end list in
-      let adds = added-kept kept in
+      let adds = added_kept kept in
       let size : length (added margins n (piece_at list spot)) ≡ lay.before + (1 + lay.behind) =
       ap length adds ∙ rw one (simp (length-append, length-replicate) (omega arith)) in
       let blank : all_blank (added margins n (piece_at list spot)) ≡ true =
@@ -122,8 +122,8 @@ module _ (margins : Margins) (list : List ℕ) (spot : Spot) (n : ℕ) (piece : 
         spaces_blank lay.behind,
         newline_blank,
       ) in
-      stepped _ false (added margins n (piece_at list spot)) kept refl refl (omega arith) (omega (arith, piece-some list spot standing inside, end))
-      (omega (arith, lays-at.small, size, piece-some list spot standing inside, end))
+      stepped _ false (added margins n (piece_at list spot)) kept refl refl (omega arith) (omega (arith, piece_some list spot standing inside, end))
+      (omega (arith, lays_at.small, size, piece_some list spot standing inside, end))
       (rw (slice_empty spot.at list)) blank (λ e. true_false e)
       (rw newlined (sym (or-true (leb (length list) spot.end))))
 
@@ -145,8 +145,8 @@ module _ (margins : Margins) (list : List ℕ) (spot : Spot) (n : ℕ) (lay : La
     (narrow : Narrow margins) (standing : Standing list spot) (inside : spot.at < length list) (whole : Whole list spot)
     (is : lay ≡ lay_at margins list spot n (record { end = spot.end; newline = false })) (passed : Passed list spot spot.end behind) where
   -- it is all of the rest of its chunk, and the line goes on behind it
-  pub stepped-whole : Stepped margins list spot n (record { before = lay.before; from = spot.at; to = spot.end; behind = lay.behind; ends = false; spot = behind })
-  stepped-whole =
+  pub stepped_whole : Stepped margins list spot n (record { before = lay.before; from = spot.at; to = spot.end; behind = lay.behind; ends = false; spot = behind })
+  stepped_whole =
       let far = ltb-false (newline_at (rest_at list spot)) (spot.end - spot.at) whole.plain in
       let end : spot.end ≡ piece_end list spot = omega (arith, length-slice spot.at spot.end list standing.inside, standing.within) in
       let kept : lay.ignored ≡ false = rw is (lay_plain margins spot.ty n (spot.end - spot.at) (following (chunks_at list spot.end))) in
@@ -158,26 +158,26 @@ module _ (margins : Margins) (list : List ℕ) (spot : Spot) (n : ℕ) (lay : La
 module _ (margins : Margins) (list : List ℕ) (spot : Spot) (n : ℕ) (behind : Spot)
     (narrow : Narrow margins) (standing : Standing list spot) (inside : spot.at < length list) (lone : LoneNewline list spot) (passed : Passed list spot spot.end behind) where
   -- the chunk is the newline
-  lone-text : slice spot.at spot.end list ≡ 10 ∷ []
-  lone-text = slice_one spot.at spot.end list lone.one standing.inside ∙ rw lone.newline
+  lone_text : slice spot.at spot.end list ≡ 10 ∷ []
+  lone_text = slice_one spot.at spot.end list lone.one standing.inside ∙ rw lone.newline
 
   -- so nothing of it is laid, whether it ends the line or is ignored
-  pub stepped-newline : {ended : Bool} → ended ≡ not (ltb 0 n && leb n margins.label)
+  pub stepped_newline : {ended : Bool} → ended ≡ not (ltb 0 n && leb n margins.label)
       → Stepped margins list spot n (record { before = 0; from = spot.at; to = spot.at; behind = 0; ends = ended; spot = behind })
   unfolding newline_at
-  stepped-newline told =
+  stepped_newline told =
       let piece : PieceEnd = record { end = spot.end; newline = true } in
       let lay = lay_at margins list spot n piece in
-      let end : spot.end ≡ piece_end list spot = rw lone-text (omega (arith, lone.one)) in
-      let newline : true ≡ ltb (newline_at (rest_at list spot)) (spot.end - spot.at) = rw (lone-text, lone.one) in
+      let end : spot.end ≡ piece_end list spot = rw lone_text (omega (arith, lone.one)) in
+      let newline : true ≡ ltb (newline_at (rest_at list spot)) (spot.end - spot.at) = rw (lone_text, lone.one) in
       by_test (ltb 0 n && leb n margins.label)
       (λ skips.
       let skipped : lay.ignored ≡ true = rw (lone.code, lone.one, skips) in
-      stepped-ignored margins list spot n piece lay behind narrow standing inside end newline refl passed skipped
+      stepped_ignored margins list spot n piece lay behind narrow standing inside end newline refl passed skipped
       (told ∙ ap not skips ∙ sym (lt-leb (length list) spot.end lone.more)))
       (λ keeps.
       let kept : lay.ignored ≡ false = rw (lone.code, lone.one, keeps) in
-      rw (told ∙ ap not keeps) (stepped-none margins list spot n piece lay behind narrow standing inside end newline refl passed kept refl lone-text))
+      rw (told ∙ ap not keeps) (stepped_none margins list spot n piece lay behind narrow standing inside end newline refl passed kept refl lone_text))
 
 -- a line that has bytes keeps it where it is longer than the label margin
 pub keeps_is : (n label : ℕ) → 0 < n → ltb label n ≡ not (ltb 0 n && leb n label)

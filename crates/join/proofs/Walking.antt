@@ -64,18 +64,18 @@ longer_indent margins list line here = piece_indent list here line.indent
 module _ {margins : Margins} {list : List ℕ} {spot here : Spot} {line : Line} {n : ℕ} {step : Step} (walking : Walking margins list spot line here false)
     (long : n ≡ length line.bytes) (stepped : Stepped margins list here n step) where
   -- the longer line's bytes are the line's and the step's, and blanks that the step leaves out
-  longer-bytes : (longer margins list line here).bytes ≡ (line.bytes ++ step_bytes list step) ++ stepped.rest
+  longer_bytes : (longer margins list line here).bytes ≡ (line.bytes ++ step_bytes list step) ++ stepped.rest
   unfolding add
-  longer-bytes = rw (← long, stepped.bytes) (sym (append_assoc line.bytes (step_bytes list step) stepped.rest))
+  longer_bytes = rw (← long, stepped.bytes) (sym (append_assoc line.bytes (step_bytes list step) stepped.rest))
 
   -- none where the line goes on
-  longer-all : step.ends ≡ false → (longer margins list line here).bytes ≡ line.bytes ++ step_bytes list step
-  longer-all goes = longer-bytes ∙ ap (λ (rest : List ℕ). (line.bytes ++ step_bytes list step) ++ rest) (stepped.all goes) ∙ append-nil (line.bytes ++ step_bytes list step)
+  longer_all : step.ends ≡ false → (longer margins list line here).bytes ≡ line.bytes ++ step_bytes list step
+  longer_all goes = longer_bytes ∙ ap (λ (rest : List ℕ). (line.bytes ++ step_bytes list step) ++ rest) (stepped.all goes) ∙ append-nil (line.bytes ++ step_bytes list step)
 
   -- how many they are
-  longer-length : length (longer margins list line here).bytes ≡ n + (step.before + (step.to - step.from) + step.behind) + length stepped.rest
-  longer-length =
-      rw (longer-bytes, length-append (line.bytes ++ step_bytes list step) stepped.rest, length-append line.bytes (step_bytes list step), step_length list step stepped.inside, long)
+  longer_length : length (longer margins list line here).bytes ≡ n + (step.before + (step.to - step.from) + step.behind) + length stepped.rest
+  longer_length =
+      rw (longer_bytes, length-append (line.bytes ++ step_bytes list step) stepped.rest, length-append line.bytes (step_bytes list step), step_length list step stepped.inside, long)
 
   -- few enough that sums do not wrap
   pub step_room : length list ≤ 1048576 → n + (step.before + (step.to - step.from) + step.behind) < 4294967296
@@ -89,7 +89,7 @@ module _ {margins : Margins} {list : List ℕ} {spot here : Spot} {line : Line} 
     standing = stepped.standing;
     more = stepped.more;
     onward = λ _. omega (arith, walking.small, stepped.onward);
-    small = omega (arith, walking.small, stepped.small, stepped.onward, longer-length);
+    small = omega (arith, walking.small, stepped.small, stepped.onward, longer_length);
     low = rw (longer_indent margins list line here) (taken_low line.indent here walking.low walking.standing.small);
   }
 
@@ -171,10 +171,10 @@ module _ {margins : Margins} {list : List ℕ} {spot here : Spot} {measure reach
   }
 
   -- with a step more the line is the longer one
-  longer-on : step.ends ≡ false → (line : Line) → length line.bytes ≡ measure.length → taken line.indent spot ≡ Set n
+  longer_on : step.ends ≡ false → (line : Line) → length line.bytes ≡ measure.length → taken line.indent spot ≡ Set n
       → Longer margins list line spot (ran.more ++ step_bytes list step) step.spot (Set n)
   unfolding first_line add
-  longer-on goes line long e =
+  longer_on goes line long e =
       let on = ran.longer line long e in
       let all : length (line.bytes ++ ran.more) ≡ reached.length = omega (arith, length-append line.bytes ran.more, ran.long) in
       let adds : added margins reached.length (piece_at list here) ≡ step_bytes list step =
@@ -194,7 +194,7 @@ module _ {margins : Margins} {list : List ℕ} {spot here : Spot} {measure reach
       let size = step_length list step stepped.inside in
       record {
         more = ran.more ++ step_bytes list step;
-        longer = longer-on goes;
+        longer = longer_on goes;
         measured = λ bytes known. rw (append_assoc bytes ran.more (step_bytes list step)) at (counted (bytes ++ ran.more) (ran.measured bytes known));
         long = omega (arith, length-append ran.more (step_bytes list step), ran.long);
         fits = fits;
@@ -248,8 +248,8 @@ pausing_on {margins = margins} {list = list} {here = here} pausing stepped count
     record {
       line = longer margins list line here;
       walking = walking_on pausing.walking long stepped;
-      measured = λ goes. rw (longer-all pausing.walking long stepped goes) (counted line.bytes pausing.measured);
-      inked = rw (longer-bytes pausing.walking long stepped) (inked_behind stepped.rest (counted line.bytes pausing.measured) stepped.blank);
+      measured = λ goes. rw (longer_all pausing.walking long stepped goes) (counted line.bytes pausing.measured);
+      inked = rw (longer_bytes pausing.walking long stepped) (inked_behind stepped.rest (counted line.bytes pausing.measured) stepped.blank);
       takes = pausing.takes ∙ sym (longer_indent margins list line here);
       fits = fits;
     }
@@ -327,8 +327,8 @@ writing_on {margins} {list} {here} {step = step} writing stepped writes counts =
     record {
       line = longer margins list line here;
       walking = walking_on walking long stepped;
-      showing = rw (longer-bytes walking long stepped) (showing_on line.bytes (step_bytes list step) (showing_open writing.showing) long writes stepped.blank stepped.all);
-      long = λ goes. counts ∙ omega (arith, longer-length walking long stepped, ap (λ (rest : List ℕ). length rest) (stepped.all goes));
+      showing = rw (longer_bytes walking long stepped) (showing_on line.bytes (step_bytes list step) (showing_open writing.showing) long writes stepped.blank stepped.all);
+      long = λ goes. counts ∙ omega (arith, longer_length walking long stepped, ap (λ (rest : List ℕ). length rest) (stepped.all goes));
     }
 
 -- at its end the line is written
@@ -411,7 +411,7 @@ placing_on {list = list} {step = step} placing stepped writes counted fits =
     let long = pausing.measured.length in
     record {
       measuring = pausing_on pausing stepped counted fits;
-      showing = rw (longer-bytes pausing.walking long stepped) (showing_on line.bytes (step_bytes list step) placing.written long writes stepped.blank stepped.all);
+      showing = rw (longer_bytes pausing.walking long stepped) (showing_on line.bytes (step_bytes list step) placing.written long writes stepped.blank stepped.all);
     }
 
 -- at its end the line is written

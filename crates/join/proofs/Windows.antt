@@ -88,21 +88,21 @@ shown_room window at n room first last some fits = omega arith
 
 module _ (text : List ℕ) (window : Window) (at : ℕ) (bytes : List ℕ) {from to : ℕ} (first : from ≡ max at window.low) (last : to ≡ min (at + length bytes) window.high) where
   -- the part that the window shows, as the code counts it
-  puts-part : puts text window at bytes ≡ sets text (window.base + (from - window.low)) (take (to - at - (from - at)) (drop (from - at) bytes))
-  puts-part =
+  puts_part : puts text window at bytes ≡ sets text (window.base + (from - window.low)) (take (to - at - (from - at)) (drop (from - at) bytes))
+  puts_part =
       let start = later at window.low from first in
       let end : to - at ≡ min (window.high - at) (length bytes) = omega arith in
       puts_slice text window at bytes ∙ rw (part_slice (from - at) (to - at) bytes, start.0, start.1, end, take_clipped (window.high - at) bytes)
 
   -- bytes of which the window shows none leave the text as it is
-  pub puts-hidden : to ≤ from → text ≡ puts text window at bytes
-  puts-hidden none =
+  pub puts_hidden : to ≤ from → text ≡ puts text window at bytes
+  puts_hidden none =
       let nothing : to - at - (from - at) ≡ 0 = omega arith in
-      sym (puts-part ∙ rw nothing)
+      sym (puts_part ∙ rw nothing)
 
   -- bytes of which the window shows some are stored as that part of them
-  pub puts-shown : sets text (window.base + (from - window.low)) (take (to - at - (from - at)) (drop (from - at) bytes)) ≡ puts text window at bytes
-  puts-shown = sym puts-part
+  pub puts_shown : sets text (window.base + (from - window.low)) (take (to - at - (from - at)) (drop (from - at) bytes)) ≡ puts text window at bytes
+  puts_shown = sym puts_part
 
   -- which has room
   pub part_room : from < to → Room window (length text) → window.base + (from - window.low) + length (take (to - at - (from - at)) (drop (from - at) bytes)) ≤ length text
@@ -118,7 +118,7 @@ pub spaces_shown : (text : List ℕ) (window : Window) (at count : ℕ) {from to
 spaces_shown text window at count {from} {to} first last some =
     let within : from - at + (to - from) ≤ count = omega arith in
     rw (← (spaces_part (from - at) (to - from) count within), ← (part_count at from to (omega arith)))
-    (puts-shown text window at (spaces count) first (rw (length-replicate {A = ℕ} count 32) last))
+    (puts_shown text window at (spaces count) first (rw (length-replicate {A = ℕ} count 32) last))
 
 -- ---- a step
 

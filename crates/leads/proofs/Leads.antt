@@ -25,7 +25,7 @@ use Rattle.printing.proofs.Running.{◌then◌, finish, stopped_there, handed_on
 use Rattle.events.specs.Views.{block_bit}
 use Rattle.events.specs.Refusals.{head_refusal}
 use Rattle.events.specs.Trees.{Before, list_trivia, break_before, closing_events, block_end}
-use Rattle.events.proofs.Heads.{head-missing, head_read, number_read, block_read, own-refused, own_read}
+use Rattle.events.proofs.Heads.{head_missing, head_read, number_read, block_read, own_refused, own_read}
 use Rattle.leaves.specs.Items.{items_at}
 use Rattle.leaves.proofs.Leaves.{full_refused}
 use Rattle.leads.specs.Leads.{lead_in, Led, LeadsAt, LeadsIn}
@@ -36,18 +36,18 @@ use Rattle.leads.specs.declared.Lead.TheVariants.{Over}
 
 module _ (levels : ℕ) (bytes : List ℕ) (at : ℕ) where
   -- the token's own bytes are refused
-  pub token-missing : (why : Refusal) → read_own bytes at BareToken levels ≡ Refused why → head_refusal (read levels bytes BareToken at).tree ≡ Failed why
+  pub token_missing : (why : Refusal) → read_own bytes at BareToken levels ≡ Refused why → head_refusal (read levels bytes BareToken at).tree ≡ Failed why
   unfolding head_at
-  token-missing why is = head-missing bytes BareToken false refl levels at why (ap (head_on levels bytes BareToken at) is)
+  token_missing why is = head_missing bytes BareToken false refl levels at why (ap (head_on levels bytes BareToken at) is)
 
   module _ (context : Context) (drops : Bool) (before : Before) (room : List ℕ) (state : CodeFormatter) where
     -- a refusal ends the walk, whatever comes behind it
-    pub lead-stopped : {why : Refusal} → head_refusal (read levels bytes BareToken at).tree ≡ Failed why → state.full ≡ 0 → (next : Events) (end : ℕ)
+    pub lead_stopped : {why : Refusal} → head_refusal (read levels bytes BareToken at).tree ≡ Failed why → state.full ≡ 0 → (next : Events) (end : ℕ)
         → Shown (answer-is.Refused why) room (lead_in context drops before (read levels bytes BareToken at).tree ▹ next) (going room state) end
-    lead-stopped met left next end = handed_on {end = at} (rw met (handed_on {end = at} (stopped_there left) refl)) refl
+    lead_stopped met left next end = handed_on {end = at} (rw met (handed_on {end = at} (stopped_there left) refl)) refl
 
     -- nothing is met: the trivia of the head and the newline are run
-    pub lead-ready : (middle : List ℕ) (shown : CodeFormatter) {left : List ℕ} {last : CodeFormatter} (number : ℕ) (block : Bool) (token own : Own) (head : Head)
+    pub lead_ready : (middle : List ℕ) (shown : CodeFormatter) {left : List ℕ} {last : CodeFormatter} (number : ℕ) (block : Bool) (token own : Own) (head : Head)
         → read_own bytes at BareToken levels ≡ Record token → head_at levels bytes BareToken at ≡ Found head
         → read_own bytes head.place head.class head.levels ≡ Record own → items_at bytes own.trivia own.trivia_count ≡ trivia_of bytes own
         → number ≡ get_or bytes at 0 → block ≡ block_bit number (token.map / 2)
@@ -55,7 +55,7 @@ module _ (levels : ℕ) (bytes : List ℕ) (at : ℕ) where
         → run (break_before context before number block) (going middle shown) ≡ going left last
         → Led token own last left (going room state) (lead_in context drops before (read levels bytes BareToken at).tree) levels bytes at
     unfolding run
-    lead-ready middle shown number block token own head is found reads items first second listed broken =
+    lead_ready middle shown number block token own head is found reads items first second listed broken =
         let met = head_read bytes BareToken false refl levels at head own found reads in
         record {
           token = is;
@@ -76,19 +76,19 @@ module _ (levels : ℕ) (bytes : List ℕ) (at : ℕ) where
     -- ---- what is shown behind the last
 
     -- where the brace's own bytes were refused
-    pub closing-stopped : {own : OwnRead} {why said : Refusal} → own ≡ read_own bytes at CloseBrace levels → own ≡ Refused why → said ≡ refusal_of own → state.full ≡ 0
+    pub closing_stopped : {own : OwnRead} {why said : Refusal} → own ≡ read_own bytes at CloseBrace levels → own ≡ Refused why → said ≡ refusal_of own → state.full ≡ 0
         → Shown (answer-is.Refused said) room (closing_events context drops before (block_end (read levels bytes CloseBrace at).tree)) (going room state) at
-    closing-stopped {own} {why} same is says left =
-        rw (says ∙ ap refusal_of is, own-refused levels bytes CloseBrace at why (sym same ∙ is)) (handed_on {end = at} (stopped_there left) refl)
+    closing_stopped {own} {why} same is says left =
+        rw (says ∙ ap refusal_of is, own_refused levels bytes CloseBrace at why (sym same ∙ is)) (handed_on {end = at} (stopped_there left) refl)
 
     -- where they were read
-    pub closing-shown : {answer : Printed} {found : OwnRead} (middle : List ℕ) (next : CodeFormatter) {left : List ℕ} {last : CodeFormatter} (own : Own)
+    pub closing_shown : {answer : Printed} {found : OwnRead} (middle : List ℕ) (next : CodeFormatter) {left : List ℕ} {last : CodeFormatter} (own : Own)
         → found ≡ read_own bytes at CloseBrace levels → found ≡ Record own → items_at bytes own.trivia own.trivia_count ≡ trivia_of bytes own
         → run (list_trivia context drops (items_at bytes own.trivia own.trivia_count)) (going room state) ≡ going middle next
         → run (break_before context before 7 false) (going middle next) ≡ going left last → answer ≡ finished last at
         → Shown answer left (closing_events context drops before (block_end (read levels bytes CloseBrace at).tree)) (going room state) at
     unfolding run
-    closing-shown middle next own same is items listed broken answered =
+    closing_shown middle next own same is items listed broken answered =
         let brace = own_read levels bytes CloseBrace at own (sym same ∙ is) in
         rw (brace.0, brace.1, ← items)
         (record { ran = refl } then record { ran = listed } then finish (record { ran = broken }) answered refl)
@@ -97,17 +97,17 @@ module _ (levels : ℕ) (bytes : List ℕ) (at : ℕ) where
 
 module _ {levels : ℕ} {bytes : List ℕ} {context : Context} {drops : Bool} {before : Before} {last : Printed} {room : List ℕ} where
   -- what was refused stays refused
-  pub over-stays : {why : Refusal} → last ≡ answer-is.Refused why → LeadsIn (Over last) room last room context drops before levels bytes
-  over-stays is = record {
+  pub over_stays : {why : Refusal} → last ≡ answer-is.Refused why → LeadsIn (Over last) room last room context drops before levels bytes
+  over_stays is = record {
     from = λ at here next end.
         (refused_before {events = λ (at : ℕ). lead_in context drops before (read levels bytes BareToken at).tree ▹ next} {end = λ (at : ℕ). end} is).from at here;
   }
 
   -- what was done goes on
-  pub lead-from : {lead : Lead} {left : List ℕ} {state : CodeFormatter} {at : ℕ} → last ≡ answer-is.Done state at
+  pub lead_from : {lead : Lead} {left : List ℕ} {state : CodeFormatter} {at : ℕ} → last ≡ answer-is.Done state at
       → LeadsAt lead left (going room state) (lead_in context drops before (read levels bytes BareToken at).tree) levels bytes at
       → LeadsIn lead left last room context drops before levels bytes
-  lead-from {at = at} is there = record {
+  lead_from {at = at} is there = record {
     from = λ place here.
         let same : at ≡ place = sym (ap (λ (a : Printed). place_of a place) is) ∙ here in
         rw (← same, is) there;
@@ -115,10 +115,10 @@ module _ {levels : ℕ} {bytes : List ℕ} {context : Context} {drops : Bool} {b
 
   module _ {state : CodeFormatter} {at : ℕ} (is : last ≡ answer-is.Done state at) where
     -- a state that was full
-    pub over-full : {answer : Printed} → answer ≡ finished state at → (state.full ≡ 0 → ⊥) → LeadsIn (Over answer) room last room context drops before levels bytes
-    over-full answered full = lead-from is (λ next end. full_refused at answered full)
+    pub over_full : {answer : Printed} → answer ≡ finished state at → (state.full ≡ 0 → ⊥) → LeadsIn (Over answer) room last room context drops before levels bytes
+    over_full answered full = lead_from is (λ next end. full_refused at answered full)
 
     -- a refusal on the way
-    pub over-met : {why said : Refusal} → head_refusal (read levels bytes BareToken at).tree ≡ Failed why → said ≡ why → state.full ≡ 0
+    pub over_met : {why said : Refusal} → head_refusal (read levels bytes BareToken at).tree ≡ Failed why → said ≡ why → state.full ≡ 0
         → LeadsIn (Over (answer-is.Refused said)) room last room context drops before levels bytes
-    over-met met says left = rw says (lead-from is (lead-stopped levels bytes at context drops before room state met left))
+    over_met met says left = rw says (lead_from is (lead_stopped levels bytes at context drops before room state met left))

@@ -34,7 +34,7 @@ use Rattle.printing.specs.declared.Printed.TheVariants.{Done}
 use Rattle.printing.proofs.Running.{told, ◌then◌, some_place}
 use Rattle.events.specs.Views.{bit_at}
 use Rattle.events.specs.Trees.{Place, events_in}
-use Rattle.events.proofs.OwnParts.{Fielded, record_headed, record-parts}
+use Rattle.events.proofs.OwnParts.{Fielded, record_headed, record_parts}
 use Rattle.leaves.specs.Lists.{item_trees, items_end}
 use Rattle.leaves.specs.Records.{PrintsField, PrintsKind, field_trees, fields_end, Opens, closed_by}
 use Rattle.leaves.specs.declared.record.Opened.{Opened}
@@ -123,7 +123,7 @@ kind_read bytes class at levels own kind is same other =
     let fit = held.fits (rw number at both.1) in
     let done = fields_read (read (levels - 1) bytes) (fields own.kind (rule class).value) (own.map / 2) own.end fit in
     rw ((read_record bytes class at levels own is).1, held.parts, done.0, done.1, same, text_free kind _ _ other) (refl, refl))
-    (record-parts bytes at class levels own is)
+    (record_parts bytes at class levels own is)
 
 -- where no list may stand it lies between the first and the last
 pub standing_range : (rule : Rule) (number : ℕ) → rule.items ≡ NoList → may_stand rule number ≡ true → (rule.first ≤ number) × (number ≤ rule.last)
@@ -163,44 +163,44 @@ module _ {context : Context} {shown : Bool} {levels : ℕ} {bytes : List ℕ} {c
     (opens : Opens opened left last room context shown levels bytes class stands)
   where
     -- where it was not opened
-    pub shown-closed : (place : Place) {answer said : Printed} → opened ≡ opened-is.Closed answer → said ≡ closed_by opened
+    pub shown_closed : (place : Place) {answer said : Printed} → opened ≡ opened-is.Closed answer → said ≡ closed_by opened
         → PrintsField said left last room context place shown levels bytes class stands
-    shown-closed place {answer} {said} is says =
+    shown_closed place {answer} {said} is says =
         let same : said ≡ answer = says ∙ ap closed_by is in
         let shut : Opens (opened-is.Closed answer) left last room context shown levels bytes class stands = rw is at opens in
         record { from = λ at here. rw same (shut.from at here place) }
 
     module _ {own : Own} {state : CodeFormatter} (is : opened ≡ opened-is.Record own state) where
       -- its own bytes were read, and its trivia have been run
-      opened-own : Opens (opened-is.Record own state) left last room context shown levels bytes class stands
-      opened-own = rw is at opens
+      opened_own : Opens (opened-is.Record own state) left last room context shown levels bytes class stands
+      opened_own = rw is at opens
 
       -- a level was left
-      pub opened-levels : 0 < levels
-      opened-levels =
+      pub opened_levels : 0 < levels
+      opened_levels =
           let there = some_place last in
-          (read_record bytes class there.0 levels own (opened-own.from there.0 there.1).1).0
+          (read_record bytes class there.0 levels own (opened_own.from there.0 there.1).1).0
 
       -- where they stand
-      pub opened-fits : (own.text ≤ own.end) × (own.end ≤ length bytes)
-      opened-fits =
+      pub opened_fits : (own.text ≤ own.end) × (own.end ≤ length bytes)
+      opened_fits =
           let there = some_place last in
-          let held = (opened-own.from there.0 there.1).2 in
+          let held = (opened_own.from there.0 there.1).2 in
           (held.part, held.inside)
 
       -- its number is one that may stand
-      pub opened-range : (rule class).items ≡ NoList → ((rule class).first ≤ kind_number own.kind) × (kind_number own.kind ≤ (rule class).last)
-      opened-range none =
+      pub opened_range : (rule class).items ≡ NoList → ((rule class).first ≤ kind_number own.kind) × (kind_number own.kind ≤ (rule class).last)
+      opened_range none =
           let there = some_place last in
-          let read = (opened-own.from there.0 there.1).1 in
+          let read = (opened_own.from there.0 there.1).1 in
           let number = kind_number_lem (get_or bytes there.0 0) own.kind (record_headed bytes there.0 class levels own read).1.kind_is in
           rw number (standing_range (rule class) (get_or bytes there.0 0) none (record_headed bytes there.0 class levels own read).1.standing)
 
       -- and says which kind it is
-      pub opened-by-number : (number : ℕ) (kind : Kind) → kind_number own.kind ≡ number → kind_of number ≡ Known kind → own.kind ≡ kind
-      opened-by-number number kind same known =
+      pub opened_by_number : (number : ℕ) (kind : Kind) → kind_number own.kind ≡ number → kind_of number ≡ Known kind → own.kind ≡ kind
+      opened_by_number number kind same known =
           let there = some_place last in
-          let found = (record_headed bytes there.0 class levels own (opened-own.from there.0 there.1).1).1.kind_is in
+          let found = (record_headed bytes there.0 class levels own (opened_own.from there.0 there.1).1).1.kind_is in
           let here : get_or bytes there.0 0 ≡ number = sym (kind_number_lem (get_or bytes there.0 0) own.kind found) ∙ same in
           let both : kind_of number ≡ Known own.kind = rw here at found in
           cc
@@ -209,8 +209,8 @@ module _ {context : Context} {shown : Bool} {levels : ℕ} {bytes : List ℕ} {c
       pub opened_one : (number : ℕ) (kind : Kind) → (rule class).items ≡ NoList → (rule class).first ≡ number → (rule class).last ≡ number → kind_of number ≡ Known kind
           → own.kind ≡ kind
       opened_one number kind none low high known =
-          let range = opened-range none in
-          opened-by-number number kind (omega arith) known
+          let range = opened_range none in
+          opened_by_number number kind (omega arith) known
 
       module _ (place : Place) {answer : Printed} {after : List ℕ} where
         -- what is printed behind own bytes is printed of the record
@@ -221,7 +221,7 @@ module _ {context : Context} {shown : Bool} {levels : ℕ} {bytes : List ℕ} {c
         unfolding events_in
         opened-as tree end read_as done = record {
           from = λ at here.
-              let own = opened-own.from at here in
+              let own = opened_own.from at here in
               let same = read_as at own.1 in
               rw (own.0, same.0, same.1) (record { ran = own.3 } then done);
         }

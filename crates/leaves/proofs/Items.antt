@@ -74,88 +74,88 @@ item_lies bytes at item same told = let this = item_read bytes at item (sym same
 
 module _ (context : Context) (item : Trivium) where
   -- whitespace has none
-  pub run-whitespace : item.code ≡ 0 → (before : Run) → run (trivium_events context item) before ≡ before
+  pub run_whitespace : item.code ≡ 0 → (before : Run) → run (trivium_events context item) before ≡ before
   unfolding run
-  run-whitespace code before = rw (eq-eqb _ _ code)
+  run_whitespace code before = rw (eq-eqb _ _ code)
 
   module _ (room after : List ℕ) (state next : CodeFormatter) where
     -- a newline is a chunk of code
-    pub run-newline : (item.code ≡ 0 → ⊥) → item.code ≡ 1 → Pushed room state chunk.Code context (10 ∷ []) next after
+    pub run_newline : (item.code ≡ 0 → ⊥) → item.code ≡ 1 → Pushed room state chunk.Code context (10 ∷ []) next after
         → run (trivium_events context item) (going room state) ≡ going after next
-    run-newline some code done = rw (ne_eqb _ _ some, eq-eqb _ _ code) (ran_push done).ran
+    run_newline some code done = rw (ne_eqb _ _ some, eq-eqb _ _ code) (ran_push done).ran
 
     -- a comment is one of its own type
-    pub run-comment : (item.code ≡ 0 → ⊥) → (item.code ≡ 1 → ⊥) → Pushed room state chunk.Comment context item.text next after
+    pub run_comment : (item.code ≡ 0 → ⊥) → (item.code ≡ 1 → ⊥) → Pushed room state chunk.Comment context item.text next after
         → run (trivium_events context item) (going room state) ≡ going after next
-    run-comment some other done = rw (ne_eqb _ _ some, ne_eqb _ _ other) (ran_push done).ran
+    run_comment some other done = rw (ne_eqb _ _ some, ne_eqb _ _ other) (ran_push done).ran
 
 -- ---- the events of items
 
 module _ (context : Context) where
   -- none
-  run-no-items : (before : Run) → run (trivia_events context []) before ≡ before
+  run_no_items : (before : Run) → run (trivia_events context []) before ≡ before
   unfolding run trivia_events
-  run-no-items before = refl
+  run_no_items before = refl
 
   -- one, and those behind it
-  run-items : (item : Trivium) (items : List Trivium) (before : Run) → run (trivia_events context (item ∷ items)) before ≡ run (trivia_events context items) (run (trivium_events context item) before)
+  run_items : (item : Trivium) (items : List Trivium) (before : Run) → run (trivia_events context (item ∷ items)) before ≡ run (trivia_events context items) (run (trivium_events context item) before)
   unfolding run trivia_events
-  run-items item items before = refl
+  run_items item items before = refl
 
   module _ (bytes : List ℕ) (at left : ℕ) where
     -- where no item is left nothing is run
-    pub run-left : left ≤ 0 → (before : Run) → run (trivia_events context (items_at bytes at left)) before ≡ before
-    run-left none before = rw (items_none bytes at left none) (run-no-items before)
+    pub run_left : left ≤ 0 → (before : Run) → run (trivia_events context (items_at bytes at left)) before ≡ before
+    run_left none before = rw (items_none bytes at left none) (run_no_items before)
 
     module _ (some : 0 < left) {found : TriviumRead} (same : found ≡ trivium_at bytes at) where
       -- nor before an item that breaks the layout
-      pub run-broken : found ≡ BrokenItem → (before : Run) → run (trivia_events context (items_at bytes at left)) before ≡ before
-      run-broken told before = rw (items_next bytes at left some same BrokenItem told) (run-no-items before)
+      pub run_broken : found ≡ BrokenItem → (before : Run) → run (trivia_events context (items_at bytes at left)) before ≡ before
+      run_broken told before = rw (items_next bytes at left some same BrokenItem told) (run_no_items before)
 
       -- an item is run, and those behind it go on from there
-      pub run-next : (item : TriviumSpan) → found ≡ Item item → (before : Run) {after : Run} → run (trivium_events context (item_of bytes item)) before ≡ after
+      pub run_next : (item : TriviumSpan) → found ≡ Item item → (before : Run) {after : Run} → run (trivium_events context (item_of bytes item)) before ≡ after
           → run (trivia_events context (items_at bytes at left)) before ≡ run (trivia_events context (items_at bytes item.end (left - 1))) after
-      run-next item told before ran =
-          rw (items_next bytes at left some same (Item item) told, ← ran) (run-items (item_of bytes item) (items_at bytes item.end (left - 1)) before)
+      run_next item told before ran =
+          rw (items_next bytes at left some same (Item item) told, ← ran) (run_items (item_of bytes item) (items_at bytes item.end (left - 1)) before)
 
   -- none without the newlines first
-  run-no-lead : (before : Run) → run (lead_events context []) before ≡ before
+  run_no_lead : (before : Run) → run (lead_events context []) before ≡ before
   unfolding run lead_events
-  run-no-lead before = refl
+  run_no_lead before = refl
 
   -- a newline is dropped
-  lead-dropped : (item : Trivium) (items : List Trivium) → only_newline item ≡ true → lead_events context (item ∷ items) ≡ lead_events context items
+  lead_dropped : (item : Trivium) (items : List Trivium) → only_newline item ≡ true → lead_events context (item ∷ items) ≡ lead_events context items
   unfolding lead_events
-  lead-dropped item items newline = rw newline
+  lead_dropped item items newline = rw newline
 
   -- from any other item on all are kept
-  lead-kept : (item : Trivium) (items : List Trivium) → only_newline item ≡ false → lead_events context (item ∷ items) ≡ trivia_events context (item ∷ items)
+  lead_kept : (item : Trivium) (items : List Trivium) → only_newline item ≡ false → lead_events context (item ∷ items) ≡ trivia_events context (item ∷ items)
   unfolding lead_events trivia_events
-  lead-kept item items other = rw other
+  lead_kept item items other = rw other
 
   module _ (bytes : List ℕ) (at left : ℕ) where
     -- without the newlines first, where no item is left
-    pub lead-left : left ≤ 0 → (before : Run) → run (lead_events context (items_at bytes at left)) before ≡ before
-    lead-left none before = rw (items_none bytes at left none) (run-no-lead before)
+    pub lead_left : left ≤ 0 → (before : Run) → run (lead_events context (items_at bytes at left)) before ≡ before
+    lead_left none before = rw (items_none bytes at left none) (run_no_lead before)
 
     module _ (some : 0 < left) {found : TriviumRead} (same : found ≡ trivium_at bytes at) where
       -- before an item that breaks the layout
-      pub lead-broken : found ≡ BrokenItem → (before : Run) → run (lead_events context (items_at bytes at left)) before ≡ before
-      lead-broken told before = rw (items_next bytes at left some same BrokenItem told) (run-no-lead before)
+      pub lead_broken : found ≡ BrokenItem → (before : Run) → run (lead_events context (items_at bytes at left)) before ≡ before
+      lead_broken told before = rw (items_next bytes at left some same BrokenItem told) (run_no_lead before)
 
       module _ (item : TriviumSpan) (told : found ≡ Item item) {newline : Bool} (tested : newline ≡ only_newline (item_of bytes item)) (before : Run) where
         -- at a newline
         pub lead-on : newline ≡ true → run (lead_events context (items_at bytes at left)) before ≡ run (lead_events context (items_at bytes item.end (left - 1))) before
         lead-on yes_way =
             ap (λ (items : List Trivium). run (lead_events context items) before) (items_next bytes at left some same (Item item) told)
-            ∙ ap (λ (events : Events). run events before) (lead-dropped (item_of bytes item) (items_at bytes item.end (left - 1)) (sym tested ∙ yes_way))
+            ∙ ap (λ (events : Events). run events before) (lead_dropped (item_of bytes item) (items_at bytes item.end (left - 1)) (sym tested ∙ yes_way))
 
         -- at any other item
         pub lead-stops : newline ≡ false → run (lead_events context (items_at bytes at left)) before ≡ run (trivia_events context (items_at bytes at left)) before
         lead-stops no_way =
             let first = items_next bytes at left some same (Item item) told in
             ap (λ (items : List Trivium). run (lead_events context items) before) first
-            ∙ ap (λ (events : Events). run events before) (lead-kept (item_of bytes item) (items_at bytes item.end (left - 1)) (sym tested ∙ no_way))
+            ∙ ap (λ (events : Events). run events before) (lead_kept (item_of bytes item) (items_at bytes item.end (left - 1)) (sym tested ∙ no_way))
             ∙ ap (λ (items : List Trivium). run (trivia_events context items) before) (sym first)
 
 -- ---- whether an item is only a newline
@@ -172,27 +172,27 @@ no_bytes (b ∷ text) none = absurd (omega arith)
 
 module _ (bytes : List ℕ) (item : TriviumSpan) (some : item.code ≡ 0 → ⊥) (other : item.code ≡ 1 → ⊥) (within : (item.start ≤ item.end) × (item.end ≤ length bytes)) where
   -- by its text
-  by-text : only_newline (item_of bytes item) ≡ (is_empty (slice item.start item.end bytes) || is_newline (slice item.start item.end bytes))
-  by-text = rw (ne_eqb _ _ some, ne_eqb _ _ other)
+  by_text : only_newline (item_of bytes item) ≡ (is_empty (slice item.start item.end bytes) || is_newline (slice item.start item.end bytes))
+  by_text = rw (ne_eqb _ _ some, ne_eqb _ _ other)
 
   -- whose length is known from its places
-  text-length : length (slice item.start item.end bytes) ≡ item.end - item.start
-  text-length = length-slice _ _ bytes within.1
+  text_length : length (slice item.start item.end bytes) ≡ item.end - item.start
+  text_length = length-slice _ _ bytes within.1
 
   -- a comment without a text
-  pub only-empty : item.end - item.start ≡ 0 → true ≡ only_newline (item_of bytes item)
-  only-empty none = sym (by-text ∙ rw (no_bytes _ (text-length ∙ none)))
+  pub only_empty : item.end - item.start ≡ 0 → true ≡ only_newline (item_of bytes item)
+  only_empty none = sym (by_text ∙ rw (no_bytes _ (text_length ∙ none)))
 
   -- one with a text of one byte
   pub only_one : item.end - item.start ≡ 1 → eqb (get_or bytes item.start 0) 10 ≡ only_newline (item_of bytes item)
   only_one one =
       let text = slice item.start item.end bytes in
       let same : get_or text 0 0 ≡ get_or bytes item.start 0 = ap (λ (l : List ℕ). get_or l 0 0) (slice-cons item.start item.end bytes 0 (omega arith) within.1) in
-      sym (by-text ∙ empty_or_newline text (λ (e : length text ≡ 0). omega (arith, text-length)) ∙ sym (newline_one text (text-length ∙ one)) ∙ rw same)
+      sym (by_text ∙ empty_or_newline text (λ (e : length text ≡ 0). omega (arith, text_length)) ∙ sym (newline_one text (text_length ∙ one)) ∙ rw same)
 
   -- one with a longer text
-  pub only-longer : (item.end - item.start ≡ 0 → ⊥) → (item.end - item.start ≡ 1 → ⊥) → false ≡ only_newline (item_of bytes item)
-  only-longer any long =
+  pub only_longer : (item.end - item.start ≡ 0 → ⊥) → (item.end - item.start ≡ 1 → ⊥) → false ≡ only_newline (item_of bytes item)
+  only_longer any long =
       let text = slice item.start item.end bytes in
-      newline_other text (λ (e : length text ≡ 1). long (sym text-length ∙ e))
-      ∙ sym (by-text ∙ empty_or_newline text (λ (e : length text ≡ 0). any (sym text-length ∙ e)))
+      newline_other text (λ (e : length text ≡ 1). long (sym text_length ∙ e))
+      ∙ sym (by_text ∙ empty_or_newline text (λ (e : length text ≡ 0). any (sym text_length ∙ e)))

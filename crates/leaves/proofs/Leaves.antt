@@ -21,7 +21,7 @@ use Rattle.tree.specs.declared.own.Own.{Own}
 use Rattle.tree.specs.declared.own.OwnRead.{OwnRead}
 use Rattle.tree.specs.declared.own.OwnRead.TheVariants.{Record, Refused}
 use Rattle.tree.specs.declared.own.TriviaSpan.{TriviaSpan}
-use Rattle.tree.proofs.OwnBytes.{Headed, own-cases}
+use Rattle.tree.proofs.OwnBytes.{Headed, own_cases}
 use Rattle.printing.specs.Events.{Events, nothing, ◌▹◌}
 use Rattle.printing.specs.Running.{Run, going, run, finished, Shown}
 use Rattle.printing.specs.declared.CodeFormatter.{CodeFormatter}
@@ -61,56 +61,56 @@ leaf_number_lem class leaves number stands =
 
 module _ (bytes : List ℕ) (class : Class) (leaves : LeafClass class) (at : ℕ) where
   -- so the kind is
-  headed-leaf : (kind : Kind) (trivia : TriviaSpan) → Headed bytes at class kind trivia → kind ≡ Leaf
-  headed-leaf kind trivia headed =
+  headed_leaf : (kind : Kind) (trivia : TriviaSpan) → Headed bytes at class kind trivia → kind ≡ Leaf
+  headed_leaf kind trivia headed =
       let number : get_or bytes at 0 ≡ 25 = leaf_number_lem class leaves (get_or bytes at 0) headed.standing in
       let known : kind_of 25 ≡ Known kind = rw number at headed.kind_is in
       cc
 
   -- of every record of the class that was read
-  pub own-leaf : (levels : ℕ) (own : Own) → read_own bytes at class levels ≡ Record own → own.kind ≡ Leaf
-  own-leaf =
-      own-cases bytes at class (λ own. own.kind ≡ Leaf)
-      (λ kind trivia headed list room. headed-leaf kind trivia headed)
-      (λ kind trivia end headed number stands text. headed-leaf kind trivia headed)
-      (λ kind trivia headed list number. headed-leaf kind trivia headed)
+  pub own_leaf : (levels : ℕ) (own : Own) → read_own bytes at class levels ≡ Record own → own.kind ≡ Leaf
+  own_leaf =
+      own_cases bytes at class (λ own. own.kind ≡ Leaf)
+      (λ kind trivia headed list room. headed_leaf kind trivia headed)
+      (λ kind trivia end headed number stands text. headed_leaf kind trivia headed)
+      (λ kind trivia headed list number. headed_leaf kind trivia headed)
 
   -- and it has no parts
-  no-parts : (own : Own) → own.kind ≡ Leaf → parts_due class own ≡ []
+  no_parts : (own : Own) → own.kind ≡ Leaf → parts_due class own ≡ []
   unfolding parts_due fields_due
-  no-parts own is = rw (is, leaves.2)
+  no_parts own is = rw (is, leaves.2)
 
   module _ (context : Context) (style : Style) (shown : Bool) (levels : ℕ) where
     -- what is printed of its own bytes is what the events of its tree are, and the place behind them is the one behind it
-    on-leaf : (reader : Reader) (found : OwnRead) → read_own bytes at class levels ≡ found
+    on_leaf : (reader : Reader) (found : OwnRead) → read_own bytes at class levels ≡ found
         → (own_events context style shown bytes found ≡ events_in context (leaf style) shown (read_on reader bytes class at found).tree)
         × (own_end at found ≡ (read_on reader bytes class at found).end)
     unfolding events_in built read_parts
-    on-leaf reader (Record own) is =
-        let kind = own-leaf levels own is in
-        rw (no-parts own kind, kind) (refl, refl)
-    on-leaf reader (Refused why) is = (refl, refl)
+    on_leaf reader (Record own) is =
+        let kind = own_leaf levels own is in
+        rw (no_parts own kind, kind) (refl, refl)
+    on_leaf reader (Refused why) is = (refl, refl)
 
   -- at all levels
-  leaf-read : (context : Context) (style : Style) (shown : Bool) (levels : ℕ)
+  leaf_read : (context : Context) (style : Style) (shown : Bool) (levels : ℕ)
       → (own_events context style shown bytes (read_own bytes at class levels) ≡ events_in context (leaf style) shown (read levels bytes class at).tree)
       × (own_end at (read_own bytes at class levels) ≡ (read levels bytes class at).end)
   unfolding read
-  leaf-read context style shown zero = on-leaf context style shown zero unread _ refl
-  leaf-read context style shown (suc levels) = on-leaf context style shown (suc levels) (read levels bytes) _ refl
+  leaf_read context style shown zero = on_leaf context style shown zero unread _ refl
+  leaf_read context style shown (suc levels) = on_leaf context style shown (suc levels) (read levels bytes) _ refl
 
   -- so what is shown of its own bytes is shown of its tree
-  pub leaf-shown : (context : Context) (style : Style) (shown : Bool) (levels : ℕ) {answer : Printed} {room : List ℕ} {before : Run}
+  pub leaf_shown_lem : (context : Context) (style : Style) (shown : Bool) (levels : ℕ) {answer : Printed} {room : List ℕ} {before : Run}
       → Shown answer room (own_events context style shown bytes (read_own bytes at class levels)) before (own_end at (read_own bytes at class levels))
       → Shown answer room (events_in context (leaf style) shown (read levels bytes class at).tree) before (read levels bytes class at).end
-  leaf-shown context style shown levels done = let same = leaf-read context style shown levels in told same.0 same.1 done
+  leaf_shown_lem context style shown levels done = let same = leaf_read context style shown levels in told same.0 same.1 done
 
   -- and what is shown of its text alone, where they were read, is shown of it without its trivia
-  pub text-shown : (context : Context) (style : Style) (levels : ℕ) (own : Own) {answer : Printed} {room : List ℕ} {before : Run} → read_own bytes at class levels ≡ Record own
+  pub text_shown : (context : Context) (style : Style) (levels : ℕ) (own : Own) {answer : Printed} {room : List ℕ} {before : Run} → read_own bytes at class levels ≡ Record own
       → Shown answer room (word context (printed context style (slice own.text own.end bytes))) before own.end
       → Shown answer room (events_in context (leaf style) false (read levels bytes class at).tree) before (read levels bytes class at).end
   unfolding run
-  text-shown context style levels own is done = leaf-shown context style false levels (rw is (alike (λ x. refl) done))
+  text_shown context style levels own is done = leaf_shown_lem context style false levels (rw is (alike (λ x. refl) done))
 
 -- ---- what a printer of a leaf shows
 
@@ -121,27 +121,27 @@ full_refused at answered full = let refused = rw (ne_eqb _ _ full) at answered i
 
 module _ (bytes : List ℕ) (class : Class) (at levels : ℕ) (context : Context) (style : Style) (shown : Bool) where
   -- what is shown of own bytes is shown, of a leaf's class, of the tree too
-  pub own-and-leaf : {answer : Printed} {room : List ℕ} {before : Run}
+  pub own_and_leaf : {answer : Printed} {room : List ℕ} {before : Run}
       → Shown answer room (own_events context style shown bytes (read_own bytes at class levels)) before (own_end at (read_own bytes at class levels))
       → Shown answer room (own_events context style shown bytes (read_own bytes at class levels)) before (own_end at (read_own bytes at class levels))
       × (LeafClass class → Shown answer room (events_in context (leaf style) shown (read levels bytes class at).tree) before (read levels bytes class at).end)
-  own-and-leaf done = (done, λ leaves. leaf-shown bytes class leaves at context style shown levels done)
+  own_and_leaf done = (done, λ leaves. leaf_shown_lem bytes class leaves at context style shown levels done)
 
   module _ {found : OwnRead} (same : found ≡ read_own bytes at class levels) where
     -- own bytes that were read
-    pub own-shown : (own : Own) {answer : Printed} {room : List ℕ} {before : Run} → Fits bytes at found → found ≡ Record own
+    pub own_shown : (own : Own) {answer : Printed} {room : List ℕ} {before : Run} → Fits bytes at found → found ≡ Record own
         → Shown answer room (cond shown (trivia_events context (items_at bytes own.trivia own.trivia_count)) nothing
         ▹ word context (printed context style (slice own.text own.end bytes))) before own.end
         → Shown answer room (own_events context style shown bytes (read_own bytes at class levels)) before (own_end at (read_own bytes at class levels))
-    own-shown own fits is done =
+    own_shown own fits is done =
         told
         (ap (own_events context style shown bytes) (sym is ∙ same))
         (ap (own_end at) (sym is ∙ same))
         (rw (own_items bytes at own fits is) at done)
 
     -- own bytes that were refused
-    pub refusal-shown : (why said : Refusal) {room : List ℕ} {state : CodeFormatter} → said ≡ refusal_of found → found ≡ Refused why → state.full ≡ 0
+    pub refusal_shown : (why said : Refusal) {room : List ℕ} {state : CodeFormatter} → said ≡ refusal_of found → found ≡ Refused why → state.full ≡ 0
         → Shown (answer-is.Refused said) room (own_events context style shown bytes (read_own bytes at class levels)) (going room state) (own_end at (read_own bytes at class levels))
-    refusal-shown why said says is left =
+    refusal_shown why said says is left =
         rw (says ∙ ap refusal_of is)
         (told (ap (own_events context style shown bytes) (sym is ∙ same)) (ap (own_end at) (sym is ∙ same)) (stopped_there left))

@@ -28,7 +28,7 @@ use Rattle.printing.proofs.Running.{ran_nothing, finish, stopped_there, refused_
 use Rattle.events.specs.Views.{bit_at}
 use Rattle.events.specs.Refusals.{first_refusal}
 use Rattle.events.specs.Trees.{trivia_events, skipping, Place, events_in}
-use Rattle.events.proofs.Refusals.{skip-passed, skip-refused}
+use Rattle.events.proofs.Refusals.{skip_passed, skip_refused}
 use Rattle.leaves.specs.Items.{items_at}
 use Rattle.leaves.specs.Records.{OpensAt, Opens, Skips}
 use Rattle.leaves.specs.declared.record.Opened.{Opened}
@@ -39,11 +39,11 @@ use Rattle.leaves.proofs.Leaves.{own_items, full_refused}
 
 module _ (bytes : List ℕ) (class : Class) (at : ℕ) where
   -- own bytes that were refused are a refusal
-  pub read-refused : (levels : ℕ) (why : Refusal) → read_own bytes at class levels ≡ Refused why
+  pub read_refused : (levels : ℕ) (why : Refusal) → read_own bytes at class levels ≡ Refused why
       → ((read levels bytes class at).tree ≡ refused why) × ((read levels bytes class at).end ≡ at)
   unfolding read
-  read-refused zero why is = rw is (refl, refl)
-  read-refused (suc levels) why is = rw is (refl, refl)
+  read_refused zero why is = rw is (refl, refl)
+  read_refused (suc levels) why is = rw is (refl, refl)
 
   -- own bytes that were read are a record with its parts, one level below
   pub read_record : (levels : ℕ) (own : Own) → read_own bytes at class levels ≡ Record own
@@ -74,9 +74,9 @@ there_is is at here = sym (ap (λ (a : Printed). place_of a at) is) ∙ here
 
 module _ {context : Context} {shown : Bool} {levels : ℕ} {bytes : List ℕ} {class : Class} {stands : Bool} where
   -- where it was refused
-  pub closed-stays : {last : Printed} {room : List ℕ} {why : Refusal} → last ≡ answer-is.Refused why
+  pub closed_stays : {last : Printed} {room : List ℕ} {why : Refusal} → last ≡ answer-is.Refused why
       → Opens (opened-is.Closed last) room last room context shown levels bytes class stands
-  closed-stays is = record {
+  closed_stays is = record {
     from = λ at here place.
         (refused_before {events = λ at. events_in context place shown (cond stands (read levels bytes class at).tree absent)}
         {end = λ at. cond stands (read levels bytes class at).end at} is).from at here;
@@ -84,37 +84,37 @@ module _ {context : Context} {shown : Bool} {levels : ℕ} {bytes : List ℕ} {c
 
   module _ {last : Printed} {state : CodeFormatter} {there : ℕ} (is : last ≡ answer-is.Done state there) where
     -- what is closed at the place where it ended
-    closed-there : {answer : Printed} {room : List ℕ}
+    closed_there : {answer : Printed} {room : List ℕ}
         → ((place : Place) → Shown answer room (events_in context place shown (cond stands (read levels bytes class there).tree absent)) (going room state)
         (cond stands (read levels bytes class there).end there))
         → Opens (opened-is.Closed answer) room last room context shown levels bytes class stands
-    closed-there shut = record { from = λ at here place. rw (← (there_is is at here), is) (shut place) }
+    closed_there shut = record { from = λ at here place. rw (← (there_is is at here), is) (shut place) }
 
     -- where the record does not stand
-    pub closed-absent : {answer : Printed} {room : List ℕ} → stands ≡ false → answer ≡ finished state there
+    pub closed_absent : {answer : Printed} {room : List ℕ} → stands ≡ false → answer ≡ finished state there
         → Opens (opened-is.Closed answer) room last room context shown levels bytes class stands
     unfolding events_in
-    closed-absent none answered = closed-there (λ place. rw none (finish ran_nothing answered refl))
+    closed_absent none answered = closed_there (λ place. rw none (finish ran_nothing answered refl))
 
     -- where the state is full
-    pub closed-full : {answer : Printed} {room : List ℕ} → answer ≡ finished state there → (state.full ≡ 0 → ⊥)
+    pub closed_full : {answer : Printed} {room : List ℕ} → answer ≡ finished state there → (state.full ≡ 0 → ⊥)
         → Opens (opened-is.Closed answer) room last room context shown levels bytes class stands
-    closed-full answered full = closed-there (λ place. full_refused there answered full)
+    closed_full answered full = closed_there (λ place. full_refused there answered full)
 
     module _ (some : stands ≡ true) {found : OwnRead} (same : found ≡ read_own bytes there class levels) where
       -- where own bytes were refused
-      pub closed-refused : {why said : Refusal} {room : List ℕ} → said ≡ refusal_of found → found ≡ Refused why → state.full ≡ 0
+      pub closed_refused : {why said : Refusal} {room : List ℕ} → said ≡ refusal_of found → found ≡ Refused why → state.full ≡ 0
           → Opens (opened-is.Closed (answer-is.Refused said)) room last room context shown levels bytes class stands
       unfolding events_in
-      closed-refused {why} says told left =
-          let one = read-refused bytes class there levels why (sym same ∙ told) in
-          closed-there (λ place. rw (some, says ∙ ap refusal_of told, one.0, one.1) (stopped_there left))
+      closed_refused {why} says told left =
+          let one = read_refused bytes class there levels why (sym same ∙ told) in
+          closed_there (λ place. rw (some, says ∙ ap refusal_of told, one.0, one.1) (stopped_there left))
 
       -- where they were read
-      pub opened-record : {own : Own} {room left : List ℕ} {next : CodeFormatter} → Fits bytes there found → found ≡ Record own
+      pub opened_record : {own : Own} {room left : List ℕ} {next : CodeFormatter} → Fits bytes there found → found ≡ Record own
           → run (cond shown (trivia_events context (items_at bytes own.trivia own.trivia_count)) nothing) (going room state) ≡ going left next
           → Opens (opened-is.Record own next) left last room context shown levels bytes class stands
-      opened-record {own} {room} fits told ran =
+      opened_record {own} {room} fits told ran =
           let items = own_items bytes there own fits told in
           record { from = λ at here. rw (← (there_is is at here), is) (some, sym same ∙ told, (rw told at fits), rw items at ran) }
 
@@ -122,30 +122,30 @@ module _ {context : Context} {shown : Bool} {levels : ℕ} {bytes : List ℕ} {c
 
 module _ {levels : ℕ} {bytes : List ℕ} {class : Class} {stands : Bool} where
   -- where the last answer was refused
-  pub skip-stays : {last : Printed} {why : Refusal} → last ≡ answer-is.Refused why → Skips last last levels bytes class stands
-  skip-stays is = record { from = λ room. refused_before is }
+  pub skip_stays : {last : Printed} {why : Refusal} → last ≡ answer-is.Refused why → Skips last last levels bytes class stands
+  skip_stays is = record { from = λ room. refused_before is }
 
   module _ {last : Printed} {state : CodeFormatter} {there : ℕ} (is : last ≡ answer-is.Done state there) where
     -- where it does not stand
-    pub skip-absent : {answer : Printed} → stands ≡ false → answer ≡ finished state there → Skips answer last levels bytes class stands
+    pub skip_absent : {answer : Printed} → stands ≡ false → answer ≡ finished state there → Skips answer last levels bytes class stands
     unfolding first_refusal
-    skip-absent none answered = record { from = λ room. done_before is (rw none (finish ran_nothing answered refl)) }
+    skip_absent none answered = record { from = λ room. done_before is (rw none (finish ran_nothing answered refl)) }
 
     -- where the state is full
-    pub skip-full : {answer : Printed} → answer ≡ finished state there → (state.full ≡ 0 → ⊥) → Skips answer last levels bytes class stands
-    skip-full answered full = record { from = λ room. done_before is (full_refused there answered full) }
+    pub skip_full : {answer : Printed} → answer ≡ finished state there → (state.full ≡ 0 → ⊥) → Skips answer last levels bytes class stands
+    skip_full answered full = record { from = λ room. done_before is (full_refused there answered full) }
 
     module _ (some : stands ≡ true) {found : Skipped} (same : found ≡ skipped levels bytes class there) where
       -- where it holds a refusal
-      pub skip-stopped : {why said : Refusal} → said ≡ refused_skip found → found ≡ NotSkipped why → state.full ≡ 0
+      pub skip_stopped : {why said : Refusal} → said ≡ refused_skip found → found ≡ NotSkipped why → state.full ≡ 0
           → Skips (answer-is.Refused said) last levels bytes class stands
-      skip-stopped {why} says told left = record {
+      skip_stopped {why} says told left = record {
         from = λ room. done_before is
-            (rw (some, says ∙ ap refused_skip told, skip-refused levels bytes class there why (sym same ∙ told)) (stopped_there left));
+            (rw (some, says ∙ ap refused_skip told, skip_refused levels bytes class there why (sym same ∙ told)) (stopped_there left));
       }
 
       -- where it holds none
-      pub skip-behind : {answer : Printed} {place : ℕ} → found ≡ Next place → answer ≡ finished state place → Skips answer last levels bytes class stands
-      skip-behind {place = place} told answered =
-          let passed = skip-passed levels bytes class there place (sym same ∙ told) in
+      pub skip_behind : {answer : Printed} {place : ℕ} → found ≡ Next place → answer ≡ finished state place → Skips answer last levels bytes class stands
+      skip_behind {place = place} told answered =
+          let passed = skip_passed levels bytes class there place (sym same ∙ told) in
           record { from = λ room. done_before is (rw (some, passed.0) (finish ran_nothing answered passed.1)) }

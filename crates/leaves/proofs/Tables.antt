@@ -24,7 +24,7 @@ use Rattle.text.specs.Literals.{ascii}
 use Rattle.events.specs.Printed.{mnemonics, registers, operators, data_sizes, encodings, variable_types, number_types, modifiers, Style, plain, mnemonic}
 use Rattle.events.specs.Printed.{register, operator, data_size, encoding, variable_type, number_type, modifier, printed}
 use Rattle.events.specs.Trees.{word}
-use Rattle.leaves.specs.Texts.{cuts, in_order}
+use Rattle.leaves.specs.Texts.{cuts, in_order_lem}
 
 -- the push of an empty text does nothing
 run_empty : (context : Context) (room : List ℕ) (state : CodeFormatter) → run (word context []) (going room state) ≡ going room state
@@ -54,29 +54,29 @@ cut_between texts (place ∷ next ∷ places) zero inside = refl
 cut_between texts (place ∷ next ∷ places) (suc index) inside = cut_between texts (next ∷ places) index (omega arith)
 
 -- a place is at most the next, and that at most the end
-in_order_lem : (end : ℕ) (places : List ℕ) → in_order end places ≡ true → (index : ℕ) → suc index < length places
+in_order_lem : (end : ℕ) (places : List ℕ) → in_order_lem end places ≡ true → (index : ℕ) → suc index < length places
     → (get_or places index 0 ≤ get_or places (suc index) 0) × (get_or places (suc index) 0 ≤ end)
-unfolding in_order
+unfolding in_order_lem
 in_order_lem end [] order index inside = absurd (omega arith)
 in_order_lem end (place ∷ []) order index inside = absurd (omega arith)
 in_order_lem end (place ∷ next ∷ []) order zero inside =
     (leb-true _ _ (and_true_left (leb place next) (leb next end) order), leb-true _ _ (and_true_right (leb place next) (leb next end) order))
 in_order_lem end (place ∷ next ∷ later ∷ places) order zero inside =
-    let rest = in_order_lem end (next ∷ later ∷ places) (and_true_right (leb place next) (in_order end (next ∷ later ∷ places)) order) 0 (omega arith) in
-    (leb-true _ _ (and_true_left (leb place next) (in_order end (next ∷ later ∷ places)) order), omega (arith, rest.0, rest.1))
+    let rest = in_order_lem end (next ∷ later ∷ places) (and_true_right (leb place next) (in_order_lem end (next ∷ later ∷ places)) order) 0 (omega arith) in
+    (leb-true _ _ (and_true_left (leb place next) (in_order_lem end (next ∷ later ∷ places)) order), omega (arith, rest.0, rest.1))
 in_order_lem end (place ∷ next ∷ places) order (suc index) inside =
-    in_order_lem end (next ∷ places) (and_true_right (leb place next) (in_order end (next ∷ places)) order) index (omega arith)
+    in_order_lem end (next ∷ places) (and_true_right (leb place next) (in_order_lem end (next ∷ places)) order) index (omega arith)
 
 module _ (texts places : List ℕ) (index : ℕ) (inside : index + 1 < length places) where
   -- so it is of a place by the sum that the code tests
-  pub in-order-next : in_order (length texts) places ≡ true → (get_or places index 0 ≤ get_or places (index + 1) 0) × (get_or places (index + 1) 0 ≤ length texts)
-  in-order-next order = rw add-one (in_order_lem (length texts) places order index (omega arith))
+  pub in_order_next : in_order_lem (length texts) places ≡ true → (get_or places index 0 ≤ get_or places (index + 1) 0) × (get_or places (index + 1) 0 ≤ length texts)
+  in_order_next order = rw add-one (in_order_lem (length texts) places order index (omega arith))
 
   -- and a push of the text between two places is a push of the text of the index
-  pub run-cut : (context : Context) (room after : List ℕ) (state next : CodeFormatter) (start end : ℕ) → start ≡ get_or places index 0 → end ≡ get_or places (index + 1) 0
+  pub run_cut : (context : Context) (room after : List ℕ) (state next : CodeFormatter) (start end : ℕ) → start ≡ get_or places index 0 → end ≡ get_or places (index + 1) 0
       → Pushed room state Code context (take (end - start) (drop start texts)) next after
       → run (word context (get_or (cuts texts places) index [])) (going room state) ≡ going after next
-  run-cut context room after state next start end starts ends done =
+  run_cut context room after state next start end starts ends done =
       let ends_next : end ≡ get_or places (suc index) 0 = rw (← add-one) ends in
       let text : get_or (cuts texts places) index [] ≡ take (end - start) (drop start texts) =
       cut_between texts places index (omega arith) ∙ rw (← starts, ← ends_next) (sym (part_slice start end texts)) in
@@ -97,14 +97,14 @@ run_past context room state index table casing past = rw (get_or-eq_default tabl
 
 module _ (context : Context) (room after : List ℕ) (state next : CodeFormatter) (index : ℕ) where
   -- so a push of it is one of the table's
-  pub run-table : (table : List String) (texts places : List ℕ) → cuts texts places ≡ map ascii table
+  pub run_table : (table : List String) (texts places : List ℕ) → cuts texts places ≡ map ascii table
       → run (word context (get_or (cuts texts places) index [])) (going room state) ≡ going after next → run (word context (ascii (get_or table index ""))) (going room state) ≡ going after next
-  run-table table texts places tied ran = rw (table_text table (cuts texts places) tied index) at ran
+  run_table table texts places tied ran = rw (table_text table (cuts texts places) tied index) at ran
 
   -- a name is pushed in the casing
-  pub run-cased : (table : List String) (casing : Casing) (names : List (List ℕ)) {name text : List ℕ} → names ≡ map ascii table → name ≡ get_or names index [] → text ≡ cased casing name
+  pub run_cased : (table : List String) (casing : Casing) (names : List (List ℕ)) {name text : List ℕ} → names ≡ map ascii table → name ≡ get_or names index [] → text ≡ cased casing name
       → Pushed room state Code context text next after → run (word context (cased casing (ascii (get_or table index "")))) (going room state) ≡ going after next
-  run-cased table casing names tied named cases done =
+  run_cased table casing names tied named cases done =
       rw (← (table_text table names tied index), ← named, ← cases) (ran_push done).ran
 
 -- a list's elements, three by three
@@ -224,28 +224,28 @@ printed_index context modifier index rest indexed = refl
 
 module _ (context : Context) (style : Style) (room : List ℕ) (state : CodeFormatter) where
   -- a stored text of no bytes
-  pub run-textless : (text : List ℕ) → length text ≡ 0 → run (word context (printed context style text)) (going room state) ≡ going room state
-  run-textless [] none = run_none context room state _ (printed_none context style)
-  run-textless (first ∷ rest) none = absurd (omega (arith, none))
+  pub run_textless : (text : List ℕ) → length text ≡ 0 → run (word context (printed context style text)) (going room state) ≡ going room state
+  run_textless [] none = run_none context room state _ (printed_none context style)
+  run_textless (first ∷ rest) none = absurd (omega (arith, none))
 
   -- one that prints by the index that is its first byte
-  pub run-by-first : (after : List ℕ) (next : CodeFormatter) (text : List ℕ) → (length text ≡ 0 → ⊥) → by_index style ≡ true → (index : ℕ) → index ≡ get_or text 0 0
+  pub run_by_first : (after : List ℕ) (next : CodeFormatter) (text : List ℕ) → (length text ≡ 0 → ⊥) → by_index style ≡ true → (index : ℕ) → index ≡ get_or text 0 0
       → run (word context (printed context style (index ∷ []))) (going room state) ≡ going after next
       → run (word context (printed context style text)) (going room state) ≡ going after next
-  run-by-first after next [] some indexed index byte ran = absurd (some refl)
-  run-by-first after next (first ∷ rest) some indexed index byte ran = rw (printed_index context style first rest indexed, ← byte) ran
+  run_by_first after next [] some indexed index byte ran = absurd (some refl)
+  run_by_first after next (first ∷ rest) some indexed index byte ran = rw (printed_index context style first rest indexed, ← byte) ran
 
 module _ (context : Context) (style : Style) (bytes : List ℕ) (start end : ℕ) (room : List ℕ) (state : CodeFormatter) where
   -- a text of no bytes
-  pub run-no-text : start ≡ end → run (word context (printed context style (slice start end bytes))) (going room state) ≡ going room state
-  run-no-text none = rw (none, slice_empty) (run-textless context style room state [] refl)
+  pub run_no_text : start ≡ end → run (word context (printed context style (slice start end bytes))) (going room state) ≡ going room state
+  run_no_text none = rw (none, slice_empty) (run_textless context style room state [] refl)
 
   module _ (after : List ℕ) (next : CodeFormatter) where
     -- one that prints as it stands
-    pub run-plain : style ≡ plain → Pushed room state Code context (take (end - start) (drop start bytes)) next after
+    pub run_plain : style ≡ plain → Pushed room state Code context (take (end - start) (drop start bytes)) next after
         → run (word context (printed context style (slice start end bytes))) (going room state) ≡ going after next
     unfolding printed
-    run-plain is done = rw is (ran_push (rw part_slice at done)).ran
+    run_plain is done = rw is (ran_push (rw part_slice at done)).ran
 
     -- one that prints by its first byte
     pub run_index : (start ≤ end) × (end ≤ length bytes) → (start ≡ end → ⊥) → (named : Style) → by_index named ≡ true → style ≡ named → (index : ℕ) → index ≡ get_or bytes start 0
@@ -254,4 +254,4 @@ module _ (context : Context) (style : Style) (bytes : List ℕ) (start end : ℕ
     run_index inside some named indexed is index byte ran =
         let before : start < end = omega (arith, inside.0, some) in
         rw (is, slice-cons start end bytes 0 before inside.1)
-        (run-by-first context named room state after next (get_or bytes start 0 ∷ slice (suc start) end bytes) (λ none. omega (arith, none)) indexed index byte ran)
+        (run_by_first context named room state after next (get_or bytes start 0 ∷ slice (suc start) end bytes) (λ none. omega (arith, none)) indexed index byte ran)

@@ -43,21 +43,21 @@ slots_shift listed (slot ∷ slots) place tree trees =
 
 module _ (reader : Reader) where
   -- the fields whose bits stand
-  pub fields-along : (listed : Bool) (slots : List Slot) (bits place : ℕ)
+  pub fields_along : (listed : Bool) (slots : List Slot) (bits place : ℕ)
       → slots_seen listed slots 0 (read_parts reader (fields_due slots bits) place).trees ≡ uses_along reader listed (standing (fields_due slots bits)) place
   unfolding slots_seen fields_due read_parts standing uses_along
-  fields-along listed [] bits place = refl
-  fields-along listed (slot ∷ slots) bits place =
+  fields_along listed [] bits place = refl
+  fields_along listed (slot ∷ slots) bits place =
       let class : Class = slot_class slot in
       by_test (eqb (bits % 2) 1)
       (λ q.
       let next : ℕ = (reader class place).end in
       let rest = slots_shift listed slots 0 (reader class place).tree (read_parts reader (fields_due slots (bits / 2)) next).trees in
-      rw q (ap (λ (uses : List Use). seen_in class listed (reader class place).tree ++ uses) (rest ∙ fields-along listed slots (bits / 2) next)))
+      rw q (ap (λ (uses : List Use). seen_in class listed (reader class place).tree ++ uses) (rest ∙ fields_along listed slots (bits / 2) next)))
       (λ q.
       let rest = slots_shift listed slots 0 absent (read_parts reader (fields_due slots (bits / 2)) place).trees in
       rw q (ap (λ (uses : List Use). uses ++ slots_seen listed slots 1 (absent ∷ (read_parts reader (fields_due slots (bits / 2)) place).trees)) (absent_unused class listed)
-      ∙ rest ∙ fields-along listed slots (bits / 2) place))
+      ∙ rest ∙ fields_along listed slots (bits / 2) place))
 
   -- the items of a list
   items_of : (listed : Bool) (items : Items) → Unlisted items → (count place : ℕ)
@@ -69,20 +69,20 @@ module _ (reader : Reader) where
       let tree : Tree = (reader item place).tree in
       rw (none tree) (ap (λ (uses : List Use). places_in true tree ++ uses) (items_of listed (ListOf item) none count (reader item place).end))
 
-  pub items-along : (listed : Bool) (class : Class) (count place : ℕ)
+  pub items_along : (listed : Bool) (class : Class) (count place : ℕ)
       → places_in listed (chain (read_parts reader (items_due (rule class).items count) place).trees) ≡ uses_along reader true (standing (items_due (rule class).items count)) place
-  items-along listed class = items_of listed (rule class).items (untold class).1
+  items_along listed class = items_of listed (rule class).items (untold class).1
 
   -- ---- the place behind parts, and the first refusal in them
 
-  pub parts-end : (parts : List Due) (place : ℕ) → (read_parts reader parts place).end ≡ end_along reader (standing parts) place
+  pub parts_end : (parts : List Due) (place : ℕ) → (read_parts reader parts place).end ≡ end_along reader (standing parts) place
   unfolding read_parts standing end_along
-  parts-end [] place = refl
-  parts-end (nothing ∷ parts) place = parts-end parts place
-  parts-end (due class ∷ parts) place = parts-end parts (reader class place).end
+  parts_end [] place = refl
+  parts_end (nothing ∷ parts) place = parts_end parts place
+  parts_end (due class ∷ parts) place = parts_end parts (reader class place).end
 
-  pub parts-checked : (parts : List Due) (place : ℕ) → (read_parts reader parts place).checked ≡ checked_along reader (standing parts) place
+  pub parts_checked : (parts : List Due) (place : ℕ) → (read_parts reader parts place).checked ≡ checked_along reader (standing parts) place
   unfolding read_parts standing checked_along
-  parts-checked [] place = refl
-  parts-checked (nothing ∷ parts) place = parts-checked parts place
-  parts-checked (due class ∷ parts) place = ap (and_then (reader class place).checked) (parts-checked parts (reader class place).end)
+  parts_checked [] place = refl
+  parts_checked (nothing ∷ parts) place = parts_checked parts place
+  parts_checked (due class ∷ parts) place = ap (and_then (reader class place).checked) (parts_checked parts (reader class place).end)

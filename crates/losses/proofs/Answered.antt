@@ -20,27 +20,27 @@ use Rattle.losses.specs.declared.search.Loss.TheVariants.{Used, Unused, Refused}
 use Rattle.losses.specs.declared.search.Searched.{Searched}
 use Rattle.losses.specs.declared.search.Searched.TheVariants as searching
 use Rattle.losses.specs.declared.search.Searched.TheVariants.{Whole}
-use Rattle.losses.proofs.Passed.{finds-held, finds-never}
+use Rattle.losses.proofs.Passed.{finds_held, finds_never}
 use Rattle.losses.proofs.Steps.{by_spot}
 
 -- ---- the first records, place by place
 
 module _ (from : ℕ) (tree : Tree) (firsts : Firsts) (each : (spot : Spot) → first_of firsts spot ≡ first_in from spot tree) where
-  least-same : least_of firsts ≡ least_of (firsts_in from tree)
-  least-same =
+  least_same : least_of firsts ≡ least_of (firsts_in from tree)
+  least_same =
       rw (each opening_brace, each label_colon, each value_head, each import_path, each path_item, each register_letter, each expression_head, each closing_character)
 
-  letters-same : (at : ℕ) → letters_at firsts at ≡ letters_at (firsts_in from tree) at
-  letters-same at =
+  letters_same : (at : ℕ) → letters_at firsts at ≡ letters_at (firsts_in from tree) at
+  letters_same at =
       rw (each opening_brace, each label_colon, each value_head, each import_path, each path_item, each register_letter, each expression_head, each closing_character)
 
 -- ---- the answer
 
 module _ (from : ℕ) (bytes : List ℕ) {checked : Checked} (same : checked ≡ batch_checked bytes) where
   -- a tree that was refused
-  pub lost-refused : {why said : Refusal} → said ≡ refused_check checked → checked ≡ Failed why → Refused said ≡ lost_from from bytes
+  pub lost_refused : {why said : Refusal} → said ≡ refused_check checked → checked ≡ Failed why → Refused said ≡ lost_from from bytes
   unfolding lost_from
-  lost-refused said-is is =
+  lost_refused said-is is =
       ap (λ (why : Refusal). Refused why) (said-is ∙ ap refused_check is) ∙ sym (ap (lost_on from (read_file 64 bytes).tree) (sym same ∙ is))
 
   module _ (is : checked ≡ Passed) {none : Firsts} {searched : Searched} (nothing : none ≡ no_firsts)
@@ -52,8 +52,8 @@ module _ (from : ℕ) (bytes : List ℕ) {checked : Checked} (same : checked ≡
     found : Finds searched (λ end firsts. (end ≡ (read_file 64 bytes).end) × TakesAll firsts none from (seen_in Tokens false tree))
     found = searches (file_passed 65535 64 bytes (sym same ∙ is)).layout
 
-    pub search-unrefused : {R : Type 0} {why : Refusal} → searched ≡ searching.Refused why → R
-    search-unrefused met = finds-never met found
+    pub search_unrefused : {R : Type 0} {why : Refusal} → searched ≡ searching.Refused why → R
+    search_unrefused met = finds_never met found
 
     module _ {end : ℕ} {firsts : Firsts} (whole : searched ≡ Whole end firsts) where
       -- its first records
@@ -61,22 +61,22 @@ module _ (from : ℕ) (bytes : List ℕ) {checked : Checked} (same : checked ≡
       each spot =
           let never = by_spot (λ spot. first_of no_firsts spot ≡ Never) refl refl refl refl refl refl refl refl spot in
           let first : first_of none spot ≡ Never = ap (λ (firsts : Firsts). first_of firsts spot) nothing ∙ never in
-          (finds-held whole found).1.each spot ∙ ap (λ (first : First). first_from from spot first (places_in false tree)) first
+          (finds_held whole found).1.each spot ∙ ap (λ (first : First). first_from from spot first (places_in false tree)) first
 
       -- the answer to it
-      passed-answer : lost_from from bytes ≡ answer_with (firsts_in from tree) (least_of (firsts_in from tree))
+      passed_answer : lost_from from bytes ≡ answer_with (firsts_in from tree) (least_of (firsts_in from tree))
       unfolding lost_from
-      passed-answer = ap (lost_on from tree) (sym same ∙ is)
+      passed_answer = ap (lost_on from tree) (sym same ∙ is)
 
       module _ {least : First} (least-is : least ≡ least_of firsts) where
         least-there : {first : First} → least ≡ first → least_of (firsts_in from tree) ≡ first
-        least-there there = sym (least-same from tree firsts each) ∙ sym least-is ∙ there
+        least-there there = sym (least_same from tree firsts each) ∙ sym least-is ∙ there
 
         -- there is none
         pub lost-none : least ≡ Never → Unused ≡ lost_from from bytes
-        lost-none never = sym (passed-answer ∙ ap (answer_with (firsts_in from tree)) (least-there never))
+        lost-none never = sym (passed_answer ∙ ap (answer_with (firsts_in from tree)) (least-there never))
 
         -- there is one
         pub lost-used : {at letters : ℕ} → least ≡ At at → letters ≡ letters_at firsts at → Used at letters ≡ lost_from from bytes
         lost-used {at} there letters-are =
-            ap (Used at) (letters-are ∙ letters-same from tree firsts each at) ∙ sym (passed-answer ∙ ap (answer_with (firsts_in from tree)) (least-there there))
+            ap (Used at) (letters-are ∙ letters_same from tree firsts each at) ∙ sym (passed_answer ∙ ap (answer_with (firsts_in from tree)) (least-there there))

@@ -16,29 +16,29 @@ use Rattle.reading.specs.Places.{has_comment}
 
 module _ (bytes : List ℕ) (at left : ℕ) where
   -- none is left
-  pub comment-none : left ≤ 0 → has_comment (items_at bytes at left) ≡ false
+  pub comment_none : left ≤ 0 → has_comment (items_at bytes at left) ≡ false
   unfolding has_comment
-  comment-none none = ap has_comment (items_none bytes at left none)
+  comment_none none = ap has_comment (items_none bytes at left none)
 
   module _ (some : 0 < left) {found : TriviumRead} (same : found ≡ trivium_at bytes at) where
     -- an item that breaks the layout ends them
-    pub comment-broken : found ≡ BrokenItem → has_comment (items_at bytes at left) ≡ false
+    pub comment_broken : found ≡ BrokenItem → has_comment (items_at bytes at left) ≡ false
     unfolding has_comment
-    comment-broken told = ap has_comment (items_next bytes at left some same BrokenItem told)
+    comment_broken told = ap has_comment (items_next bytes at left some same BrokenItem told)
 
     -- an item, and those behind it
-    comment-first : (item : TriviumSpan) → found ≡ Item item → {here : Bool} → leb 2 item.code ≡ here
+    comment_first : (item : TriviumSpan) → found ≡ Item item → {here : Bool} → leb 2 item.code ≡ here
         → has_comment (items_at bytes at left) ≡ (here || has_comment (items_at bytes item.end (left - 1)))
     unfolding has_comment
-    comment-first item told tested =
+    comment_first item told tested =
         ap has_comment (items_next bytes at left some same (Item item) told)
         ∙ ap (λ (first : Bool). first || has_comment (items_at bytes item.end (left - 1))) tested
 
     module _ (item : TriviumSpan) (told : found ≡ Item item) where
       -- a comment
-      pub comment-here : 2 ≤ item.code → has_comment (items_at bytes at left) ≡ true
-      comment-here comment = comment-first item told (le-leb _ _ comment)
+      pub comment_here : 2 ≤ item.code → has_comment (items_at bytes at left) ≡ true
+      comment_here comment = comment_first item told (le-leb _ _ comment)
 
       -- any other item
-      pub comment-later : item.code < 2 → has_comment (items_at bytes at left) ≡ has_comment (items_at bytes item.end (left - 1))
-      comment-later other = comment-first item told (lt-leb _ _ other)
+      pub comment_later : item.code < 2 → has_comment (items_at bytes at left) ≡ has_comment (items_at bytes item.end (left - 1))
+      comment_later other = comment_first item told (lt-leb _ _ other)

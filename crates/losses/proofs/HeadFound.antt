@@ -19,7 +19,7 @@ use Rattle.tree.specs.declared.parts.HeadRead.{HeadRead}
 use Rattle.tree.specs.declared.parts.HeadRead.TheVariants.{Found, NoHead}
 use Rattle.events.specs.Views.{view}
 use Rattle.events.specs.Refusals.{head_refusal}
-use Rattle.events.proofs.Heads.{head-is, head-missing, head-refused}
+use Rattle.events.proofs.Heads.{head_is, head_missing, head_refused}
 use Rattle.events.proofs.Refusals.{read_refusal}
 use Rattle.leaves.specs.Items.{items_at}
 use Rattle.leaves.proofs.Leaves.{own_items}
@@ -28,31 +28,31 @@ use Rattle.losses.specs.Visits.{TokenClass, TakesIf, TakesHead}
 use Rattle.losses.specs.declared.firsts.Firsts.{Firsts}
 use Rattle.losses.specs.declared.uses.Seen.TheVariants.{Shown}
 use Rattle.events.proofs.Passed.{head_passed}
-use Rattle.losses.proofs.Passed.{shows-it}
-use Rattle.losses.proofs.Records.{node-read}
+use Rattle.losses.proofs.Passed.{shows_it}
+use Rattle.losses.proofs.Records.{node_read}
 
 module _ (levels : ℕ) (bytes : List ℕ) (class : Class) (at : ℕ) {place : HeadRead} (same : place ≡ head_at levels bytes class at) where
   -- no refusal is met on the way
-  none-met : (read levels bytes class at).checked ≡ Passed → head_refusal (read levels bytes class at).tree ≡ Passed
-  none-met passed = head_passed (read levels bytes class at).tree (read_refusal levels bytes class at ∙ passed)
+  none_met : (read levels bytes class at).checked ≡ Passed → head_refusal (read levels bytes class at).tree ≡ Passed
+  none_met passed = head_passed (read levels bytes class at).tree (read_refusal levels bytes class at ∙ passed)
 
   -- so a head is found
-  pub head-missed : {R : Type 0} {why : Refusal} → place ≡ NoHead why → (read levels bytes class at).checked ≡ Passed → TokenClass class → R
-  head-missed {R} {why} is passed token =
-      failed_passed (sym (head-missing bytes class token.0 token.1 levels at why (sym same ∙ is)) ∙ none-met passed)
+  pub head_missed : {R : Type 0} {why : Refusal} → place ≡ NoHead why → (read levels bytes class at).checked ≡ Passed → TokenClass class → R
+  head_missed {R} {why} is passed token =
+      failed_passed (sym (head_missing bytes class token.0 token.1 levels at why (sym same ∙ is)) ∙ none_met passed)
 
   module _ (head : Head) (is : place ≡ Found head) {found : OwnRead} (read-own : found ≡ read_own bytes head.place head.class head.levels) where
     -- its own bytes are read
-    pub head-unread : {R : Type 0} {why : Refusal} → found ≡ Refused why → (read levels bytes class at).checked ≡ Passed → TokenClass class → R
-    head-unread {R} {why} refused passed token =
-        failed_passed (sym (head-refused bytes class token.0 token.1 levels at head why (sym same ∙ is) (sym read-own ∙ refused)) ∙ none-met passed)
+    pub head_unread : {R : Type 0} {why : Refusal} → found ≡ Refused why → (read levels bytes class at).checked ≡ Passed → TokenClass class → R
+    head_unread {R} {why} refused passed token =
+        failed_passed (sym (head_refused bytes class token.0 token.1 levels at head why (sym same ∙ is) (sym read-own ∙ refused)) ∙ none_met passed)
 
     -- and hold its trivia
-    pub head-taken : {after before : Firsts} {from spot : ℕ} (own : Own) → Fits bytes head.place found → found ≡ Record own
+    pub head_taken : {after before : Firsts} {from spot : ℕ} (own : Own) → Fits bytes head.place found → found ≡ Record own
         → TakesIf after before from head.place spot (has_comment (items_at bytes own.trivia own.trivia_count))
         → TakesHead (Shown after) before from levels bytes class at spot
     unfolding view
-    head-taken own fits held takes passed token =
-        let head-tree = head-is bytes class token.0 token.1 levels at head (sym same ∙ is)
-        ∙ node-read head.levels bytes head.class head.place own (sym read-own ∙ held) in
-        shows-it (rw head-tree (rw (own_items bytes head.place own fits held) at takes))
+    head_taken own fits held takes passed token =
+        let head-tree = head_is bytes class token.0 token.1 levels at head (sym same ∙ is)
+        ∙ node_read head.levels bytes head.class head.place own (sym read-own ∙ held) in
+        shows_it (rw head-tree (rw (own_items bytes head.place own fits held) at takes))

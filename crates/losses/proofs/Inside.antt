@@ -28,10 +28,10 @@ use Rattle.tree.specs.declared.parts.HeadRead.{HeadRead}
 use Rattle.tree.specs.declared.parts.HeadRead.TheVariants.{Found, NoHead}
 use Rattle.tree.proofs.Cases.{both_passed}
 use Rattle.tree.proofs.Limits.{length_passed}
-use Rattle.tree.proofs.Readings.{every-reading, no_record, file_passed}
+use Rattle.tree.proofs.Readings.{every_reading, no_record, file_passed}
 use Rattle.events.specs.Views.{view, own_trivia, head_of, stands_at, token_number, index_of}
 use Rattle.events.proofs.OwnParts.{record_headed}
-use Rattle.events.proofs.Heads.{head-is}
+use Rattle.events.proofs.Heads.{head_is}
 use Rattle.leaves.proofs.Records.{read_record}
 use Rattle.reading.specs.Places.{Spot, Use, opening_brace, label_colon, value_head, import_path, path_item, register_letter, expression_head, closing_character}
 use Rattle.reading.specs.Places.{has_comment, mark, at_closing_character}
@@ -42,12 +42,12 @@ use Rattle.losses.specs.declared.firsts.First.TheVariants.{At, Never}
 use Rattle.losses.specs.declared.firsts.Firsts.{Firsts}
 use Rattle.losses.specs.declared.search.Loss.{Loss}
 use Rattle.losses.specs.declared.search.Loss.TheVariants.{Used}
-use Rattle.losses.proofs.Along.{parts-checked}
-use Rattle.losses.proofs.HeadFound.{head-missed}
-use Rattle.losses.proofs.Listing.{least-one, told_used}
+use Rattle.losses.proofs.Along.{parts_checked}
+use Rattle.losses.proofs.HeadFound.{head_missed}
+use Rattle.losses.proofs.Listing.{least_one, told_used}
 use Rattle.losses.proofs.Numbers.{lost_numbers_lem}
-use Rattle.losses.proofs.Passed.{own-unread}
-use Rattle.losses.proofs.Records.{token_class_lem, record-uses}
+use Rattle.losses.proofs.Passed.{own_unread}
+use Rattle.losses.proofs.Records.{token_class_lem, record_uses}
 
 -- ---- uses below a limit
 
@@ -63,38 +63,38 @@ module _ (limit : ℕ) where
   both_below (used ∷ some) others first next = (first.0, both_below some others first.1 next)
 
   -- a place that may be used
-  mark-below : (place : ℕ) (spot : Spot) (used : Bool) → place < limit → Below limit (mark place spot used)
+  mark_below : (place : ℕ) (spot : Spot) (used : Bool) → place < limit → Below limit (mark place spot used)
   unfolding Below
-  mark-below place spot true inside = (inside, tt)
-  mark-below place spot false inside = tt
+  mark_below place spot true inside = (inside, tt)
+  mark_below place spot false inside = tt
 
   -- what a comment on the record itself uses
   own_below : (class : Class) (number : ℕ) (listed : Bool) (at : ℕ) (used : Bool) → at < limit → Below limit (own_marks class number listed at used)
   own_below class number listed at used inside =
-      cond_both (Below limit) (eqb (class_number class) 3) _ _ (λ brace. mark-below at opening_brace (not listed && used) inside)
-      (λ brace. cond_both (Below limit) (eqb (class_number class) 5) _ _ (λ colon. mark-below at label_colon used inside)
-      (λ colon. cond_both (Below limit) (eqb (class_number class) 8) _ _ (λ register. mark-below at register_letter used inside)
+      cond_both (Below limit) (eqb (class_number class) 3) _ _ (λ brace. mark_below at opening_brace (not listed && used) inside)
+      (λ brace. cond_both (Below limit) (eqb (class_number class) 5) _ _ (λ colon. mark_below at label_colon used inside)
+      (λ colon. cond_both (Below limit) (eqb (class_number class) 8) _ _ (λ register. mark_below at register_letter used inside)
       (λ register. both_below (mark at import_path (eqb number 41 && used)) (mark at path_item (eqb number 26 && used))
-      (mark-below at import_path (eqb number 41 && used) inside) (mark-below at path_item (eqb number 26 && used) inside))))
+      (mark_below at import_path (eqb number 41 && used) inside) (mark_below at path_item (eqb number 26 && used) inside))))
 
   -- and one on a token's head
-  head-below : (class : Class) (number : ℕ) (listed : Bool) (at : ℕ) (used : Bool) → (TokenClass class → at < limit)
+  head_below : (class : Class) (number : ℕ) (listed : Bool) (at : ℕ) (used : Bool) → (TokenClass class → at < limit)
       → Below limit (head_marks class number listed at used)
   unfolding Below
-  head-below class number listed at used inside =
+  head_below class number listed at used inside =
       cond_both (Below limit) (eqb (class_number class) 20 || eqb (class_number class) 21) _ _
       (λ token.
       let here = inside (token_class_lem class token) in
       cond_both (Below limit) (eqb number 9) _ _
-      (λ nine. mark-below at expression_head (listed && used) here) (λ other. mark-below at value_head (not listed && used) here))
+      (λ nine. mark_below at expression_head (listed && used) here) (λ other. mark_below at value_head (not listed && used) here))
       (λ other. tt)
 
   -- the closing character of an operand
-  closing-below : (number : ℕ) (parts : List Tree) → stands_at (get_or parts 2 absent) < limit → Below limit (closing_marks number parts)
+  closing_below : (number : ℕ) (parts : List Tree) → stands_at (get_or parts 2 absent) < limit → Below limit (closing_marks number parts)
   unfolding Below
-  closing-below number parts inside =
+  closing_below number parts inside =
       cond_both (Below limit) (eqb number 37) _ _
-      (λ operand. mark-below (stands_at (get_or parts 2 absent)) closing_character (at_closing_character (index_of (get_or parts 3 absent)) (get_or parts 2 absent)) inside)
+      (λ operand. mark_below (stands_at (get_or parts 2 absent)) closing_character (at_closing_character (index_of (get_or parts 3 absent)) (get_or parts 2 absent)) inside)
       (λ other. tt)
 
 module _ (bytes : List ℕ) (some : 0 < length bytes) where
@@ -103,78 +103,78 @@ module _ (bytes : List ℕ) (some : 0 < length bytes) where
   read_stands : (levels : ℕ) (class : Class) (at : ℕ) → stands_at (read levels bytes class at).tree < length bytes
   unfolding view
   read_stands =
-      every-reading bytes (λ levels class at reading. stands_at reading.tree < length bytes) (λ levels class at reader why. some)
+      every_reading bytes (λ levels class at reading. stands_at reading.tree < length bytes) (λ levels class at reader why. some)
       (λ levels class at own is below. omega (arith, (record_headed bytes at class (suc levels) own is).1.room))
 
   -- so does a part of one
-  parts-stand : (levels : ℕ) (parts : List Due) (at place : ℕ) → stands_at (get_or (read_parts (read levels bytes) parts at).trees place absent) < length bytes
+  parts_stand : (levels : ℕ) (parts : List Due) (at place : ℕ) → stands_at (get_or (read_parts (read levels bytes) parts at).trees place absent) < length bytes
   unfolding read_parts view
-  parts-stand levels [] at place = some
-  parts-stand levels (nothing ∷ parts) at zero = some
-  parts-stand levels (nothing ∷ parts) at (suc place) = parts-stand levels parts at place
-  parts-stand levels (due class ∷ parts) at zero = read_stands levels class at
-  parts-stand levels (due class ∷ parts) at (suc place) = parts-stand levels parts (read levels bytes class at).end place
+  parts_stand levels [] at place = some
+  parts_stand levels (nothing ∷ parts) at zero = some
+  parts_stand levels (nothing ∷ parts) at (suc place) = parts_stand levels parts at place
+  parts_stand levels (due class ∷ parts) at zero = read_stands levels class at
+  parts_stand levels (due class ∷ parts) at (suc place) = parts_stand levels parts (read levels bytes class at).end place
 
   -- and a token's head
-  head-stands : (levels : ℕ) (class : Class) (at : ℕ) (found : HeadRead) → found ≡ head_at levels bytes class at → (read levels bytes class at).checked ≡ Passed
+  head_stands : (levels : ℕ) (class : Class) (at : ℕ) (found : HeadRead) → found ≡ head_at levels bytes class at → (read levels bytes class at).checked ≡ Passed
       → TokenClass class → stands_at (head_of (read levels bytes class at).tree) < length bytes
-  head-stands levels class at (Found head) is passed token =
-      rw (head-is bytes class token.0 token.1 levels at head (sym is)) (read_stands head.levels head.class head.place)
-  head-stands levels class at (NoHead why) is passed token = head-missed levels bytes class at is refl passed token
+  head_stands levels class at (Found head) is passed token =
+      rw (head_is bytes class token.0 token.1 levels at head (sym is)) (read_stands head.levels head.class head.place)
+  head_stands levels class at (NoHead why) is passed token = head_missed levels bytes class at is refl passed token
 
 -- ---- so the uses that records show do
 
 module _ (bytes : List ℕ) where
   -- those of parts, one behind the other
-  along-below : (levels : ℕ) → ((class : Class) (at : ℕ) (listed : Bool) → (read levels bytes class at).checked ≡ Passed
+  along_below : (levels : ℕ) → ((class : Class) (at : ℕ) (listed : Bool) → (read levels bytes class at).checked ≡ Passed
       → Below (length bytes) (seen_in class listed (read levels bytes class at).tree))
       → (listed : Bool) (classes : List Class) (place : ℕ) → checked_along (read levels bytes) classes place ≡ Passed
       → Below (length bytes) (uses_along (read levels bytes) listed classes place)
   unfolding Below uses_along checked_along
-  along-below levels below listed [] place passed = tt
-  along-below levels below listed (class ∷ classes) place passed =
+  along_below levels below listed [] place passed = tt
+  along_below levels below listed (class ∷ classes) place passed =
       let next : ℕ = (read levels bytes class place).end in
       let both = both_passed (read levels bytes class place).checked (checked_along (read levels bytes) classes next) passed in
       both_below (length bytes) (seen_in class listed (read levels bytes class place).tree) (uses_along (read levels bytes) listed classes next)
-      (below class place listed both.0) (along-below levels below listed classes next both.1)
+      (below class place listed both.0) (along_below levels below listed classes next both.1)
 
   -- where no level is left nothing was read
-  unread-below : (class : Class) (at : ℕ) (listed : Bool) (found : OwnRead) → read_own bytes at class zero ≡ found → (read zero bytes class at).checked ≡ Passed
+  unread_below : (class : Class) (at : ℕ) (listed : Bool) (found : OwnRead) → read_own bytes at class zero ≡ found → (read zero bytes class at).checked ≡ Passed
       → Below (length bytes) (seen_in class listed (read zero bytes class at).tree)
-  unread-below class at listed (Record own) is passed = no_record bytes at class own is
-  unread-below class at listed (Refused why) is passed = own-unread zero bytes class at passed is
+  unread_below class at listed (Record own) is passed = no_record bytes at class own is
+  unread_below class at listed (Refused why) is passed = own_unread zero bytes class at passed is
 
   -- a record shows its own uses, and those of its parts
-  record-below : (levels : ℕ) → ((class : Class) (at : ℕ) (listed : Bool) → (read (levels - 1) bytes class at).checked ≡ Passed
+  record_below : (levels : ℕ) → ((class : Class) (at : ℕ) (listed : Bool) → (read (levels - 1) bytes class at).checked ≡ Passed
       → Below (length bytes) (seen_in class listed (read (levels - 1) bytes class at).tree))
       → (class : Class) (at : ℕ) (listed : Bool) (found : OwnRead) → read_own bytes at class levels ≡ found
       → (read levels bytes class at).checked ≡ Passed → Below (length bytes) (seen_in class listed (read levels bytes class at).tree)
-  record-below levels below class at listed (Refused why) is passed = own-unread levels bytes class at passed is
-  record-below levels below class at listed (Record own) is passed =
+  record_below levels below class at listed (Refused why) is passed = own_unread levels bytes class at passed is
+  record_below levels below class at listed (Record own) is passed =
       let limit : ℕ = length bytes in
       let tree : Tree = (read levels bytes class at).tree in
       let parts : List Tree = part_trees levels bytes class own in
       let number : ℕ = token_number tree in
       let used : Bool = has_comment (own_trivia tree) in
       let reading = (read_record bytes class at levels own is).1 in
-      let parts-passed = sym (parts-checked (read (levels - 1) bytes) (parts_due class own) own.end) ∙ sym (ap (λ (reading : Reading). reading.checked) reading) ∙ passed in
+      let parts_passed = sym (parts_checked (read (levels - 1) bytes) (parts_due class own) own.end) ∙ sym (ap (λ (reading : Reading). reading.checked) reading) ∙ passed in
       let here : at < limit = omega (arith, (record_headed bytes at class levels own is).1.room) in
       let some : 0 < limit = omega (arith, here) in
-      let head = head-stands bytes some levels class at (head_at levels bytes class at) refl passed in
-      let closing = closing-below limit number parts (parts-stand bytes some (levels - 1) (parts_due class own) own.end 2) in
+      let head = head_stands bytes some levels class at (head_at levels bytes class at) refl passed in
+      let closing = closing_below limit number parts (parts_stand bytes some (levels - 1) (parts_due class own) own.end 2) in
       let own-uses = both_below limit (own_marks class number listed at used) _ (own_below limit class number listed at used here)
       (both_below limit (head_marks class number listed (stands_at (head_of tree)) (has_comment (own_trivia (head_of tree)))) (closing_marks number parts)
-      (head-below limit class number listed (stands_at (head_of tree)) (has_comment (own_trivia (head_of tree))) head) closing) in
-      rw (record-uses levels bytes class at own is listed)
+      (head_below limit class number listed (stands_at (head_of tree)) (has_comment (own_trivia (head_of tree))) head) closing) in
+      rw (record_uses levels bytes class at own is listed)
       (both_below limit (own_uses class listed tree at parts) _ own-uses
-      (along-below (levels - 1) below (listed_below (get_or bytes at 0) listed) (standing (parts_due class own)) own.end parts-passed))
+      (along_below (levels - 1) below (listed_below (get_or bytes at 0) listed) (standing (parts_due class own)) own.end parts_passed))
 
-  uses-below : (levels : ℕ) (class : Class) (at : ℕ) (listed : Bool) → (read levels bytes class at).checked ≡ Passed
+  uses_below : (levels : ℕ) (class : Class) (at : ℕ) (listed : Bool) → (read levels bytes class at).checked ≡ Passed
       → Below (length bytes) (seen_in class listed (read levels bytes class at).tree)
-  uses-below zero class at listed = unread-below class at listed (read_own bytes at class zero) refl
-  uses-below (suc levels) class at listed =
+  uses_below zero class at listed = unread_below class at listed (read_own bytes at class zero) refl
+  uses_below (suc levels) class at listed =
       let one_less : suc levels - 1 ≡ levels = omega arith in
-      record-below (suc levels) (rw one_less (uses-below levels)) class at listed (read_own bytes at class (suc levels)) refl
+      record_below (suc levels) (rw one_less (uses_below levels)) class at listed (read_own bytes at class (suc levels)) refl
 
 -- ---- the offset of an answer is that of a use
 
@@ -187,7 +187,7 @@ one_below limit (other ∷ before) used behind below = one_below limit before us
 told_below : (from : ℕ) (bytes : List ℕ) (at letters : ℕ) → batch_checked bytes ≡ Passed → lost_from from bytes ≡ Used at letters → at < length bytes
 told_below from bytes at letters passed told =
     let found = (told_used from bytes at letters passed told).1 in
-    let below = uses-below bytes 64 Tokens 0 false (file_passed 65535 64 bytes passed).layout in
+    let below = uses_below bytes 64 Tokens 0 false (file_passed 65535 64 bytes passed).layout in
     subst (λ (place : ℕ). place < length bytes) found.stands
     (one_below (length bytes) found.before found.used found.behind (subst (Below (length bytes)) found.split below))
 
@@ -203,8 +203,8 @@ bit_here : {at : ℕ} {first : First} → first ≡ At at → (bit : ℕ) → bi
 bit_here {at} {first} is bit = rw (is, eq-eqb at at refl) refl
 
 module _ (firsts : Firsts) (at : ℕ) where
-  letters-most : letters_at firsts at ≤ 255
-  letters-most =
+  letters_most : letters_at firsts at ≤ 255
+  letters_most =
       omega (
         arith,
         bit_most at firsts.opening_brace 1,
@@ -217,15 +217,15 @@ module _ (firsts : Firsts) (at : ℕ) where
         bit_most at firsts.closing_character 128,
       )
 
-  letters-some : (spot : Spot) → first_of firsts spot ≡ At at → 1 ≤ letters_at firsts at
-  letters-some opening_brace is = omega (arith, bit_here is 1)
-  letters-some label_colon is = omega (arith, bit_here is 2)
-  letters-some value_head is = omega (arith, bit_here is 4)
-  letters-some import_path is = omega (arith, bit_here is 8)
-  letters-some path_item is = omega (arith, bit_here is 16)
-  letters-some register_letter is = omega (arith, bit_here is 32)
-  letters-some expression_head is = omega (arith, bit_here is 64)
-  letters-some closing_character is = omega (arith, bit_here is 128)
+  letters_some : (spot : Spot) → first_of firsts spot ≡ At at → 1 ≤ letters_at firsts at
+  letters_some opening_brace is = omega (arith, bit_here is 1)
+  letters_some label_colon is = omega (arith, bit_here is 2)
+  letters_some value_head is = omega (arith, bit_here is 4)
+  letters_some import_path is = omega (arith, bit_here is 8)
+  letters_some path_item is = omega (arith, bit_here is 16)
+  letters_some register_letter is = omega (arith, bit_here is 32)
+  letters_some expression_head is = omega (arith, bit_here is 64)
+  letters_some closing_character is = omega (arith, bit_here is 128)
 
 -- ---- the answer
 
@@ -236,10 +236,10 @@ lost_on_narrow from bytes (Failed refusal) least is here = rw is tt
 lost_on_narrow from bytes Passed Never is here = rw (is, here) tt
 lost_on_narrow from bytes Passed (At at) is here =
     let firsts : Firsts = firsts_in from (read_file 64 bytes).tree in
-    let spot = least-one firsts at here in
+    let spot = least_one firsts at here in
     let below = told_below from bytes at (letters_at firsts at) is (rw (is, here) refl) in
     let short = length_passed 65535 bytes (file_passed 65535 64 bytes is).size in
-    rw (is, here) (omega (arith, below, short), letters-some firsts at spot.0 spot.1, letters-most firsts at)
+    rw (is, here) (omega (arith, below, short), letters_some firsts at spot.0 spot.1, letters_most firsts at)
 
 -- an answer that is what the definition says is small, and has document 01's numbers
 pub narrow_lost : (loss : Loss) (from : ℕ) (bytes : List ℕ) → loss ≡ lost_from from bytes

@@ -139,25 +139,25 @@ module _ (firsts : Firsts) where
   abbrev gh : First
   gh = lesser_of (of expression_head) (of closing_character)
 
-  first-half : (limit : ℕ) → UpTo limit (lesser_of ab cd) → UpTo limit (least_of firsts)
-  first-half limit within = lesser_left limit (lesser_of ab cd) (lesser_of ef gh) within
+  first_half : (limit : ℕ) → UpTo limit (lesser_of ab cd) → UpTo limit (least_of firsts)
+  first_half limit within = lesser_left limit (lesser_of ab cd) (lesser_of ef gh) within
 
-  second-half : (limit : ℕ) → UpTo limit (lesser_of ef gh) → UpTo limit (least_of firsts)
-  second-half limit within = lesser_right limit (lesser_of ab cd) (lesser_of ef gh) within
+  second_half : (limit : ℕ) → UpTo limit (lesser_of ef gh) → UpTo limit (least_of firsts)
+  second_half limit within = lesser_right limit (lesser_of ab cd) (lesser_of ef gh) within
 
   -- the least is not behind any of them
-  least-up-to : (limit : ℕ) (spot : Spot) → UpTo limit (first_of firsts spot) → UpTo limit (least_of firsts)
-  least-up-to limit opening_brace within = first-half limit (lesser_left limit ab cd (lesser_left limit (of opening_brace) (of label_colon) within))
-  least-up-to limit label_colon within = first-half limit (lesser_left limit ab cd (lesser_right limit (of opening_brace) (of label_colon) within))
-  least-up-to limit value_head within = first-half limit (lesser_right limit ab cd (lesser_left limit (of value_head) (of import_path) within))
-  least-up-to limit import_path within = first-half limit (lesser_right limit ab cd (lesser_right limit (of value_head) (of import_path) within))
-  least-up-to limit path_item within = second-half limit (lesser_left limit ef gh (lesser_left limit (of path_item) (of register_letter) within))
-  least-up-to limit register_letter within = second-half limit (lesser_left limit ef gh (lesser_right limit (of path_item) (of register_letter) within))
-  least-up-to limit expression_head within = second-half limit (lesser_right limit ef gh (lesser_left limit (of expression_head) (of closing_character) within))
-  least-up-to limit closing_character within = second-half limit (lesser_right limit ef gh (lesser_right limit (of expression_head) (of closing_character) within))
+  least_up_to : (limit : ℕ) (spot : Spot) → UpTo limit (first_of firsts spot) → UpTo limit (least_of firsts)
+  least_up_to limit opening_brace within = first_half limit (lesser_left limit ab cd (lesser_left limit (of opening_brace) (of label_colon) within))
+  least_up_to limit label_colon within = first_half limit (lesser_left limit ab cd (lesser_right limit (of opening_brace) (of label_colon) within))
+  least_up_to limit value_head within = first_half limit (lesser_right limit ab cd (lesser_left limit (of value_head) (of import_path) within))
+  least_up_to limit import_path within = first_half limit (lesser_right limit ab cd (lesser_right limit (of value_head) (of import_path) within))
+  least_up_to limit path_item within = second_half limit (lesser_left limit ef gh (lesser_left limit (of path_item) (of register_letter) within))
+  least_up_to limit register_letter within = second_half limit (lesser_left limit ef gh (lesser_right limit (of path_item) (of register_letter) within))
+  least_up_to limit expression_head within = second_half limit (lesser_right limit ef gh (lesser_left limit (of expression_head) (of closing_character) within))
+  least_up_to limit closing_character within = second_half limit (lesser_right limit ef gh (lesser_right limit (of expression_head) (of closing_character) within))
 
-  least-onward : (from : ℕ) → ((spot : Spot) → Onward from (first_of firsts spot)) → Onward from (least_of firsts)
-  least-onward from each =
+  least_onward : (from : ℕ) → ((spot : Spot) → Onward from (first_of firsts spot)) → Onward from (least_of firsts)
+  least_onward from each =
       lesser_onward from (lesser_of ab cd) (lesser_of ef gh)
       (lesser_onward from ab cd
       (lesser_onward from (of opening_brace) (of label_colon) (each opening_brace) (each label_colon))
@@ -167,8 +167,8 @@ module _ (firsts : Firsts) where
       (lesser_onward from (of expression_head) (of closing_character) (each expression_head) (each closing_character)))
 
   -- and is one of them
-  pub least-one : (at : ℕ) → least_of firsts ≡ At at → (spot : Spot) × (first_of firsts spot ≡ At at)
-  least-one at e =
+  pub least_one : (at : ℕ) → least_of firsts ≡ At at → (spot : Spot) × (first_of firsts spot ≡ At at)
+  least_one at e =
       ⊎_elim
       (λ half. ⊎_elim
       (λ two. ⊎_elim (λ is. (opening_brace, is)) (λ is. (label_colon, is)) (lesser_one at (of opening_brace) (of label_colon) two))
@@ -205,9 +205,9 @@ every_use_told from bytes before used behind passed places here =
     subst (λ (uses : List Use). UpTo used.place (first_from from used.spot Never uses)) (sym places) (use_up_to from Never before used behind here) in
     let first = there used.place (first_in from used.spot tree) own in
     let is : first_of firsts used.spot ≡ At first.0 = first_of_lem from used.spot tree ∙ first.1.0 in
-    let least = there first.0 (least_of firsts) (least-up-to firsts first.0 used.spot (subst (λ (one : First). UpTo first.0 one) (sym is) (omega arith))) in
+    let least = there first.0 (least_of firsts) (least_up_to firsts first.0 used.spot (subst (λ (one : First). UpTo first.0 one) (sym is) (omega arith))) in
     let lower : Onward from (least_of firsts) =
-    least-onward firsts from (λ spot. subst (λ (one : First). Onward from one) (sym (first_of_lem from spot tree)) (from_onward from spot Never (places_in false tree) tt)) in
+    least_onward firsts from (λ spot. subst (λ (one : First). Onward from one) (sym (first_of_lem from spot tree)) (from_onward from spot Never (places_in false tree) tt)) in
     record {
       at = least.0;
       answer = ap (lost_on from tree) passed ∙ ap (answer_with firsts) least.1.0;
@@ -270,5 +270,5 @@ told_used from bytes at letters passed told =
     let tree : Tree = (read_file 64 bytes).tree in
     let firsts : Firsts = firsts_in from tree in
     let least = answer_used firsts (least_of firsts) at letters (sym (ap (lost_on from tree) passed) ∙ told) in
-    let one = least-one firsts at least in
+    let one = least_one firsts at least in
     (one.0, ⊎_elim (λ none. at_never (sym none)) (λ found. found) (from_occurs from at one.0 Never (places_in false tree) (sym (first_of_lem from one.0 tree) ∙ one.1)))

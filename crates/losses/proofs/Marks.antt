@@ -40,17 +40,17 @@ all_none = record { each = λ spot. refl }
 
 module _ {after before : Firsts} {from at number : ℕ} {used : Bool} (takes : TakesIf after before from at number used) where
   -- it is one of the eight
-  pub one-used : (spot : Spot) → number ≡ spot_number spot → TakesAll after before from (mark at spot used)
+  pub one_used : (spot : Spot) → number ≡ spot_number spot → TakesAll after before from (mark at spot used)
   unfolding first_from
-  one-used spot is =
+  one_used spot is =
       by_test used
       (λ q. record { each = λ other. rw q (rw (q, is) at (takes.each other)) })
       (λ q. record { each = λ other. rw q (rw q at (takes.each other)) })
 
   -- it is none
-  pub none-used : number ≡ 8 → TakesAll after before from []
+  pub none_used : number ≡ 8 → TakesAll after before from []
   unfolding first_from
-  none-used is =
+  none_used is =
       by_test used
       (λ q. record { each = λ other. rw (q, is, no_spot_lem other) at (takes.each other) })
       (λ q. record { each = λ other. rw q at (takes.each other) })
@@ -59,37 +59,37 @@ module _ {after before : Firsts} {from at number : ℕ} {used : Bool} (takes : T
 
 module _ {after before : Firsts} {from at spot : ℕ} {used : Bool} (takes : TakesIf after before from at spot used) (class : Class) (number : ℕ) (listed : Bool) where
   -- by its kind
-  kind-used : spot ≡ kind_spot number → TakesAll after before from (mark at import_path (eqb number 41 && used) ++ mark at path_item (eqb number 26 && used))
-  kind-used is =
+  kind_used : spot ≡ kind_spot number → TakesAll after before from (mark at import_path (eqb number 41 && used) ++ mark at path_item (eqb number 26 && used))
+  kind_used is =
       by_test (eqb number 41)
       (λ import.
       let other : eqb number 26 ≡ false = rw (eqb-true number 41 import) in
-      rw (import, other, append-nil (mark at import_path used)) (one-used takes import_path (rw import at is)))
+      rw (import, other, append-nil (mark at import_path used)) (one_used takes import_path (rw import at is)))
       (λ import. by_test (eqb number 26)
-      (λ item. rw (import, item) (one-used takes path_item (rw (import, item) at is)))
-      (λ item. rw (import, item) (none-used takes (rw (import, item) at is))))
+      (λ item. rw (import, item) (one_used takes path_item (rw (import, item) at is)))
+      (λ item. rw (import, item) (none_used takes (rw (import, item) at is))))
 
   -- by its field
-  pub own-used : spot ≡ own_spot class number listed → TakesAll after before from (own_marks class number listed at used)
-  own-used is =
+  pub own_used : spot ≡ own_spot class number listed → TakesAll after before from (own_marks class number listed at used)
+  own_used is =
       by_test (eqb (class_number class) 3)
       (λ brace. by_test listed
-      (λ in_List. rw (brace, in_List) (none-used takes (rw (brace, in_List) at is)))
-      (λ in_List. rw (brace, in_List) (one-used takes opening_brace (rw (brace, in_List) at is))))
+      (λ in_List. rw (brace, in_List) (none_used takes (rw (brace, in_List) at is)))
+      (λ in_List. rw (brace, in_List) (one_used takes opening_brace (rw (brace, in_List) at is))))
       (λ brace. by_test (eqb (class_number class) 5)
-      (λ colon. rw (brace, colon) (one-used takes label_colon (rw (brace, colon) at is)))
+      (λ colon. rw (brace, colon) (one_used takes label_colon (rw (brace, colon) at is)))
       (λ colon. by_test (eqb (class_number class) 8)
-      (λ register. rw (brace, colon, register) (one-used takes register_letter (rw (brace, colon, register) at is)))
-      (λ register. rw (brace, colon, register) (kind-used (rw (brace, colon, register) at is)))))
+      (λ register. rw (brace, colon, register) (one_used takes register_letter (rw (brace, colon, register) at is)))
+      (λ register. rw (brace, colon, register) (kind_used (rw (brace, colon, register) at is)))))
 
   -- a token's head
-  pub head-used : (eqb (class_number class) 20 || eqb (class_number class) 21) ≡ true → spot ≡ head_spot class number listed
+  pub head_used : (eqb (class_number class) 20 || eqb (class_number class) 21) ≡ true → spot ≡ head_spot class number listed
       → TakesAll after before from (head_marks class number listed at used)
-  head-used token is =
+  head_used token is =
       by_test (eqb number 9)
       (λ nine. by_test listed
-      (λ in_List. rw (token, nine, in_List) (one-used takes expression_head (rw (token, nine, in_List) at is)))
-      (λ in_List. rw (token, nine, in_List) (none-used takes (rw (token, nine, in_List) at is))))
+      (λ in_List. rw (token, nine, in_List) (one_used takes expression_head (rw (token, nine, in_List) at is)))
+      (λ in_List. rw (token, nine, in_List) (none_used takes (rw (token, nine, in_List) at is))))
       (λ nine. by_test listed
-      (λ in_List. rw (token, nine, in_List) (none-used takes (rw (token, nine, in_List) at is)))
-      (λ in_List. rw (token, nine, in_List) (one-used takes value_head (rw (token, nine, in_List) at is))))
+      (λ in_List. rw (token, nine, in_List) (none_used takes (rw (token, nine, in_List) at is)))
+      (λ in_List. rw (token, nine, in_List) (one_used takes value_head (rw (token, nine, in_List) at is))))

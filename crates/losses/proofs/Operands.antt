@@ -32,7 +32,7 @@ use Rattle.tree.proofs.OwnBytes.{own_fits}
 use Rattle.tree.proofs.Cases.{both_passed}
 use Rattle.events.specs.Views.{view, token_number, stands_at, stands, index_of, bit_at}
 use Rattle.events.proofs.Heads.{read_stands}
-use Rattle.events.proofs.OwnParts.{Fielded, record-parts, record_headed}
+use Rattle.events.proofs.OwnParts.{Fielded, record_parts, record_headed}
 use Rattle.leaves.proofs.Records.{read_record}
 use Rattle.leaves.proofs.Fielded.{standing_range}
 use Rattle.reading.specs.Places.{at_closing_character}
@@ -40,9 +40,9 @@ use Rattle.losses.specs.Visits.{behind_field, index_in, part_trees, Takes, Takes
 use Rattle.losses.specs.declared.firsts.Firsts.{Firsts}
 use Rattle.losses.specs.declared.uses.Seen.{Seen}
 use Rattle.losses.specs.declared.uses.Seen.TheVariants.{Shown}
-use Rattle.losses.proofs.Steps.{takes-used, takes-unused}
-use Rattle.losses.proofs.Records.{node-read, inner-number}
-use Rattle.losses.proofs.Passed.{next_unskipped, same_next, own-unread, passed-at, passed-skip, shows-it}
+use Rattle.losses.proofs.Steps.{takes_used, takes_unused}
+use Rattle.losses.proofs.Records.{node_read, inner_number}
+use Rattle.losses.proofs.Passed.{next_unskipped, same_next, own_unread, passed_at, passed_skip, shows_it}
 
 -- ---- fields, one behind the other
 
@@ -56,16 +56,16 @@ module _ (reader : Reader) (slot : Slot) (slots : List Slot) (bits at : ℕ) whe
   next = cond (bit_at 0 bits) (reader (slot_class slot) at).end at
 
   -- its tree and those behind it
-  first-trees : (read_parts reader (fields_due (slot ∷ slots) bits) at).trees
+  first_trees : (read_parts reader (fields_due (slot ∷ slots) bits) at).trees
       ≡ cond (bit_at 0 bits) (reader (slot_class slot) at).tree absent ∷ (read_parts reader (fields_due slots (bits / 2)) next).trees
   unfolding fields_due read_parts bit_at
-  first-trees = by_test (eqb (bits % 2) 1) (λ q. rw q refl) (λ q. rw q refl)
+  first_trees = by_test (eqb (bits % 2) 1) (λ q. rw q refl) (λ q. rw q refl)
 
   -- where they pass it does, and so do those behind it
-  first-passed : (read_parts reader (fields_due (slot ∷ slots) bits) at).checked ≡ Passed
+  first_passed : (read_parts reader (fields_due (slot ∷ slots) bits) at).checked ≡ Passed
       → (bit_at 0 bits ≡ true → (reader (slot_class slot) at).checked ≡ Passed) × ((read_parts reader (fields_due slots (bits / 2)) next).checked ≡ Passed)
   unfolding fields_due read_parts bit_at
-  first-passed passed =
+  first_passed passed =
       by_test (eqb (bits % 2) 1)
       (λ q.
       let both = both_passed (reader (slot_class slot) at).checked (read_parts reader (fields_due slots (bits / 2)) (reader (slot_class slot) at).end).checked (rw q at passed) in
@@ -98,9 +98,9 @@ module _ (reader : Reader) (bits at : ℕ) where
     pub index : get_or trees 3 absent ≡ (reader AddressingMode mode_at).tree
 
   -- the expression and the mode stand
-  must-stand : fields_fit operand_slots bits ≡ true → (bit_at 0 bits ≡ true) × (bit_at 0 (bits / 2 / 2 / 2) ≡ true)
+  must_stand : fields_fit operand_slots bits ≡ true → (bit_at 0 bits ≡ true) × (bit_at 0 (bits / 2 / 2 / 2) ≡ true)
   unfolding fields_fit bit_at
-  must-stand fits = (
+  must_stand fits = (
     and_true_left (eqb (bits % 2) 1) _ fits,
     and_true_left (eqb (bits / 2 / 2 / 2 % 2) 1) _ (and_true_right (eqb (bits % 2) 1) _ fits),
   )
@@ -109,18 +109,18 @@ module _ (reader : Reader) (bits at : ℕ) where
       → OperandRead (read_parts reader (fields_due operand_slots bits) at).trees
   unfolding bit_at
   operand_read fits passed =
-      let stood = must-stand fits in
+      let stood = must_stand fits in
       let behind-first = may Char ∷ may Char ∷ must AddressingMode ∷ may SuffixRecord ∷ [] in
       let behind-second = may Char ∷ must AddressingMode ∷ may SuffixRecord ∷ [] in
       let behind-third = must AddressingMode ∷ may SuffixRecord ∷ [] in
-      let first = first-passed reader (must LocatedExpression) behind-first bits at passed in
-      let second = first-passed reader (may Char) behind-second (bits / 2) lchar_at (rw stood.0 at first.1) in
-      let third = first-passed reader (may Char) behind-third (bits / 2 / 2) rchar_at second.1 in
-      let fourth = first-passed reader (must AddressingMode) (may SuffixRecord ∷ []) (bits / 2 / 2 / 2) mode_at third.1 in
-      let trees-first = rw stood.0 at (first-trees reader (must LocatedExpression) behind-first bits at) in
-      let trees-second = first-trees reader (may Char) behind-second (bits / 2) lchar_at in
-      let trees-third = first-trees reader (may Char) behind-third (bits / 2 / 2) rchar_at in
-      let trees-fourth = first-trees reader (must AddressingMode) (may SuffixRecord ∷ []) (bits / 2 / 2 / 2) mode_at in
+      let first = first_passed reader (must LocatedExpression) behind-first bits at passed in
+      let second = first_passed reader (may Char) behind-second (bits / 2) lchar_at (rw stood.0 at first.1) in
+      let third = first_passed reader (may Char) behind-third (bits / 2 / 2) rchar_at second.1 in
+      let fourth = first_passed reader (must AddressingMode) (may SuffixRecord ∷ []) (bits / 2 / 2 / 2) mode_at third.1 in
+      let trees-first = rw stood.0 at (first_trees reader (must LocatedExpression) behind-first bits at) in
+      let trees-second = first_trees reader (may Char) behind-second (bits / 2) lchar_at in
+      let trees-third = first_trees reader (may Char) behind-third (bits / 2 / 2) rchar_at in
+      let trees-fourth = first_trees reader (must AddressingMode) (may SuffixRecord ∷ []) (bits / 2 / 2 / 2) mode_at in
       record {
         expression = first.0 stood.0;
         opening = second.0;
@@ -151,7 +151,7 @@ index_read levels bytes at own is =
     let known : kind_of 25 ≡ Known own.kind = rw number at headed.kind_is in
     let leaf : own.kind ≡ variant.Leaf = cc in
     let fits = own_fits bytes at AddressingMode levels own is in
-    rw (node-read levels bytes AddressingMode at own is, leaf) (slice_first bytes own.text own.end fits.part fits.inside)
+    rw (node_read levels bytes AddressingMode at own is, leaf) (slice_first bytes own.text own.end fits.part fits.inside)
 
 -- ---- the closing character
 
@@ -167,32 +167,32 @@ module _ (levels : ℕ) (bytes : List ℕ) {bits at : ℕ} {trees : List Tree} (
   printed = mode_at (read levels bytes) bits at
 
   -- what is skipped on the way to the character
-  expression-skipped : skipped levels bytes LocatedExpression at ≡ Next opens
-  expression-skipped = passed-skip levels bytes LocatedExpression at held.expression
+  expression_skipped : skipped levels bytes LocatedExpression at ≡ Next opens
+  expression_skipped = passed_skip levels bytes LocatedExpression at held.expression
 
-  opening-skipped : behind_field levels bytes Char opens (bit_at 1 bits) ≡ Next closes
-  opening-skipped = by_test (bit_at 1 bits) (λ q. rw q (passed-skip levels bytes Char opens (held.opening q))) (λ q. rw q)
+  opening_skipped : behind_field levels bytes Char opens (bit_at 1 bits) ≡ Next closes
+  opening_skipped = by_test (bit_at 1 bits) (λ q. rw q (passed_skip levels bytes Char opens (held.opening q))) (λ q. rw q)
 
   -- it does not stand
-  closing-absent : bit_at 2 bits ≡ false → at_closing_character (index_of (get_or trees 3 absent)) (get_or trees 2 absent) ≡ false
+  closing_absent : bit_at 2 bits ≡ false → at_closing_character (index_of (get_or trees 3 absent)) (get_or trees 2 absent) ≡ false
   unfolding view
-  closing-absent none =
+  closing_absent none =
       let mode : List ℕ = index_of (get_or trees 3 absent) in
       rw (held.rchar, none) (and-false (not (eqb (get_or mode 0 0) 3 || eqb (get_or mode 0 0) 4)))
 
   module _ (there : bit_at 2 bits ≡ true) where
     -- it stands there
     closing_at : stands_at (get_or trees 2 absent) ≡ closes
-    closing_at = rw (held.rchar, there) (passed-at levels bytes Char closes (held.closing there))
+    closing_at = rw (held.rchar, there) (passed_at levels bytes Char closes (held.closing there))
 
     -- the mode stands behind it
-    closing-skipped : skipped levels bytes Char closes ≡ Next printed
-    closing-skipped = rw there (passed-skip levels bytes Char closes (held.closing there))
+    closing_skipped : skipped levels bytes Char closes ≡ Next printed
+    closing_skipped = rw there (passed_skip levels bytes Char closes (held.closing there))
 
     -- and it counts where the mode prints none
-    closing-used : (leaf : Own) → read_own bytes printed AddressingMode levels ≡ Record leaf
+    closing_used : (leaf : Own) → read_own bytes printed AddressingMode levels ≡ Record leaf
         → at_closing_character (index_of (get_or trees 3 absent)) (get_or trees 2 absent) ≡ not (eqb (index_in bytes leaf) 3 || eqb (index_in bytes leaf) 4)
-    closing-used leaf is =
+    closing_used leaf is =
         let same : get_or (index_of (get_or trees 3 absent)) 0 0 ≡ index_in bytes leaf =
         ap (λ (tree : Tree). get_or (index_of tree) 0 0) held.index ∙ index_read levels bytes printed leaf is in
         rw (same, held.rchar, there, read_stands levels bytes Char closes, and-true _)
@@ -210,25 +210,25 @@ module _ (levels : ℕ) (bytes : List ℕ) (class : Class) (at : ℕ) (own : Own
   trees = part_trees levels bytes class own
 
   -- its fields
-  fields-held : Fielded bytes at class own
-  fields-held =
+  fields_held : Fielded bytes at class own
+  fields_held =
       ⊎_elim (λ vec. let none : variant.Operand ≡ variant.Vec = sym operand ∙ vec in let zero_one : ◌≡◌ {A = ℕ} 0 1 = cc in absurd (omega arith))
-      (λ held. held) (record-parts bytes at class levels own is)
+      (λ held. held) (record_parts bytes at class levels own is)
 
   -- its number
-  operand-number : 37 ≡ get_or bytes at 0
+  operand_number : 37 ≡ get_or bytes at 0
   unfolding built view
-  operand-number = sym (ap (λ (kind : Kind). token_number (built kind (text_of bytes own) trees)) operand) ∙ inner-number levels bytes class at own is
+  operand_number = sym (ap (λ (kind : Kind). token_number (built kind (text_of bytes own) trees)) operand) ∙ inner_number levels bytes class at own is
 
   parts_held : OperandRead reader bits own.end trees
   parts_held =
-      let held = fields-held in
+      let held = fields_held in
       let due : parts_due class own ≡ fields_due operand_slots bits =
       held.parts ∙ ap (λ (kind : Kind). fields_due (fields kind (rule class).value) bits) operand in
-      let fits : fields_fit operand_slots bits ≡ true = rw operand at (held.fits (rw (sym operand-number))) in
-      let parts-passed : (read_parts reader (parts_due class own) own.end).checked ≡ Passed =
+      let fits : fields_fit operand_slots bits ≡ true = rw operand at (held.fits (rw (sym operand_number))) in
+      let parts_passed : (read_parts reader (parts_due class own) own.end).checked ≡ Passed =
       sym (ap (λ (reading : Reading). reading.checked) (read_record bytes class at levels own is).1) ∙ passed in
-      rw (sym due) at (operand_read reader bits own.end fits (rw due at parts-passed))
+      rw (sym due) at (operand_read reader bits own.end fits (rw due at parts_passed))
 
 -- ---- what is taken
 
@@ -246,35 +246,35 @@ module _ (levels : ℕ) (bytes : List ℕ) (own : Own) where
   by_parts shows class at is operand passed = shows (part_trees levels bytes class own) (parts_held levels bytes class at own is operand passed)
 
   -- where it does not stand
-  pub takes-no-closing : {before : Firsts} {from : ℕ} {there : Bool} → there ≡ bit_at 2 (own.map / 2) → there ≡ false
+  pub takes_no_closing : {before : Firsts} {from : ℕ} {there : Bool} → there ≡ bit_at 2 (own.map / 2) → there ≡ false
       → TakesClosing (Shown before) before from levels bytes own
-  takes-no-closing same none = by_parts (λ trees held. shows-it (takes-unused (closing-absent below bytes held (sym same ∙ none))))
+  takes_no_closing same none = by_parts (λ trees held. shows_it (takes_unused (closing_absent below bytes held (sym same ∙ none))))
 
   -- where it does: nothing that is read on the way to it and to the mode is refused
   module _ {there : Bool} (stands-third : there ≡ bit_at 2 (own.map / 2)) (yes-there : there ≡ true)
       {expression : Skipped} (expression-is : expression ≡ skipped below bytes LocatedExpression own.end) where
-    it-stands : bit_at 2 (own.map / 2) ≡ true
-    it-stands = sym stands-third ∙ yes-there
+    it_stands : bit_at 2 (own.map / 2) ≡ true
+    it_stands = sym stands-third ∙ yes-there
 
-    pub no-expression : {seen : Seen} {before : Firsts} {from : ℕ} {why : Refusal} → expression ≡ NotSkipped why → TakesClosing seen before from levels bytes own
-    no-expression none = by_parts (λ trees held. next_unskipped (sym (expression-skipped below bytes held) ∙ sym expression-is ∙ none))
+    pub no_expression : {seen : Seen} {before : Firsts} {from : ℕ} {why : Refusal} → expression ≡ NotSkipped why → TakesClosing seen before from levels bytes own
+    no_expression none = by_parts (λ trees held. next_unskipped (sym (expression_skipped below bytes held) ∙ sym expression-is ∙ none))
 
     module _ {lchar : ℕ} (lchar-is : expression ≡ Next lchar) {second : Bool} (stands-second : second ≡ bit_at 1 (own.map / 2))
         {opening : Skipped} (opening-is : opening ≡ behind_field below bytes Char lchar second) where
-      opening-there : {trees : List Tree} (held : Held trees) → opening ≡ Next (closes below bytes held)
-      opening-there held =
-          let same = same_next (sym lchar-is ∙ expression-is ∙ expression-skipped below bytes held) in
-          opening-is ∙ rw (same, stands-second) (opening-skipped below bytes held)
+      opening_there : {trees : List Tree} (held : Held trees) → opening ≡ Next (closes below bytes held)
+      opening_there held =
+          let same = same_next (sym lchar-is ∙ expression-is ∙ expression_skipped below bytes held) in
+          opening-is ∙ rw (same, stands-second) (opening_skipped below bytes held)
 
-      pub no-opening : {seen : Seen} {before : Firsts} {from : ℕ} {why : Refusal} → opening ≡ NotSkipped why → TakesClosing seen before from levels bytes own
-      no-opening none = by_parts (λ trees held. next_unskipped (sym (opening-there held) ∙ none))
+      pub no_opening : {seen : Seen} {before : Firsts} {from : ℕ} {why : Refusal} → opening ≡ NotSkipped why → TakesClosing seen before from levels bytes own
+      no_opening none = by_parts (λ trees held. next_unskipped (sym (opening_there held) ∙ none))
 
       module _ {rchar : ℕ} (rchar-is : opening ≡ Next rchar) {closing : Skipped} (closing-is : closing ≡ skipped below bytes Char rchar) where
         rchar-there : {trees : List Tree} (held : Held trees) → rchar ≡ closes below bytes held
-        rchar-there held = same_next (sym rchar-is ∙ opening-there held)
+        rchar-there held = same_next (sym rchar-is ∙ opening_there held)
 
         closing-there : {trees : List Tree} (held : Held trees) → closing ≡ Next (printed below bytes held)
-        closing-there held = closing-is ∙ rw (rchar-there held) (closing-skipped below bytes held it-stands)
+        closing-there held = closing-is ∙ rw (rchar-there held) (closing_skipped below bytes held it_stands)
 
         pub no-closing : {seen : Seen} {before : Firsts} {from : ℕ} {why : Refusal} → closing ≡ NotSkipped why → TakesClosing seen before from levels bytes own
         no-closing none = by_parts (λ trees held. next_unskipped (sym (closing-there held) ∙ none))
@@ -285,22 +285,22 @@ module _ (levels : ℕ) (bytes : List ℕ) (own : Own) where
               sym (found-is ∙ ap (λ (place : ℕ). read_own bytes place AddressingMode below) (same_next (sym mode-is ∙ closing-there held)))
 
           pub no_mode : {seen : Seen} {before : Firsts} {from : ℕ} {why : Refusal} → found ≡ Refused why → TakesClosing seen before from levels bytes own
-          no_mode none = by_parts (λ trees held. own-unread below bytes AddressingMode (printed below bytes held) held.mode (mode-there held ∙ none))
+          no_mode none = by_parts (λ trees held. own_unread below bytes AddressingMode (printed below bytes held) held.mode (mode-there held ∙ none))
 
           -- the index that the leaf holds tells whether it counts
           module _ (leaf : Own) (leaf-is : found ≡ Record leaf) {index : ℕ} (index_is : index ≡ index_in bytes leaf) where
             used-there : {trees : List Tree} (held : Held trees)
                 → at_closing_character (index_of (get_or trees 3 absent)) (get_or trees 2 absent) ≡ not (eqb index 3 || eqb index 4)
             used-there held =
-                closing-used below bytes held it-stands leaf (mode-there held ∙ leaf-is) ∙ ap (λ (index : ℕ). not (eqb index 3 || eqb index 4)) (sym index_is)
+                closing_used below bytes held it_stands leaf (mode-there held ∙ leaf-is) ∙ ap (λ (index : ℕ). not (eqb index 3 || eqb index 4)) (sym index_is)
 
             -- the mode prints it
             pub takes-printed : {before : Firsts} {from : ℕ} → (eqb index 3 || eqb index 4) ≡ true → TakesClosing (Shown before) before from levels bytes own
-            takes-printed prints = by_parts (λ trees held. shows-it (takes-unused (used-there held ∙ ap not prints)))
+            takes-printed prints = by_parts (λ trees held. shows_it (takes_unused (used-there held ∙ ap not prints)))
 
             -- or not
             pub takes-closing : {after before : Firsts} {from : ℕ} → (eqb index 3 || eqb index 4) ≡ false → Takes after before from rchar 7
                 → TakesClosing (Shown after) before from levels bytes own
             takes-closing omits takes =
                 by_parts
-                (λ trees held. shows-it (rw (closing_at below bytes held it-stands ∙ sym (rchar-there held)) (takes-used (used-there held ∙ ap not omits) takes)))
+                (λ trees held. shows_it (rw (closing_at below bytes held it_stands ∙ sym (rchar-there held)) (takes_used (used-there held ∙ ap not omits) takes)))

@@ -1,6 +1,6 @@
 -- A record that was read without refusal: its own bytes were read, it stands at its place, it is skipped, and an answer
 -- to it is no refusal.
---   own-unread, next_unskipped, shows-never, finds-never : a refusal of it, from which anything follows
+--   own_unread, next_unskipped, shows_never, finds_never : a refusal of it, from which anything follows
 use mathlib.Core.Path.{◌≡◌, refl, sym, ap, ◌∙◌}
 use mathlib.Core.List.{List}
 use Prim.Native.Nat.{ℕ}
@@ -17,7 +17,7 @@ use Rattle.tree.specs.declared.own.OwnRead.{OwnRead}
 use Rattle.tree.specs.declared.own.OwnRead.TheVariants.{Record, Refused}
 use Rattle.tree.specs.declared.parts.Skipped.TheVariants.{Next, NotSkipped}
 use Rattle.events.specs.Views.{view, stands_at}
-use Rattle.events.proofs.Heads.{own-refused}
+use Rattle.events.proofs.Heads.{own_refused}
 use Rattle.events.proofs.Passed.{own_passed}
 use Rattle.events.proofs.Refusals.{read_refusal}
 use Rattle.losses.specs.Visits.{Shows, Finds}
@@ -26,7 +26,7 @@ use Rattle.losses.specs.declared.uses.Seen.{Seen}
 use Rattle.losses.specs.declared.uses.Seen.TheVariants as seeing
 use Rattle.losses.specs.declared.search.Searched.{Searched}
 use Rattle.losses.specs.declared.search.Searched.TheVariants as searching
-use Rattle.losses.proofs.Records.{node-read}
+use Rattle.losses.proofs.Records.{node_read}
 
 -- ---- the bytes
 
@@ -40,27 +40,27 @@ same_next e = cc
 
 module _ (levels : ℕ) (bytes : List ℕ) (class : Class) (at : ℕ) (passed : (read levels bytes class at).checked ≡ Passed) where
   -- its own bytes were not refused
-  pub own-unread : {R : Type 0} {why : Refusal} → read_own bytes at class levels ≡ Refused why → R
-  own-unread {R} {why} is =
-      failed_passed (sym (own-refused levels bytes class at why is) ∙ own_passed (read levels bytes class at).tree (read_refusal levels bytes class at ∙ passed))
+  pub own_unread : {R : Type 0} {why : Refusal} → read_own bytes at class levels ≡ Refused why → R
+  own_unread {R} {why} is =
+      failed_passed (sym (own_refused levels bytes class at why is) ∙ own_passed (read levels bytes class at).tree (read_refusal levels bytes class at ∙ passed))
 
   -- so they were read
-  pub own-there : (own : Own) × (read_own bytes at class levels ≡ Record own)
-  own-there = go (read_own bytes at class levels) refl
+  pub own_there : (own : Own) × (read_own bytes at class levels ≡ Record own)
+  own_there = go (read_own bytes at class levels) refl
     where
       go : (found : OwnRead) → read_own bytes at class levels ≡ found → (own : Own) × (read_own bytes at class levels ≡ Record own)
       go (Record own) is = (own, is)
-      go (Refused why) is = own-unread is
+      go (Refused why) is = own_unread is
 
   -- it stands at its place
-  pub passed-at : stands_at (read levels bytes class at).tree ≡ at
+  pub passed_at : stands_at (read levels bytes class at).tree ≡ at
   unfolding view
-  passed-at = ap stands_at (node-read levels bytes class at own-there.0 own-there.1)
+  passed_at = ap stands_at (node_read levels bytes class at own_there.0 own_there.1)
 
   -- it is skipped
-  pub passed-skip : skipped levels bytes class at ≡ Next (read levels bytes class at).end
+  pub passed_skip : skipped levels bytes class at ≡ Next (read levels bytes class at).end
   unfolding skipped
-  passed-skip = rw passed
+  passed_skip = rw passed
 
 -- ---- an answer to it
 
@@ -69,33 +69,33 @@ pub shown_refused : {R : Type 0} {firsts : Firsts} {why : Refusal} → seeing.Sh
 shown_refused e = let z : ◌≡◌ {A = ℕ} 0 1 = cc in absurd (omega arith)
 
 module _ {held : Firsts → Type 0} where
-  pub shows-it : {firsts : Firsts} → held firsts → Shows (seeing.Shown firsts) held
-  shows-it {firsts} holds = record { firsts = firsts; is = refl; holds = holds }
+  pub shows_it : {firsts : Firsts} → held firsts → Shows (seeing.Shown firsts) held
+  shows_it {firsts} holds = record { firsts = firsts; is = refl; holds = holds }
 
   -- what holds of it
-  pub shows-held : {seen : Seen} {firsts : Firsts} → seen ≡ seeing.Shown firsts → Shows seen held → held firsts
-  shows-held {seen} {firsts} shown shows =
+  pub shows_held : {seen : Seen} {firsts : Firsts} → seen ≡ seeing.Shown firsts → Shows seen held → held firsts
+  shows_held {seen} {firsts} shown shows =
       let both = sym shows.is ∙ shown in
       let same : shows.firsts ≡ firsts = cc in
       rw same at shows.holds
 
-  pub shows-never : {R : Type 0} {seen : Seen} {why : Refusal} → seen ≡ seeing.Refused why → Shows seen held → R
-  shows-never refused shows = shown_refused (sym shows.is ∙ refused)
+  pub shows_never : {R : Type 0} {seen : Seen} {why : Refusal} → seen ≡ seeing.Refused why → Shows seen held → R
+  shows_never refused shows = shown_refused (sym shows.is ∙ refused)
 
 module _ {held : ℕ → Firsts → Type 0} where
-  pub finds-it : {end : ℕ} {firsts : Firsts} → held end firsts → Finds (searching.Whole end firsts) held
-  finds-it {end} {firsts} holds = record { end = end; firsts = firsts; is = refl; holds = holds }
+  pub finds_it : {end : ℕ} {firsts : Firsts} → held end firsts → Finds (searching.Whole end firsts) held
+  finds_it {end} {firsts} holds = record { end = end; firsts = firsts; is = refl; holds = holds }
 
   -- what holds of it
-  pub finds-held : {searched : Searched} {end : ℕ} {firsts : Firsts} → searched ≡ searching.Whole end firsts → Finds searched held → held end firsts
-  finds-held {searched} {end} {firsts} whole finds =
+  pub finds_held : {searched : Searched} {end : ℕ} {firsts : Firsts} → searched ≡ searching.Whole end firsts → Finds searched held → held end firsts
+  finds_held {searched} {end} {firsts} whole finds =
       let both = sym finds.is ∙ whole in
       let same : finds.firsts ≡ firsts = cc in
       let behind : finds.end ≡ end = cc in
       rw (same, behind) at finds.holds
 
-  pub finds-never : {R : Type 0} {searched : Searched} {why : Refusal} → searched ≡ searching.Refused why → Finds searched held → R
-  finds-never refused finds =
+  pub finds_never : {R : Type 0} {searched : Searched} {why : Refusal} → searched ≡ searching.Refused why → Finds searched held → R
+  finds_never refused finds =
       let both = sym finds.is ∙ refused in
       let z : ◌≡◌ {A = ℕ} 0 1 = cc in
       absurd (omega arith)

@@ -26,13 +26,13 @@ use Rattle.tree.specs.declared.own.OwnRead.TheVariants.{Record}
 use Rattle.tree.specs.declared.grammar.Items.TheVariants.{NoList}
 use Rattle.tree.proofs.Rows.{class_back}
 use Rattle.events.specs.Views.{view, own_trivia, head_of, stands_at, token_number}
-use Rattle.events.proofs.OwnParts.{Fielded, record-parts, record_headed, token_number_lem}
+use Rattle.events.proofs.OwnParts.{Fielded, record_parts, record_headed, token_number_lem}
 use Rattle.leaves.proofs.Records.{read_record}
 use Rattle.leaves.proofs.Fielded.{standing_range}
 use Rattle.reading.specs.Places.{Use, has_comment, mark, places_in, opening_brace, label_colon, value_head, import_path, path_item, register_letter}
 use Rattle.losses.specs.Visits.{class_uses, seen_in, kind_uses, own_marks, head_marks, closing_marks, own_uses, listed_below, uses_along, part_trees, TokenClass}
 use Rattle.losses.proofs.Table.{kind_uses_lem}
-use Rattle.losses.proofs.Along.{fields-along, items-along}
+use Rattle.losses.proofs.Along.{fields_along, items_along}
 
 -- ---- what may stand in a class
 
@@ -95,33 +95,33 @@ module _ (levels : ℕ) (bytes : List ℕ) (class : Class) (at : ℕ) (own : Own
   inner = built own.kind (text_of bytes own) parts
 
   -- it is a node of its parts
-  pub node-read : (read levels bytes class at).tree ≡ node at (trivia_of bytes own) inner
-  node-read = rw (read_record bytes class at levels own is).1
+  pub node_read : (read levels bytes class at).tree ≡ node at (trivia_of bytes own) inner
+  node_read = rw (read_record bytes class at levels own is).1
 
   -- its number
-  pub inner-number : token_number inner ≡ get_or bytes at 0
-  inner-number = token_number_lem (get_or bytes at 0) own.kind (text_of bytes own) parts (record_headed bytes at class levels own is).1.kind_is
+  pub inner_number : token_number inner ≡ get_or bytes at 0
+  inner_number = token_number_lem (get_or bytes at 0) own.kind (text_of bytes own) parts (record_headed bytes at class levels own is).1.kind_is
 
   -- those of its parts that stand
   abbrev below : Bool → List Use
   below listed = uses_along (read (levels - 1) bytes) (listed_below (get_or bytes at 0) listed) (standing (parts_due class own)) own.end
 
   -- the uses below it are what its kind tells, and those of its parts: a list
-  list-uses : own.kind ≡ variant.Vec → (listed : Bool) → places_in listed inner ≡ kind_uses listed (get_or bytes at 0) parts ++ below listed
+  list_uses : own.kind ≡ variant.Vec → (listed : Bool) → places_in listed inner ≡ kind_uses listed (get_or bytes at 0) parts ++ below listed
   unfolding places_in built parts_due fields_due view
-  list-uses vec listed =
-      let number : 24 ≡ get_or bytes at 0 = sym (ap (λ (kind : Kind). token_number (built kind (text_of bytes own) parts)) vec) ∙ inner-number in
-      rw (sym number) (rw vec (items-along (read (levels - 1) bytes) listed class own.count own.end))
+  list_uses vec listed =
+      let number : 24 ≡ get_or bytes at 0 = sym (ap (λ (kind : Kind). token_number (built kind (text_of bytes own) parts)) vec) ∙ inner_number in
+      rw (sym number) (rw vec (items_along (read (levels - 1) bytes) listed class own.count own.end))
 
   -- any other record
-  field-uses : Fielded bytes at class own → (listed : Bool) → places_in listed inner ≡ kind_uses listed (get_or bytes at 0) parts ++ below listed
-  field-uses held listed =
-      let table = kind_uses_lem own.kind class listed (text_of bytes own) parts (rw inner-number held.other) in
-      let along = fields-along (read (levels - 1) bytes) (listed_below (get_or bytes at 0) listed) (fields own.kind (rule class).value) (own.map / 2) own.end in
-      rw inner-number at table ∙ ap (λ (uses : List Use). kind_uses listed (get_or bytes at 0) parts ++ uses) (rw (sym held.parts) at along)
+  field_uses : Fielded bytes at class own → (listed : Bool) → places_in listed inner ≡ kind_uses listed (get_or bytes at 0) parts ++ below listed
+  field_uses held listed =
+      let table = kind_uses_lem own.kind class listed (text_of bytes own) parts (rw inner_number held.other) in
+      let along = fields_along (read (levels - 1) bytes) (listed_below (get_or bytes at 0) listed) (fields own.kind (rule class).value) (own.map / 2) own.end in
+      rw inner_number at table ∙ ap (λ (uses : List Use). kind_uses listed (get_or bytes at 0) parts ++ uses) (rw (sym held.parts) at along)
 
-  inner-uses : (listed : Bool) → places_in listed inner ≡ kind_uses listed (get_or bytes at 0) parts ++ below listed
-  inner-uses listed = ⊎_elim (λ vec. list-uses vec listed) (λ held. field-uses held listed) (record-parts bytes at class levels own is)
+  inner_uses : (listed : Bool) → places_in listed inner ≡ kind_uses listed (get_or bytes at 0) parts ++ below listed
+  inner_uses listed = ⊎_elim (λ vec. list_uses vec listed) (λ held. field_uses held listed) (record_parts bytes at class levels own is)
 
 -- ---- a record's uses, by its class
 
@@ -144,25 +144,25 @@ module _ (class : Class) (number at : ℕ) (stands : may_stand (rule class) numb
       ++ (head_marks class number listed (stands_at head) (has_comment (own_trivia head)) ++ closing_marks number parts)) ++ others
 
   -- a leaf: a brace, a colon or a register
-  leaf-met : (leaf : ℕ) → eqb (class_number class) leaf ≡ true → (rule (class_of leaf)).items ≡ NoList → (rule (class_of leaf)).first ≡ 25 → (rule (class_of leaf)).last ≡ 25
+  leaf_met : (leaf : ℕ) → eqb (class_number class) leaf ≡ true → (rule (class_of leaf)).items ≡ NoList → (rule (class_of leaf)).first ≡ 25 → (rule (class_of leaf)).last ≡ 25
       → number ≡ 25
-  leaf-met leaf is items first last =
+  leaf_met leaf is items first last =
       let within = standing_range (rule (class_of leaf)) number items (rw (class_is class leaf is) at stands) in
       le_antisymm (rw last at within.1) (rw first at within.0)
 
   -- a token
-  token-met : (eqb (class_number class) 20 || eqb (class_number class) 21) ≡ true → number ≤ 23
-  token-met is =
+  token_met : (eqb (class_number class) 20 || eqb (class_number class) 21) ≡ true → number ≤ 23
+  token_met is =
       let tokens = token_class_lem class is in
       let none : (rule class).items ≡ NoList = rw tokens.1 in
       let last : (rule class).last ≡ 23 = rw tokens.1 in
       rw last at (standing_range (rule class) number none stands).1
 
   -- its uses: of its own none, of its head (g) or (c)
-  token-uses : eqb (class_number class) 3 ≡ false → eqb (class_number class) 5 ≡ false → eqb (class_number class) 8 ≡ false
+  token_uses : eqb (class_number class) 3 ≡ false → eqb (class_number class) 5 ≡ false → eqb (class_number class) 8 ≡ false
       → (eqb (class_number class) 20 || eqb (class_number class) 21) ≡ true → placed ≡ met
-  token-uses brace colon register token =
-      let last = token-met token in
+  token_uses brace colon register token =
+      let last = token_met token in
       let import = ne_eqb number 41 (λ e. omega (arith, last, e)) in
       let item = ne_eqb number 26 (λ e. omega (arith, last, e)) in
       let operand = ne_eqb number 37 (λ e. omega (arith, last, e)) in
@@ -175,39 +175,39 @@ module _ (class : Class) (number at : ℕ) (stands : may_stand (rule class) numb
       (λ in_List. rw (brace, colon, register, token, import, item, operand, q, in_List) (simp append-nil)))
 
   -- a record of any other class is no `Expression`
-  other-uses : eqb (class_number class) 3 ≡ false → eqb (class_number class) 5 ≡ false → eqb (class_number class) 8 ≡ false
+  other_uses : eqb (class_number class) 3 ≡ false → eqb (class_number class) 5 ≡ false → eqb (class_number class) 8 ≡ false
       → (eqb (class_number class) 20 || eqb (class_number class) 21) ≡ false → placed ≡ met
-  other-uses brace colon register token =
+  other_uses brace colon register token =
       let expression : eqb number 9 ≡ false = ne_eqb number 9 (λ e. true_false (sym (nine_token class (rw e at stands)) ∙ token)) in
       rw (brace, colon, register, token, expression) (simp append_assoc)
 
-  same-uses : placed ≡ met
-  same-uses =
+  same_uses : placed ≡ met
+  same_uses =
       by_test (eqb (class_number class) 3)
-      (λ brace. rw (class_is class 3 brace, leaf-met 3 brace refl refl refl) (simp append-nil))
+      (λ brace. rw (class_is class 3 brace, leaf_met 3 brace refl refl refl) (simp append-nil))
       (λ brace. by_test (eqb (class_number class) 5)
-      (λ colon. rw (class_is class 5 colon, leaf-met 5 colon refl refl refl) (simp append-nil))
+      (λ colon. rw (class_is class 5 colon, leaf_met 5 colon refl refl refl) (simp append-nil))
       (λ colon. by_test (eqb (class_number class) 8)
-      (λ register. rw (class_is class 8 register, leaf-met 8 register refl refl refl) (simp append-nil))
+      (λ register. rw (class_is class 8 register, leaf_met 8 register refl refl refl) (simp append-nil))
       (λ register. by_test (eqb (class_number class) 20 || eqb (class_number class) 21)
-      (token-uses brace colon register)
-      (other-uses brace colon register))))
+      (token_uses brace colon register)
+      (other_uses brace colon register))))
 
 module _ (levels : ℕ) (bytes : List ℕ) (class : Class) (at : ℕ) (own : Own) (is : read_own bytes at class levels ≡ Record own) where
   -- the head of an `Expression` is its expression's
-  nine-head : get_or bytes at 0 ≡ 9 → head_of (read levels bytes class at).tree ≡ head_of (get_or (part_trees levels bytes class own) 0 absent)
+  nine_head : get_or bytes at 0 ≡ 9 → head_of (read levels bytes class at).tree ≡ head_of (get_or (part_trees levels bytes class own) 0 absent)
   unfolding built view
-  nine-head number =
+  nine_head number =
       let known : kind_of 9 ≡ Known own.kind = rw number at (record_headed bytes at class levels own is).1.kind_is in
       let same : own.kind ≡ variant.Expression = cc in
-      rw (node-read levels bytes class at own is) (rw same refl)
+      rw (node_read levels bytes class at own is) (rw same refl)
 
   -- all uses of a record are those that it shows by itself, and those of its parts
-  pub record-uses : (listed : Bool) → seen_in class listed (read levels bytes class at).tree
+  pub record_uses : (listed : Bool) → seen_in class listed (read levels bytes class at).tree
       ≡ own_uses class listed (read levels bytes class at).tree at (part_trees levels bytes class own) ++ below levels bytes class at own is listed
   unfolding places_in view
-  record-uses listed =
-      let same = same-uses class (get_or bytes at 0) at (record_headed bytes at class levels own is).1.standing listed
-      (has_comment (trivia_of bytes own)) (head_of (read levels bytes class at).tree) (part_trees levels bytes class own) (below levels bytes class at own is listed) nine-head in
-      let stands = node-read levels bytes class at own is in
-      rw (stands, inner-uses levels bytes class at own is listed, inner-number levels bytes class at own is) (rw stands at same)
+  record_uses listed =
+      let same = same_uses class (get_or bytes at 0) at (record_headed bytes at class levels own is).1.standing listed
+      (has_comment (trivia_of bytes own)) (head_of (read levels bytes class at).tree) (part_trees levels bytes class own) (below levels bytes class at own is listed) nine_head in
+      let stands = node_read levels bytes class at own is in
+      rw (stands, inner_uses levels bytes class at own is listed, inner_number levels bytes class at own is) (rw stands at same)

@@ -29,10 +29,10 @@ use Rattle.losses.specs.declared.uses.Seen.TheVariants.{Shown}
 use Rattle.losses.specs.declared.search.Searched.{Searched}
 use Rattle.losses.specs.declared.search.Searched.TheVariants as searching
 use Rattle.losses.specs.declared.search.Searched.TheVariants.{Whole}
-use Rattle.losses.proofs.Along.{parts-end, parts-checked}
+use Rattle.losses.proofs.Along.{parts_end, parts_checked}
 use Rattle.losses.proofs.Marks.{from_append, all_then}
-use Rattle.losses.proofs.Passed.{own-unread, shows-held, shows-never, finds-it, finds-held, finds-never}
-use Rattle.losses.proofs.Records.{record-uses}
+use Rattle.losses.proofs.Passed.{own_unread, shows_held, shows_never, finds_it, finds_held, finds_never}
+use Rattle.losses.proofs.Records.{record_uses}
 
 module _ (reader : Reader) (listed : Bool) (from : ℕ) where
   -- what searching parts of these classes leaves to do
@@ -53,10 +53,10 @@ module _ (reader : Reader) (listed : Bool) (from : ℕ) where
   module _ (plan : Plan) (place : ℕ) (before : Firsts) (later : Plan) (behind : ℕ) (after : Firsts) (left : PartsLeft plan place before later behind after)
       (part : Part) (next : (parts : List Due) → Plans later parts → NextOf part parts) where
     -- no part is left
-    pub search-done : part ≡ NoPart → (parts : List Due) → Plans plan parts → checked_along reader (standing parts) place ≡ Passed
+    pub search_done : part ≡ NoPart → (parts : List Due) → Plans plan parts → checked_along reader (standing parts) place ≡ Passed
         → (behind ≡ end_along reader (standing parts) place) × TakesAll after before from (uses_along reader listed (standing parts) place)
     unfolding uses_along end_along first_from
-    search-done e parts plans passed =
+    search_done e parts plans passed =
         let rest = left.walk parts plans passed in
         let none : standing rest.0 ≡ [] = rw e at (next rest.0 rest.1) in
         let done = rw none at rest.2 in
@@ -67,15 +67,15 @@ module _ (reader : Reader) (listed : Bool) (from : ℕ) where
         (searches : (reader class behind).checked ≡ Passed
         → Finds searched (λ end found. (end ≡ (reader class behind).end) × TakesAll found after from (seen_in class listed (reader class behind).tree))) where
       -- the plan goes on behind it
-      pub search-on : (end : ℕ) (found : Firsts) → searched ≡ Whole end found → PartsLeft plan place before rest end found
+      pub search_on : (end : ℕ) (found : Firsts) → searched ≡ Whole end found → PartsLeft plan place before rest end found
       unfolding uses_along end_along checked_along
-      search-on end found whole = record {
+      search_on end found whole = record {
         walk = λ parts plans passed.
             let now = left.walk parts plans passed in
             let others = rw e at (next now.0 now.1) in
             let here = rw others.1 at now.2 in
             let both = both_passed (reader class behind).checked (checked_along reader (standing others.0) (reader class behind).end) here.passed in
-            let done = finds-held whole (searches both.0) in (
+            let done = finds_held whole (searches both.0) in (
               others.0,
               others.2,
               record {
@@ -88,23 +88,23 @@ module _ (reader : Reader) (listed : Bool) (from : ℕ) where
       }
 
       -- it was not refused where all parts passed
-      pub part-unread : {why : Refusal} → searched ≡ searching.Refused why → (parts : List Due) → Plans plan parts
+      pub part_unread : {why : Refusal} → searched ≡ searching.Refused why → (parts : List Due) → Plans plan parts
           → checked_along reader (standing parts) place ≡ Passed → ⊥
       unfolding checked_along
-      part-unread none parts plans passed =
+      part_unread none parts plans passed =
           let now = left.walk parts plans passed in
           let others = rw e at (next now.0 now.1) in
           let here = rw others.1 at now.2 in
           let both = both_passed (reader class behind).checked (checked_along reader (standing others.0) (reader class behind).end) here.passed in
-          finds-never none (searches both.0)
+          finds_never none (searches both.0)
 
 -- ---- a record
 
 module _ (levels : ℕ) (bytes : List ℕ) (class : Class) (at : ℕ) (listed : Bool) {found : OwnRead} (same : found ≡ read_own bytes at class levels) where
   -- its own bytes are not refused where it passed
-  pub search-refused : {searched : Searched} {before : Firsts} {from : ℕ} {why : Refusal} → found ≡ Refused why
+  pub search_refused : {searched : Searched} {before : Firsts} {from : ℕ} {why : Refusal} → found ≡ Refused why
       → Searches searched before from levels bytes class at listed
-  search-refused is passed = own-unread levels bytes class at passed (sym same ∙ is)
+  search_refused is passed = own_unread levels bytes class at passed (sym same ∙ is)
 
   module _ (own : Own) (is : found ≡ Record own) {seen : Seen} {before : Firsts} {from : ℕ}
       (shown : TakesRecord seen before from levels bytes class at own listed) where
@@ -112,31 +112,31 @@ module _ (levels : ℕ) (bytes : List ℕ) (class : Class) (at : ℕ) (listed : 
     reader = read (levels - 1) bytes
 
     -- nor is what it shows by itself
-    pub use-refused : {searched : Searched} {why : Refusal} → seen ≡ seeing.Refused why → Searches searched before from levels bytes class at listed
-    use-refused none passed = shows-never none (shown (sym same ∙ is) passed)
+    pub use_refused : {searched : Searched} {why : Refusal} → seen ≡ seeing.Refused why → Searches searched before from levels bytes class at listed
+    use_refused none passed = shows_never none (shown (sym same ∙ is) passed)
 
     -- its parts passed too
-    parts-passed : (read levels bytes class at).checked ≡ Passed → checked_along reader (standing (parts_due class own)) own.end ≡ Passed
-    parts-passed passed =
-        sym (parts-checked reader (parts_due class own) own.end)
+    parts_passed : (read levels bytes class at).checked ≡ Passed → checked_along reader (standing (parts_due class own)) own.end ≡ Passed
+    parts_passed passed =
+        sym (parts_checked reader (parts_due class own) own.end)
         ∙ sym (ap (λ (reading : Reading). reading.checked) (read_record bytes class at levels own (sym same ∙ is)).1) ∙ passed
 
     -- so none of them is refused
-    pub part-refused : {searched : Searched} → (checked_along reader (standing (parts_due class own)) own.end ≡ Passed → ⊥)
+    pub part_refused : {searched : Searched} → (checked_along reader (standing (parts_due class own)) own.end ≡ Passed → ⊥)
         → Searches searched before from levels bytes class at listed
-    part-refused never passed = absurd (never (parts-passed passed))
+    part_refused never passed = absurd (never (parts_passed passed))
 
     -- it is what it shows by itself, and its parts
-    pub record-searched : {after middle : Firsts} {end number : ℕ} {below : Bool} → seen ≡ Shown middle
+    pub record_searched : {after middle : Firsts} {end number : ℕ} {below : Bool} → seen ≡ Shown middle
         → number ≡ get_or bytes at 0 → below ≡ listed_below number listed
         → (checked_along reader (standing (parts_due class own)) own.end ≡ Passed
         → (end ≡ end_along reader (standing (parts_due class own)) own.end)
         × TakesAll after middle from (uses_along reader below (standing (parts_due class own)) own.end))
         → Searches (Whole end after) before from levels bytes class at listed
-    record-searched whole byte below-is parts passed =
+    record_searched whole byte below-is parts passed =
         let held = sym same ∙ is in
         let reading = (read_record bytes class at levels own held).1 in
-        let done = parts (parts-passed passed) in
-        let behind = done.0 ∙ sym (parts-end reader (parts_due class own) own.end) ∙ sym (ap (λ (reading : Reading). reading.end) reading) in
-        let uses = all_then (shows-held whole (shown held passed)) (rw (below-is ∙ ap (λ (number : ℕ). listed_below number listed) byte) at done.1) in
-        finds-it (behind, rw (record-uses levels bytes class at own held listed) uses)
+        let done = parts (parts_passed passed) in
+        let behind = done.0 ∙ sym (parts_end reader (parts_due class own) own.end) ∙ sym (ap (λ (reading : Reading). reading.end) reading) in
+        let uses = all_then (shows_held whole (shown held passed)) (rw (below-is ∙ ap (λ (number : ℕ). listed_below number listed) byte) at done.1) in
+        finds_it (behind, rw (record_uses levels bytes class at own held listed) uses)

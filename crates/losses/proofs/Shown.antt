@@ -32,20 +32,20 @@ use Rattle.losses.specs.declared.firsts.Firsts.{Firsts}
 use Rattle.losses.specs.declared.uses.Seen.{Seen}
 use Rattle.losses.specs.declared.uses.Seen.TheVariants.{Shown, Refused}
 use Rattle.losses.proofs.Records.{token_class_lem}
-use Rattle.losses.proofs.Passed.{shown_refused, shows-it, shows-held, shows-never}
-use Rattle.losses.proofs.Marks.{all_then, all_none, one-used, own-used, head-used}
+use Rattle.losses.proofs.Passed.{shown_refused, shows_it, shows_held, shows_never}
+use Rattle.losses.proofs.Marks.{all_then, all_none, one_used, own_used, head_used}
 
 module _ (levels : ℕ) (bytes : List ℕ) (class : Class) (at : ℕ) (own : Own) (listed : Bool) {number spot head from : ℕ} {before by-own : Firsts} {headed : Seen}
-    (byte : number ≡ get_or bytes at 0) (spot_is : spot ≡ own_spot class number listed) (head-is : head ≡ head_spot class number listed)
+    (byte : number ≡ get_or bytes at 0) (spot_is : spot ≡ own_spot class number listed) (head_is : head ≡ head_spot class number listed)
     (own-takes : TakesIf by-own before from at spot (has_comment (items_at bytes own.trivia own.trivia_count)))
     (unheaded : head ≡ 8 → headed ≡ Shown by-own) (head-takes : TakesHead headed by-own from levels bytes class at head)
   where
     -- what was read of its head was not refused
-    pub head-stopped : {why : Refusal} → headed ≡ Refused why → TakesRecord headed before from levels bytes class at own listed
-    head-stopped none is passed =
+    pub head_stopped : {why : Refusal} → headed ≡ Refused why → TakesRecord headed before from levels bytes class at own listed
+    head_stopped none is passed =
         by_test (eqb (class_number class) 20 || eqb (class_number class) 21)
-        (λ token. shows-never none (head-takes passed (token_class_lem class token)))
-        (λ token. shown_refused (sym (unheaded (head-is ∙ rw token)) ∙ none))
+        (λ token. shows_never none (head-takes passed (token_class_lem class token)))
+        (λ token. shown_refused (sym (unheaded (head_is ∙ rw token)) ∙ none))
 
     module _ (is : read_own bytes at class levels ≡ Record own) (passed : (read levels bytes class at).checked ≡ Passed) where
       abbrev tree : Tree
@@ -55,23 +55,23 @@ module _ (levels : ℕ) (bytes : List ℕ) (class : Class) (at : ℕ) (own : Own
       number_is : number ≡ token_number tree
       number_is = byte ∙ sym (number_read levels bytes class at own is)
 
-      trivia-are : items_at bytes own.trivia own.trivia_count ≡ own_trivia tree
-      trivia-are =
+      trivia_are : items_at bytes own.trivia own.trivia_count ≡ own_trivia tree
+      trivia_are =
           let fits = own_fits bytes at class levels own is in
           items_kept bytes own.trivia own.trivia_count fits.items.0 fits.items.1 ∙ sym (own_read levels bytes class at own is).1
 
       -- a comment on it
-      own-all : TakesAll by-own before from (own_marks class (token_number tree) listed at (has_comment (own_trivia tree)))
-      own-all = rw (number_is, trivia-are) at (own-used own-takes class number listed spot_is)
+      own_all : TakesAll by-own before from (own_marks class (token_number tree) listed at (has_comment (own_trivia tree)))
+      own_all = rw (number_is, trivia_are) at (own_used own-takes class number listed spot_is)
 
       -- a comment on its head
-      head-all : {by-head : Firsts} → headed ≡ Shown by-head
+      head_all : {by-head : Firsts} → headed ≡ Shown by-head
           → TakesAll by-head by-own from (head_marks class (token_number tree) listed (stands_at (head_of tree)) (has_comment (own_trivia (head_of tree))))
-      head-all {by-head} held =
+      head_all {by-head} held =
           by_test (eqb (class_number class) 20 || eqb (class_number class) 21)
-          (λ token. rw number_is at (head-used (shows-held held (head-takes passed (token_class_lem class token))) class number listed token head-is))
+          (λ token. rw number_is at (head_used (shows_held held (head-takes passed (token_class_lem class token))) class number listed token head_is))
           (λ token.
-          let shown : Shown by-head ≡ Shown by-own = sym held ∙ unheaded (head-is ∙ rw token) in
+          let shown : Shown by-head ≡ Shown by-own = sym held ∙ unheaded (head_is ∙ rw token) in
           let same : by-head ≡ by-own = cc in
           rw (token, same) all_none)
 
@@ -83,11 +83,11 @@ module _ (levels : ℕ) (bytes : List ℕ) (class : Class) (at : ℕ) (own : Own
           let known : kind_of 37 ≡ Known own.kind = rw (sym byte ∙ operand) at (record_headed bytes at class levels own is).1.kind_is in
           let kind : own.kind ≡ variant.Operand = cc in
           let shows = closing class at is kind passed in
-          let last = one-used shows.holds closing_character refl in
-          rw shows.is (shows-it (all_then (own-all is passed) (all_then (head-all is passed held) (rw (sym (number_is is passed) ∙ operand) last))))
+          let last = one_used shows.holds closing_character refl in
+          rw shows.is (shows_it (all_then (own_all is passed) (all_then (head_all is passed held) (rw (sym (number_is is passed) ∙ operand) last))))
 
       -- it is none
-      pub record-shown : (number ≡ 37 → ⊥) → TakesRecord (Shown by-head) before from levels bytes class at own listed
-      record-shown other is passed =
+      pub record_shown : (number ≡ 37 → ⊥) → TakesRecord (Shown by-head) before from levels bytes class at own listed
+      record_shown other is passed =
           let number-other : eqb (token_number (read levels bytes class at).tree) 37 ≡ false = rw (sym (number_is is passed)) (ne_eqb number 37 other) in
-          shows-it (all_then (own-all is passed) (all_then (head-all is passed held) (rw number-other all_none)))
+          shows_it (all_then (own_all is passed) (all_then (head_all is passed held) (rw number-other all_none)))

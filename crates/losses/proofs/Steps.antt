@@ -47,14 +47,14 @@ module _ (after before : Firsts) (from at number : ℕ) where
 
 module _ {after before : Firsts} {from at number : ℕ} where
   -- where it is used
-  pub takes-used : {used : Bool} → used ≡ true → Takes after before from at number → TakesIf after before from at number used
-  takes-used is takes = record { each = λ spot. rw is (takes.each spot) }
+  pub takes_used : {used : Bool} → used ≡ true → Takes after before from at number → TakesIf after before from at number used
+  takes_used is takes = record { each = λ spot. rw is (takes.each spot) }
 
 module _ {before : Firsts} {from at number : ℕ} where
   -- where it is not
-  pub takes-unused : {used : Bool} → used ≡ false → TakesIf before before from at number used
-  takes-unused is = record { each = λ spot. rw is refl }
+  pub takes_unused : {used : Bool} → used ≡ false → TakesIf before before from at number used
+  takes_unused is = record { each = λ spot. rw is refl }
 
   -- no place has the number 8
   pub takes_none : {used : Bool} → number ≡ 8 → TakesIf before before from at number used
-  takes_none {used} is = by_test used (λ yes_way. record { each = λ spot. rw (yes_way, is, no_spot_lem spot) refl }) takes-unused
+  takes_none {used} is = by_test used (λ yes_way. record { each = λ spot. rw (yes_way, is, no_spot_lem spot) refl }) takes_unused

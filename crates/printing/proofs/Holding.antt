@@ -14,13 +14,13 @@ use Rattle.text.proofs.Choices.{by_test, true_false, cond_both}
 use Rattle.chunks.specs.Stored.{Chunk, stored_chunk, stored_list, WellFormed}
 use Rattle.chunks.specs.Appending.{with_space, capacity}
 use Rattle.chunks.specs.declared.stored.ChunkType.{ChunkType}
-use Rattle.chunks.proofs.Storing.{append-no-room, append-stored}
+use Rattle.chunks.proofs.Storing.{append_no_room, append_stored}
 use Rattle.printing.specs.Events.{Events, nothing, push, space, clear, trim, stop, ◌▹◌}
 use Rattle.printing.specs.Running.{is_spaced, Run, going, ended, run, settled, at_start, chunk_with, grown, filled, trimmed, no_room}
 use Rattle.printing.specs.Holding.{Held, held, refused, held_length, without_newlines, hold, Storable, Holds, Same}
 use Rattle.printing.specs.declared.Context.{Context}
 use Rattle.printing.specs.declared.CodeFormatter.{CodeFormatter}
-use Rattle.printing.proofs.Pushing.{empty-not-pushed, is-pushed}
+use Rattle.printing.proofs.Pushing.{empty_not_pushed, is_pushed}
 use Rattle.printing.proofs.Running.{run_ended, settled_left, run_settled}
 
 -- ---- the stored form of what is held
@@ -82,8 +82,8 @@ holds_nothing room = record { used = refl; fits = omega arith; stored = refl; so
 
 module _ {room : List ℕ} {state : CodeFormatter} {chunks : List Chunk} {pending : Bool} (holds : Holds room state chunks pending) where
   -- without the newlines at the end
-  holds-trimmed : Holds room (trimmed state) (without_newlines chunks) pending
-  holds-trimmed =
+  holds_trimmed : Holds room (trimmed state) (without_newlines chunks) pending
+  holds_trimmed =
       let front = without_front chunks in
       let less : state.solid ≤ state.used =
       omega (
@@ -107,10 +107,10 @@ module _ {room : List ℕ} {state : CodeFormatter} {chunks : List Chunk} {pendin
 
   module _ (chunk : Chunk) where
     -- with a chunk more, which fits
-    holds-grown : state.used + length (stored_chunk chunk) ≤ capacity (length room)
+    holds_grown : state.used + length (stored_chunk chunk) ≤ capacity (length room)
         → Holds (sets room state.used (stored_chunk chunk)) (grown state (state.used + length (stored_chunk chunk)) (is_newline chunk.text)) (chunk ∷ chunks) false
     unfolding held_length without_newlines
-    holds-grown fits =
+    holds_grown fits =
         let bytes = stored_chunk chunk in
         let end = state.used + length bytes in
         let long = length-sets room state.used bytes in
@@ -127,18 +127,18 @@ module _ {room : List ℕ} {state : CodeFormatter} {chunks : List Chunk} {pendin
         }
 
     -- with a chunk that does not fit
-    settled-filled : capacity (length room) < state.used + length (stored_chunk chunk)
+    settled_filled : capacity (length room) < state.used + length (stored_chunk chunk)
         → settled (going room (filled state (state.used + length (stored_chunk chunk)))) ≡ ended room (no_room (filled state (state.used + length (stored_chunk chunk))))
-    settled-filled full = rw (ne_eqb _ 0 (λ (none : state.used + length (stored_chunk chunk) ≡ 0). omega arith))
+    settled_filled full = rw (ne_eqb _ 0 (λ (none : state.used + length (stored_chunk chunk) ≡ 0). omega arith))
 
   -- a push
-  push-same : (ty : ChunkType) (context : Context) (text : List ℕ) → context.indent ≤ 4096 → length text ≤ 65534
+  push_same : (ty : ChunkType) (context : Context) (text : List ℕ) → context.indent ≤ 4096 → length text ≤ 65534
       → Same (length room) (settled (run (push ty context text) (going room state))) (hold (length room) (push ty context text) (held chunks pending))
   unfolding run hold
-  push-same ty context text low short =
+  push_same ty context text low short =
       by_test (is_empty text)
       (λ empty.
-      let same = empty-not-pushed room state ty context text holds.full empty in
+      let same = empty_not_pushed room state ty context text holds.full empty in
       rw (← same.0, ← same.1, empty, settled_left room state holds.full) (refl, holds))
       (λ some.
       let chunk = chunk_with state ty context text in
@@ -147,14 +147,14 @@ module _ {room : List ℕ} {state : CodeFormatter} {chunks : List Chunk} {pendin
       by_test (ltb (capacity (length room)) end)
       (λ full.
       let over = ltb-true _ _ full in
-      let told = append-no-room room state.used chunk good holds.fits refl over in
-      let same = is-pushed room state ty context text holds.full some refl told.0 told.1 refl in
-      rw (← same.0, ← same.1, some, ← holds.flag, ← holds.used, full, settled-filled chunk over) (refl, refl))
+      let told = append_no_room room state.used chunk good holds.fits refl over in
+      let same = is_pushed room state ty context text holds.full some refl told.0 told.1 refl in
+      rw (← same.0, ← same.1, some, ← holds.flag, ← holds.used, full, settled_filled chunk over) (refl, refl))
       (λ fits.
       let inside = ltb-false _ _ fits in
-      let told = append-stored room state.used chunk good holds.fits refl inside refl in
-      let same = is-pushed room state ty context text holds.full some refl told.0 told.1 refl in
-      rw (← same.0, ← same.1, some, ← holds.flag, ← holds.used, fits) (length-sets room state.used (stored_chunk chunk), holds-grown chunk inside)))
+      let told = append_stored room state.used chunk good holds.fits refl inside refl in
+      let same = is_pushed room state ty context text holds.full some refl told.0 told.1 refl in
+      rw (← same.0, ← same.1, some, ← holds.flag, ← holds.used, fits) (length-sets room state.used (stored_chunk chunk), holds_grown chunk inside)))
 
 -- ---- a run of events
 
@@ -186,12 +186,12 @@ agree_on size events agreeing (ended room why) (refused reason) same = rw (run_e
 agree : (size : ℕ) (events : Events) → Storable events → Agreeing size events
 unfolding run hold Storable
 agree size nothing fine room state chunks pending long holds = rw (settled_left room state holds.full) (long, holds)
-agree size (push ty context text) fine room state chunks pending long holds = rw (← long) (push-same holds ty context text fine.0 fine.1)
+agree size (push ty context text) fine room state chunks pending long holds = rw (← long) (push_same holds ty context text fine.0 fine.1)
 agree size space fine room state chunks pending long holds =
     rw (eq-eqb _ _ holds.full) (long, record { used = holds.used; fits = holds.fits; stored = holds.stored; solid = holds.solid; flag = refl; full = holds.full })
 agree size clear fine room state chunks pending long holds =
     rw (eq-eqb _ _ holds.full) (long, record { used = holds.used; fits = holds.fits; stored = holds.stored; solid = holds.solid; flag = refl; full = holds.full })
-agree size trim fine room state chunks pending long holds = rw (eq-eqb _ _ holds.full) (long, holds-trimmed holds)
+agree size trim fine room state chunks pending long holds = rw (eq-eqb _ _ holds.full) (long, holds_trimmed holds)
 agree size (stop why) fine room state chunks pending long holds = rw (eq-eqb _ _ holds.full) (long, refl)
 agree size (first ▹ next) fine room state chunks pending long holds =
     rw (← (run_settled next (run first (going room state))))

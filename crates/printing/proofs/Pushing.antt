@@ -62,20 +62,20 @@ Pushed room state ty context text next after = (next ≡ pushed (length room) st
 
 module _ (room : List ℕ) (state : CodeFormatter) (ty : ChunkType) (context : Context) (text : List ℕ) where
   -- on a full state nothing is pushed
-  pub full-not-pushed : (state.full ≡ 0 → ⊥) → Pushed room state ty context text state room
+  pub full_not_pushed : (state.full ≡ 0 → ⊥) → Pushed room state ty context text state room
   unfolding pushed pushed_room
-  full-not-pushed full = (rw (ne_eqb _ _ full), rw (ne_eqb _ _ full))
+  full_not_pushed full = (rw (ne_eqb _ _ full), rw (ne_eqb _ _ full))
 
   -- nor is an empty text
-  pub empty-not-pushed : state.full ≡ 0 → is_empty text ≡ true → Pushed room state ty context text state room
+  pub empty_not_pushed : state.full ≡ 0 → is_empty text ≡ true → Pushed room state ty context text state room
   unfolding pushed pushed_room
-  empty-not-pushed room-left empty = (rw (eq-eqb _ _ room-left, empty), rw (eq-eqb _ _ room-left, empty))
+  empty_not_pushed room_left empty = (rw (eq-eqb _ _ room_left, empty), rw (eq-eqb _ _ room_left, empty))
 
   -- elsewhere a chunk is appended
-  pub is-pushed : {newline : Bool} {answer : Appended} {next : CodeFormatter} {after : List ℕ}
+  pub is_pushed : {newline : Bool} {answer : Appended} {next : CodeFormatter} {after : List ℕ}
       → state.full ≡ 0 → is_empty text ≡ false → newline ≡ is_newline (with_space (is_spaced state) text)
       → answer ≡ appended (length room) state.used (chunk_with state ty context text) → after ≡ room_after room state.used (chunk_with state ty context text)
       → next ≡ behind state newline answer → Pushed room state ty context text next after
   unfolding pushed pushed_room
-  is-pushed room-left some lone answered stored moved =
-      (rw (moved, answered, lone, eq-eqb _ _ room-left, some), rw (stored, eq-eqb _ _ room-left, some))
+  is_pushed room_left some lone answered stored moved =
+      (rw (moved, answered, lone, eq-eqb _ _ room_left, some), rw (stored, eq-eqb _ _ room_left, some))

@@ -1,7 +1,7 @@
 -- The work room's limit of document 01: "room above 1,048,576 bytes counts as that".
 --   room_limit : .. 1048576 ≤ size → hold size events state ≡ hold 1048576 events state
---   push-past : .. a push that needs more than 1,048,576 bytes is refused in every room, with what it needs
---   push-within : .. one that needs no more is held in every room of as many
+--   push_past : .. a push that needs more than 1,048,576 bytes is refused in every room, with what it needs
+--   push_within : .. one that needs no more is held in every room of as many
 -- And what smaller rooms hold, by computing.
 --   rooms_held : map found rows ≡ map wanted rows
 use mathlib.Core.Path.{◌≡◌, refl}
@@ -50,15 +50,15 @@ module _ (size : ℕ) (ty : ChunkType) (context : Context) (text : List ℕ) (so
   abbrev needed : ℕ
   needed = held_length chunks + length (stored_chunk pushed)
 
-  pub push-past : 1048576 < needed
+  pub push_past : 1048576 < needed
       → hold size (push ty context text) (held chunks pending) ≡ refused (record { reason = WorkRoom; place = needed })
   unfolding hold
-  push-past over = rw (some, lt-ltb (capacity size) needed (omega (arith, over)))
+  push_past over = rw (some, lt-ltb (capacity size) needed (omega (arith, over)))
 
-  pub push-within : needed ≤ 1048576 → 1048576 ≤ size
+  pub push_within : needed ≤ 1048576 → 1048576 ≤ size
       → hold size (push ty context text) (held chunks pending) ≡ held (pushed ∷ chunks) false
   unfolding hold
-  push-within fits large = rw (some, le-ltb (capacity size) needed (omega (arith, fits, large)))
+  push_within fits large = rw (some, le-ltb (capacity size) needed (omega (arith, fits, large)))
 
 -- ---- small rooms
 

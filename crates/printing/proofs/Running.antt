@@ -14,7 +14,7 @@ use Rattle.printing.specs.declared.Context.{Context}
 use Rattle.printing.specs.declared.CodeFormatter.{CodeFormatter}
 use Rattle.printing.specs.declared.Printed.{Printed}
 use Rattle.printing.specs.declared.Printed.TheVariants.{Done, Refused}
-use Rattle.printing.proofs.Pushing.{Pushed, full-not-pushed}
+use Rattle.printing.proofs.Pushing.{Pushed, full_not_pushed}
 
 -- ---- runs
 
@@ -45,7 +45,7 @@ full_kept : (events : Events) (room : List ℕ) (state : CodeFormatter) → (sta
 unfolding run
 full_kept nothing room state full = record { next = state; ran = refl; full = refl }
 full_kept (push ty context text) room state full =
-    let same = full-not-pushed room state ty context text full in
+    let same = full_not_pushed room state ty context text full in
     record { next = state; ran = rw (← same.0, ← same.1); full = refl }
 full_kept space room state full = record { next = spaced state; ran = refl; full = refl }
 full_kept clear room state full = record { next = cleared state; ran = refl; full = refl }
@@ -122,16 +122,16 @@ settled_going (going place last) {room} {state} e =
 
 module _ {answer : Printed} {room : List ℕ} {events : Events} {before : Run} {end at : ℕ} {state : CodeFormatter} (shown : Shown answer room events before end) (done : answer ≡ Done state at) where
   -- a printer that was called and went on ran its events
-  pub ran-printer : Ran events before (going room state)
-  ran-printer = record { ran = (settled_going (run events before) (sym (ap (λ (a : Printed). outcome a room) done) ∙ shown.state)).0 }
+  pub ran_printer : Ran events before (going room state)
+  ran_printer = record { ran = (settled_going (run events before) (sym (ap (λ (a : Printed). outcome a room) done) ∙ shown.state)).0 }
 
   -- its state is not full
-  pub room-left : state.full ≡ 0
-  room-left = (settled_going (run events before) (sym (ap (λ (a : Printed). outcome a room) done) ∙ shown.state)).1
+  pub room_left : state.full ≡ 0
+  room_left = (settled_going (run events before) (sym (ap (λ (a : Printed). outcome a room) done) ∙ shown.state)).1
 
   -- and its place is the one behind the record
-  pub place-behind : at ≡ end
-  place-behind = sym (ap (λ (a : Printed). place_of a end) done) ∙ shown.next
+  pub place_behind : at ≡ end
+  place_behind = sym (ap (λ (a : Printed). place_of a end) done) ∙ shown.next
 
 -- ---- what a printer shows
 

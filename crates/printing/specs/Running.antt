@@ -48,7 +48,7 @@ abbrev pub filled : CodeFormatter → ℕ → CodeFormatter
 filled state needed = record { used = state.used; solid = state.solid; spc_if_next = state.spc_if_next; full = needed }
 
 -- What a state remembers that was lent a chunk without a stored form, or that says that more is used than the room has: one more byte than any room counts.
--- It is no place of document 01. No tree pushes such a chunk (`file-storable`, events) and no walk comes to such a state (`Holds`, Holding), so `chunks` and
+-- It is no place of document 01. No tree pushes such a chunk (`file_storable`, events) and no walk comes to such a state (`Holds`, Holding), so `chunks` and
 -- `format` never give it: what they refuse with 8 is said by `hold` (Holding), which does not know it. Only a caller who pushes by hand can meet it.
 abbrev pub unstorable : ℕ
 unstorable = 1048577

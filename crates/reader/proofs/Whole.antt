@@ -31,7 +31,7 @@ use Rattle.tree.specs.declared.own.TriviaSpan.{TriviaSpan}
 use Rattle.tree.specs.declared.own.OwnRead.TheVariants.{Record, Refused}
 use Rattle.tree.specs.declared.parts.Skipped.{Skipped}
 use Rattle.tree.specs.declared.parts.Skipped.TheVariants.{Next, NotSkipped}
-use Rattle.tree.proofs.OwnBytes.{Headed, own-cases}
+use Rattle.tree.proofs.OwnBytes.{Headed, own_cases}
 use Rattle.reader.specs.Tokens.{then_at, behind_row, behind_on, tokens_behind}
 
 -- ---- tokens in a row
@@ -67,7 +67,7 @@ list_headed {bytes} {at} {kind} headed =
 
 list_kind : (bytes : List ℕ) (own : Own) → read_own bytes 0 Tokens 64 ≡ Record own → own.kind ≡ kind-is.Vec
 list_kind bytes own =
-    own-cases bytes 0 Tokens (λ (own : Own). own.kind ≡ kind-is.Vec)
+    own_cases bytes 0 Tokens (λ (own : Own). own.kind ≡ kind-is.Vec)
     (λ kind trivia headed number room. list_headed headed)
     (λ kind trivia end headed leaf stands text. list_headed headed)
     (λ kind trivia headed list no_text. list_headed headed) 64 own

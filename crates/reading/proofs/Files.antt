@@ -17,11 +17,11 @@ use Rattle.reading.proofs.ReadShape.{read_shaped}
 
 module _ (context : Context) (levels : ℕ) (bytes : List ℕ) (passed : (read_file levels bytes).checked ≡ Passed) where
   -- where it uses none of the seven places at which ink is lost or doubled
-  pub file-ink : loses_ink (read_file levels bytes).tree ≡ false
+  pub file_ink : loses_ink (read_file levels bytes).tree ≡ false
       → ink_of (events_of context (read_file levels bytes).tree) ≡ inks (order context.options.mnemonics (read_file levels bytes).tree)
-  file-ink none = ink_kept context (read_file levels bytes).tree (read_shaped levels bytes Tokens 0 passed) none
+  file_ink none = ink_kept context (read_file levels bytes).tree (read_shaped levels bytes Tokens 0 passed) none
 
   -- so where it uses none of the eight
-  pub file-ink-eight : uses_place (read_file levels bytes).tree ≡ false
+  pub file_ink_eight : uses_place (read_file levels bytes).tree ≡ false
       → ink_of (events_of context (read_file levels bytes).tree) ≡ inks (order context.options.mnemonics (read_file levels bytes).tree)
-  file-ink-eight none = ink_kept_eight context (read_file levels bytes).tree (read_shaped levels bytes Tokens 0 passed) none
+  file_ink_eight none = ink_kept_eight context (read_file levels bytes).tree (read_shaped levels bytes Tokens 0 passed) none

@@ -28,9 +28,9 @@ use Rattle.tree.specs.declared.own.OwnRead.TheVariants.{Record}
 use Rattle.tree.specs.declared.own.TriviaSpan.{TriviaSpan}
 use Rattle.tree.proofs.Cases.{both_passed}
 use Rattle.tree.proofs.KindLayout.{leaf_stored}
-use Rattle.tree.proofs.OwnBytes.{Headed, leaf_number, trivia-cases, own-cases, leaf_other}
+use Rattle.tree.proofs.OwnBytes.{Headed, leaf_number, trivia_cases, own_cases, leaf_other}
 use Rattle.tree.proofs.RoundTrip.{no_items, node_fits}
-use Rattle.tree.proofs.Readings.{every-reading}
+use Rattle.tree.proofs.Readings.{every_reading}
 use Rattle.events.specs.Views.{view, token_number, stands, bit_at}
 use Rattle.events.proofs.OwnParts.{token_number_lem, both_stand}
 use Rattle.reading.proofs.Shape.{Allowed, TriviaAllowed, no_trivia, item_in, Given, Shaped}
@@ -122,7 +122,7 @@ trivia_allowed : (bytes : List ℕ) (at : ℕ) (class : Class) (kind : Kind) (tr
     → (tree : Tree) → token_number tree ≡ get_or bytes at 0 → TriviaAllowed class (trivia_from bytes trivia.first trivia.count) tree
 unfolding trivia_from map_fits
 trivia_allowed bytes at class kind trivia headed tree number =
-    trivia-cases bytes (at + 2) (get_or bytes (at + 1) 0 % 2)
+    trivia_cases bytes (at + 2) (get_or bytes (at + 1) 0 % 2)
     (λ (span : TriviaSpan). TriviaAllowed class (trivia_from bytes span.first span.count) tree)
     (λ without. refl)
     (λ end some room count is.
@@ -148,40 +148,40 @@ fields_behind (slot ∷ slots) bits place tree trees parts = (parts.0, fields_be
 
 module _ (reader : Reader) (below : (class : Class) (at : ℕ) → Reads class (reader class at)) where
   -- fields whose bits fit keep the grammar
-  fields-shaped : (slots : List Slot) (bits at : ℕ) → fields_fit slots bits ≡ true → (read_parts reader (fields_due slots bits) at).checked ≡ Passed
+  fields_shaped : (slots : List Slot) (bits at : ℕ) → fields_fit slots bits ≡ true → (read_parts reader (fields_due slots bits) at).checked ≡ Passed
       → FieldsShaped slots bits 0 (read_parts reader (fields_due slots bits) at).trees
   unfolding fields_fit fields_due read_parts view
-  fields-shaped [] bits at fits e = tt
-  fields-shaped (must class ∷ slots) bits at fits e =
+  fields_shaped [] bits at fits e = tt
+  fields_shaped (must class ∷ slots) bits at fits e =
       let q : eqb (bits % 2) 1 ≡ true = and_true_left (eqb (bits % 2) 1) (fields_fit slots (bits / 2)) fits in
       let next : ℕ = (reader class at).end in
       let passed = both_passed (reader class at).checked (read_parts reader (fields_due slots (bits / 2)) next).checked (rw q at e) in
       let one = below class at passed.0 in
-      let rest = fields-shaped slots (bits / 2) next (and_true_right (eqb (bits % 2) 1) (fields_fit slots (bits / 2)) fits) passed.1 in
+      let rest = fields_shaped slots (bits / 2) next (and_true_right (eqb (bits % 2) 1) (fields_fit slots (bits / 2)) fits) passed.1 in
       rw q ((one.0, one.1), fields_behind slots (bits / 2) 0 _ _ rest)
-  fields-shaped (may class ∷ slots) bits at fits e =
+  fields_shaped (may class ∷ slots) bits at fits e =
       by_test (eqb (bits % 2) 1)
       (λ q.
       let next : ℕ = (reader class at).end in
       let passed = both_passed (reader class at).checked (read_parts reader (fields_due slots (bits / 2)) next).checked (rw q at e) in
       let one = below class at passed.0 in
-      let rest = fields-shaped slots (bits / 2) next fits passed.1 in
+      let rest = fields_shaped slots (bits / 2) next fits passed.1 in
       rw q ((inr one.0, one.1), fields_behind slots (bits / 2) 0 _ _ rest))
       (λ q.
-      let rest = fields-shaped slots (bits / 2) at fits (rw q at e) in
+      let rest = fields_shaped slots (bits / 2) at fits (rw q at e) in
       rw q ((inl refl, refl), fields_behind slots (bits / 2) 0 _ _ rest))
 
   -- so do the items of a list
-  items-shaped : (class : Class) (items : Items) → (rule class).items ≡ items → is_list items ≡ true → (count at : ℕ) → (read_parts reader (items_due items count) at).checked ≡ Passed
+  items_shaped : (class : Class) (items : Items) → (rule class).items ≡ items → is_list items ≡ true → (count at : ℕ) → (read_parts reader (items_due items count) at).checked ≡ Passed
       → Shaped class (chain (read_parts reader (items_due items count) at).trees)
   unfolding read_parts chain Shaped
-  items-shaped class NoList is listed count at e = true_false (sym listed)
-  items-shaped class (ListOf item) is listed zero at e = rw is
-  items-shaped class (ListOf item) is listed (suc count) at e =
+  items_shaped class NoList is listed count at e = true_false (sym listed)
+  items_shaped class (ListOf item) is listed zero at e = rw is
+  items_shaped class (ListOf item) is listed (suc count) at e =
       let next : ℕ = (reader item at).end in
       let passed = both_passed (reader item at).checked (read_parts reader (items_due (ListOf item) count) next).checked e in
       let one : Shaped (item_in (rule class).items class) (reader item at).tree = rw is (below item at passed.0).0 in
-      (rw is, one, items-shaped class (ListOf item) is listed count next passed.1)
+      (rw is, one, items_shaped class (ListOf item) is listed count next passed.1)
 
 -- ---- a record
 
@@ -197,22 +197,22 @@ module _ (bytes : List ℕ) (reader : Reader) (below : (class : Class) (at : ℕ
   OwnReads own = Reads class (record_of bytes at own (read_parts reader (parts_due class own) own.end))
 
   -- a list
-  list-reads : (kind : Kind) (trivia : TriviaSpan) → Headed bytes at class kind trivia → get_or bytes at 0 ≡ 24 → trivia.end + 2 ≤ length bytes
+  list_reads : (kind : Kind) (trivia : TriviaSpan) → Headed bytes at class kind trivia → get_or bytes at 0 ≡ 24 → trivia.end + 2 ≤ length bytes
       → OwnReads (own_of kind (get_or bytes (at + 1) 0) trivia (trivia.end + 2) (trivia.end + 2) (number_at bytes trivia.end))
   unfolding built parts_due fields_due Shaped view
-  list-reads kind trivia headed is room =
+  list_reads kind trivia headed is room =
       let known : kind_of 24 ≡ Known kind = rw is at headed.kind_is in
       let same : kind ≡ variant.Vec = cc in
       let listed : is_list (rule class).items ≡ true = rw is at headed.standing in
       let allowed = trivia_allowed bytes at class kind trivia headed in
       rw same (λ passed.
-      ((allowed (Vec nil) (sym is), (listed, items-shaped reader below class (rule class).items refl listed (number_at bytes trivia.end) (trivia.end + 2) passed)), refl))
+      ((allowed (Vec nil) (sym is), (listed, items_shaped reader below class (rule class).items refl listed (number_at bytes trivia.end) (trivia.end + 2) passed)), refl))
 
   -- any other record
-  other-reads : (kind : Kind) (trivia : TriviaSpan) (text end : ℕ) → Headed bytes at class kind trivia → eqb (get_or bytes at 0) 24 ≡ false
+  other_reads : (kind : Kind) (trivia : TriviaSpan) (text end : ℕ) → Headed bytes at class kind trivia → eqb (get_or bytes at 0) 24 ≡ false
       → OwnReads (own_of kind (get_or bytes (at + 1) 0) trivia text end 0)
   unfolding parts_due Shaped view
-  other-reads kind trivia text end headed list =
+  other_reads kind trivia text end headed list =
       let number : ℕ = get_or bytes at 0 in
       let flags : ℕ = get_or bytes (at + 1) 0 in
       let slots : List Slot = fields kind (rule class).value in
@@ -230,15 +230,15 @@ module _ (bytes : List ℕ) (reader : Reader) (below : (class : Class) (at : ℕ
       (λ leaf.
       let fits = node_fits (rule class) number kind flags headed.fits list leaf in
       built_shaped kind class (slice text end bytes) (flags / 2) trees (rw is headed.standing) (rw is fits.0) (rw is list)
-      (fields-shaped reader below slots (flags / 2) end fits.1 passed)) in
+      (fields_shaped reader below slots (flags / 2) end fits.1 passed)) in
       ((trivia_allowed bytes at class kind trivia headed tree is, shaped), refl))
 
   -- a record whose own bytes were read
-  record-reads : (levels : ℕ) (own : Own) → read_own bytes at class levels ≡ Record own → OwnReads own
-  record-reads levels own e =
-      own-cases bytes at class OwnReads list-reads
-      (λ kind trivia end headed leaf stands text. other-reads kind trivia (trivia.end + 2) end headed (leaf_other (get_or bytes at 0) leaf))
-      (λ kind trivia headed list no_text. other-reads kind trivia trivia.end trivia.end headed list)
+  record_reads : (levels : ℕ) (own : Own) → read_own bytes at class levels ≡ Record own → OwnReads own
+  record_reads levels own e =
+      own_cases bytes at class OwnReads list_reads
+      (λ kind trivia end headed leaf stands text. other_reads kind trivia (trivia.end + 2) end headed (leaf_other (get_or bytes at 0) leaf))
+      (λ kind trivia headed list no_text. other_reads kind trivia trivia.end trivia.end headed list)
       levels own e
 
 -- ---- every reading
@@ -246,7 +246,7 @@ module _ (bytes : List ℕ) (reader : Reader) (below : (class : Class) (at : ℕ
 -- a tree that was read without refusal keeps the grammar
 pub read_shaped : (levels : ℕ) (bytes : List ℕ) (class : Class) (at : ℕ) → (read levels bytes class at).checked ≡ Passed → Shaped class (read levels bytes class at).tree
 read_shaped levels bytes class at passed =
-    (every-reading bytes (λ levels class at reading. Reads class reading)
+    (every_reading bytes (λ levels class at reading. Reads class reading)
     (λ levels class at reader why e. failed_passed e)
-    (λ levels class at own is below. record-reads bytes (read levels bytes) below at class (suc levels) own is)
+    (λ levels class at own is below. record_reads bytes (read levels bytes) below at class (suc levels) own is)
     levels class at passed).0

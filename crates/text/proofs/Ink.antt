@@ -158,16 +158,16 @@ ink_end_le (x ∷ xs) = by_test (all_blank (x ∷ xs)) (λ q. rw q (omega arith)
 
 module _ (bytes : List ℕ) (end : ℕ) (some : 0 < end) (within : end ≤ length bytes) where
   -- of a part that ends in ink nothing is cut
-  pub trim-last-ink : blank (get_or bytes (end - 1) 0) ≡ false → trim_end (take end bytes) ≡ take end bytes
+  pub trim_last_ink : blank (get_or bytes (end - 1) 0) ≡ false → trim_end (take end bytes) ≡ take end bytes
   unfolding trim_end all_blank
-  trim-last-ink e =
+  trim_last_ink e =
       ap trim_end (take_last bytes end some within) ∙ trim_append_ink (take (end - 1) bytes) (get_or bytes (end - 1) 0 ∷ []) (rw e)
       ∙ rw e (sym (take_last bytes end some within))
 
   -- of a part that ends in a blank that blank is cut
-  pub trim-last-blank : blank (get_or bytes (end - 1) 0) ≡ true → trim_end (take end bytes) ≡ trim_end (take (end - 1) bytes)
+  pub trim_last_blank : blank (get_or bytes (end - 1) 0) ≡ true → trim_end (take end bytes) ≡ trim_end (take (end - 1) bytes)
   unfolding all_blank
-  trim-last-blank e = ap trim_end (take_last bytes end some within) ∙ trim_append_blank (take (end - 1) bytes) (get_or bytes (end - 1) 0 ∷ []) (rw e)
+  trim_last_blank e = ap trim_end (take_last bytes end some within) ∙ trim_append_blank (take (end - 1) bytes) (get_or bytes (end - 1) 0 ∷ []) (rw e)
 
 -- ---- leading blanks
 

@@ -39,12 +39,12 @@ use Rattle.printing.proofs.Running.{shows, alike, run_ended, done_before, ◌the
 use Rattle.events.specs.Printed.{plain}
 use Rattle.events.specs.Trees.{first, tokens, leaf, one_of, else_events, closing_events, events_in}
 use Rattle.events.specs.Views.{token_number, bit_at}
-use Rattle.events.proofs.OwnParts.{both_stand, record_headed, record-fields}
+use Rattle.events.proofs.OwnParts.{both_stand, record_headed, record_fields}
 use Rattle.leaves.specs.Lists.{item_trees, items_end}
 use Rattle.leaves.specs.Records.{PrintsField, PrintsKind, field_trees, fields_end, Opens}
 use Rattle.leaves.specs.declared.record.Opened.{Opened}
 use Rattle.leaves.specs.declared.record.Opened.TheVariants as opened-is
-use Rattle.leaves.proofs.Fielded.{bare, opened-range, opened-by-number, opened-list}
+use Rattle.leaves.proofs.Fielded.{bare, opened_range, opened_by_number, opened-list}
 use Rattle.leaves.proofs.Records.{read_record}
 use Rattle.leads.specs.Leads.{before_of}
 use Rattle.leads.specs.declared.Before as code
@@ -113,50 +113,50 @@ module _ (context : Context) (levels : ℕ) (bytes : List ℕ) (bits at : ℕ) (
       (branches_end (bit_at 3 bits) (read levels bytes) behind)
 
   -- of each kind these are all its fields
-  config-pair-in : Inside variant.ConfigPair (inner_of 4 bits) 4 → Whole variant.ConfigPair
+  config_pair_in : Inside variant.ConfigPair (inner_of 4 bits) 4 → Whole variant.ConfigPair
   unfolding built field_trees fields_end events_in bit_at run one_of
-  config-pair-in shown = alike (λ x. refl) shown
+  config_pair_in shown = alike (λ x. refl) shown
 
-  definition-in : Inside variant.Definition (inner_of 6 bits) 6 → Whole variant.Definition
+  definition_in : Inside variant.Definition (inner_of 6 bits) 6 → Whole variant.Definition
   unfolding built field_trees fields_end events_in bit_at run one_of
-  definition-in shown = alike (λ x. refl) shown
+  definition_in shown = alike (λ x. refl) shown
 
-  import-in : Inside variant.Import (inner_of 11 bits) 11 → Whole variant.Import
+  import_in : Inside variant.Import (inner_of 11 bits) 11 → Whole variant.Import
   unfolding built field_trees fields_end events_in bit_at run one_of
-  import-in shown = alike (λ x. refl) shown
+  import_in shown = alike (λ x. refl) shown
 
-  label-in : Inside variant.Label (inner_of 14 bits) 14 → Whole variant.Label
+  label_in : Inside variant.Label (inner_of 14 bits) 14 → Whole variant.Label
   unfolding built field_trees fields_end events_in bit_at run one_of
-  label-in shown = alike (λ x. refl) shown
+  label_in shown = alike (λ x. refl) shown
 
-  segment-in : Inside variant.Segment (inner_of 19 bits) 19 → Whole variant.Segment
+  segment_in : Inside variant.Segment (inner_of 19 bits) 19 → Whole variant.Segment
   unfolding built field_trees fields_end events_in bit_at run one_of
-  segment-in shown = alike (λ x. refl) shown
+  segment_in shown = alike (λ x. refl) shown
 
-  braces-in : Inside variant.Braces (inner_of 2 bits) 2 → Whole variant.Braces
+  braces_in : Inside variant.Braces (inner_of 2 bits) 2 → Whole variant.Braces
   unfolding built field_trees fields_end events_in bit_at run one_of
-  braces-in shown = alike (λ x. refl) shown
+  braces_in shown = alike (λ x. refl) shown
 
-  config-in : Inside variant.Config (inner_of 3 bits) 3 → Whole variant.Config
+  config_in : Inside variant.Config (inner_of 3 bits) 3 → Whole variant.Config
   unfolding built field_trees fields_end events_in bit_at run one_of
-  config-in shown = alike (λ x. refl) shown
+  config_in shown = alike (λ x. refl) shown
 
-  loop-in : Inside variant.Loop (inner_of 15 bits) 15 → Whole variant.Loop
+  loop_in : Inside variant.Loop (inner_of 15 bits) 15 → Whole variant.Loop
   unfolding built field_trees fields_end events_in bit_at run one_of
-  loop-in shown = alike (λ x. refl) shown
+  loop_in shown = alike (λ x. refl) shown
 
-  macro-in : Inside variant.MacroDefinition (inner_of 16 bits) 16 → Whole variant.MacroDefinition
+  macro_in : Inside variant.MacroDefinition (inner_of 16 bits) 16 → Whole variant.MacroDefinition
   unfolding built field_trees fields_end events_in bit_at run one_of
-  macro-in shown = alike (λ x. refl) shown
+  macro_in shown = alike (λ x. refl) shown
 
   test_in : Inside variant.Test (inner_of 20 bits) 20 → Whole variant.Test
   unfolding built field_trees fields_end events_in bit_at run one_of
   test_in shown = alike (λ x. refl) shown
 
   -- both branches, or only the first
-  if-in : bit_at 3 bits ≡ bit_at 4 bits → Inside variant.If (inner_of 10 bits) 10 → Whole variant.If
+  if_in : bit_at 3 bits ≡ bit_at 4 bits → Inside variant.If (inner_of 10 bits) 10 → Whole variant.If
   unfolding built field_trees fields_end events_in bit_at run one_of
-  if-in ends shown =
+  if_in ends shown =
       let here = eqb (((bits / 2) / 2) / 2 % 2) 1 in
       let then = (read levels bytes BlockRecord (front_end (read levels bytes) at 10)).end in
       rw (field_stands here levels bytes Word then, ← ends)
@@ -172,21 +172,21 @@ module _ (context : Context) (levels : ℕ) (bytes : List ℕ) (bits at : ℕ) (
       rw (← same) (law (rw (← inner, is, ← same) at shown))
 
   -- so it is with any token
-  pub inside-shown : (number : ℕ) (kind : Kind) {inside : Inner} → kind_of number ≡ Known kind → Ends number bits → inner_of number bits ≡ inside
+  pub inside_shown : (number : ℕ) (kind : Kind) {inside : Inner} → kind_of number ≡ Known kind → Ends number bits → inner_of number bits ≡ inside
       → Inside kind inside number → Whole kind
   unfolding one_of
-  inside-shown number kind {inside} known ends inner shown =
+  inside_shown number kind {inside} known ends inner shown =
       by_number number bits
-      (λ is. by_kind number 4 kind variant.ConfigPair known is refl inner config-pair-in shown)
-      (λ is. by_kind number 6 kind variant.Definition known is refl inner definition-in shown)
-      (λ is. by_kind number 10 kind variant.If known is refl inner (if-in (ends is)) shown)
-      (λ is. by_kind number 11 kind variant.Import known is refl inner import-in shown)
-      (λ is. by_kind number 14 kind variant.Label known is refl inner label-in shown)
-      (λ is. by_kind number 19 kind variant.Segment known is refl inner segment-in shown)
-      (λ is. by_kind number 2 kind variant.Braces known is refl inner braces-in shown)
-      (λ is. by_kind number 3 kind variant.Config known is refl inner config-in shown)
-      (λ is. by_kind number 15 kind variant.Loop known is refl inner loop-in shown)
-      (λ is. by_kind number 16 kind variant.MacroDefinition known is refl inner macro-in shown)
+      (λ is. by_kind number 4 kind variant.ConfigPair known is refl inner config_pair_in shown)
+      (λ is. by_kind number 6 kind variant.Definition known is refl inner definition_in shown)
+      (λ is. by_kind number 10 kind variant.If known is refl inner (if_in (ends is)) shown)
+      (λ is. by_kind number 11 kind variant.Import known is refl inner import_in shown)
+      (λ is. by_kind number 14 kind variant.Label known is refl inner label_in shown)
+      (λ is. by_kind number 19 kind variant.Segment known is refl inner segment_in shown)
+      (λ is. by_kind number 2 kind variant.Braces known is refl inner braces_in shown)
+      (λ is. by_kind number 3 kind variant.Config known is refl inner config_in shown)
+      (λ is. by_kind number 15 kind variant.Loop known is refl inner loop_in shown)
+      (λ is. by_kind number 16 kind variant.MacroDefinition known is refl inner macro_in shown)
       (λ is. by_kind number 20 kind variant.Test known is refl inner test_in shown)
       (λ none. let nothing-in : inside ≡ Nothing = sym inner ∙ none in rw nothing-in at shown)
 
@@ -195,18 +195,18 @@ module _ (context : Context) (levels : ℕ) (bytes : List ℕ) (bits at : ℕ) (
 module _ (context : Context) (levels : ℕ) (bytes : List ℕ) (bits : ℕ) {last front : Printed} {room shown : List ℕ} (printed : PrintsFront front shown last room context 14 levels bytes)
   where
     -- without a block a label is what stands before it
-    pub label-alone : bit_at 2 bits ≡ false → PrintsKind front shown last room context (leaf plain) variant.Label LocatedExpression bits levels bytes
+    pub label_alone : bit_at 2 bits ≡ false → PrintsKind front shown last room context (leaf plain) variant.Label LocatedExpression bits levels bytes
     unfolding events_in run one_of
-    label-alone none = record { from = λ at here. label-in context levels bytes bits at front shown (outcome last room) (rw none (alike (λ x. refl) (printed.from at here))) }
+    label_alone none = record { from = λ at here. label_in context levels bytes bits at front shown (outcome last room) (rw none (alike (λ x. refl) (printed.from at here))) }
 
     -- and else that and the block
-    pub label-block : {answer : Printed} {after : List ℕ} → bit_at 2 bits ≡ true → PrintsField answer after front shown context (leaf plain) true levels bytes BlockRecord true
+    pub label_block : {answer : Printed} {after : List ℕ} → bit_at 2 bits ≡ true → PrintsField answer after front shown context (leaf plain) true levels bytes BlockRecord true
         → PrintsKind answer after last room context (leaf plain) variant.Label LocatedExpression bits levels bytes
     unfolding one_of
-    label-block {answer} {after} one block = record {
+    label_block {answer} {after} one block = record {
       from = λ at here.
           let before = printed.from at here in
-          label-in context levels bytes bits at answer after (outcome last room) (rw one (before thence block.from _ before.next));
+          label_in context levels bytes bits at answer after (outcome last room) (rw one (before thence block.from _ before.next));
     }
 
 -- ---- tokens with nothing inside
@@ -273,20 +273,20 @@ else_shown context then tag block NewLine shown = alike (λ x. refl) shown
 
 module _ (context : Context) (levels : ℕ) (bytes : List ℕ) (at : ℕ) {answer : Printed} {left : List ℕ} {before : Run} {end : ℕ} where
   -- only the first
-  pub one-branch : Shown answer left (events_in context (leaf plain) true (read levels bytes BlockRecord at).tree) before end
+  pub one_branch : Shown answer left (events_in context (leaf plain) true (read levels bytes BlockRecord at).tree) before end
       → Shown answer left (branch_events context false (read levels bytes) at) before end
   unfolding run
-  one-branch shown = alike (λ x. refl) shown
+  one_branch shown = alike (λ x. refl) shown
 
   -- both
-  pub both-branches :
+  pub both_branches :
       let tag = (read levels bytes BlockRecord at).end in
       Shown answer left
       (events_in context (leaf plain) true (read levels bytes BlockRecord at).tree
       ▹ else_front context context.options.braces.position (events_in context (leaf plain) true (read levels bytes Word tag).tree)
       ▹ events_in context (leaf plain) true (read levels bytes BlockRecord (read levels bytes Word tag).end).tree) before end
       → Shown answer left (branch_events context true (read levels bytes) at) before end
-  both-branches shown = else_shown context _ _ _ context.options.braces.position shown
+  both_branches shown = else_shown context _ _ _ context.options.braces.position shown
 
 -- ---- what the own bytes of a token say of it
 
@@ -314,18 +314,18 @@ module _ {context : Context} {shown : Bool} {levels : ℕ} {bytes : List ℕ} {o
     {state : CodeFormatter}
   where
     -- its number is one of a token, and its map fits that
-    pub token-opened : (located : Bool) (at : ℕ) → Opens opened left last room context shown levels bytes (token_class located) on → opened ≡ opened-is.Record own state
+    pub token_opened : (located : Bool) (at : ℕ) → Opens opened left last room context shown levels bytes (token_class located) on → opened ≡ opened-is.Record own state
         → place_of last at ≡ at → TokenOpened bytes own at
-    token-opened located at opens is here =
+    token_opened located at opens is here =
         let open-there : Opens (opened-is.Record own state) left last room context shown levels bytes (token_class located) on = rw is at opens in
         let read-there = (open-there.from at here).1 in
         let headed = (record_headed bytes at (token_class located) levels own read-there).1 in
         let number = kind_number_lem (get_or bytes at 0) own.kind headed.kind_is in
-        let range = (opened-range opens is (token_rule located).0).1 in
+        let range = (opened_range opens is (token_rule located).0).1 in
         let last23 = (token_rule located).1 in
         let small : get_or bytes at 0 ≤ 23 = omega (arith, number, range, last23) in
         let other = no_list (get_or bytes at 0) small in
-        let fits = (record-fields bytes at (token_class located) levels own read-there other.0).ends other.1 in
+        let fits = (record_fields bytes at (token_class located) levels own read-there other.0).ends other.1 in
         record {
           small = small;
           known = headed.kind_is;
@@ -350,24 +350,24 @@ tokens_end bytes at levels own is same =
 
 module _ {context : Context} {levels : ℕ} {bytes : List ℕ} {left room : List ℕ} {last : Printed} {opened : Opened} {own : Own} {state : CodeFormatter} where
   -- so what was opened is one
-  list-is : Opens opened left last room context true levels bytes Tokens true → opened ≡ opened-is.Record own state → own.kind ≡ variant.Vec
-  list-is opens is =
+  list_is : Opens opened left last room context true levels bytes Tokens true → opened ≡ opened-is.Record own state → own.kind ≡ variant.Vec
+  list_is opens is =
       let there = some_place last in
       let open-there : Opens (opened-is.Record own state) left last room context true levels bytes Tokens true = rw is at opens in
       let headed = (record_headed bytes there.0 Tokens levels own (open-there.from there.0 there.1).1).1 in
       let number = kind_number_lem (get_or bytes there.0 0) own.kind headed.kind_is in
       let same : get_or bytes there.0 0 ≡ 24 =
       by_test (eqb (get_or bytes there.0 0) 24) (λ q. eqb-true _ _ q) (λ other. no_other 24 _ (rw other at headed.standing)) in
-      opened-by-number opens is 24 variant.Vec (number ∙ same) refl
+      opened_by_number opens is 24 variant.Vec (number ∙ same) refl
 
   -- what is shown of its tokens is shown of the list
-  pub tokens-shown : {answer : Printed} {after : List ℕ} (block : Bool) → Opens opened left last room context true levels bytes Tokens true → opened ≡ opened-is.Record own state
+  pub tokens_shown : {answer : Printed} {after : List ℕ} (block : Bool) → Opens opened left last room context true levels bytes Tokens true → opened ≡ opened-is.Record own state
       → Prints answer after (Done state own.end) left (λ at. each_events context block levels bytes own.count at)
       (λ at. items_end (read (levels - 1) bytes) BareToken own.count at)
       → PrintsTokens answer after last room context block levels bytes
-  tokens-shown {answer} {after} block opens is done =
+  tokens_shown {answer} {after} block opens is done =
       let open-there : Opens (opened-is.Record own state) left last room context true levels bytes Tokens true = rw is at opens in
-      let vec = list-is opens is in
+      let vec = list_is opens is in
       record {
         from = λ at here.
             let end = items_end (read (levels - 1) bytes) BareToken own.count own.end in
@@ -416,19 +416,19 @@ module _ (context : Context) (block : Bool) (levels : ℕ) (bytes : List ℕ) {a
   all_left left at shown = rw (and-true block) at shown
 
   -- no token is left: the end of a block
-  pub block-left : (before : code.Before) (left at : ℕ) → left ≤ 0 → block ≡ true
+  pub block_left : (before : code.Before) (left at : ℕ) → left ≤ 0 → block ≡ true
       → Shown answer after (closing_events context before.first (before_of before) (closing_at true levels bytes at)) start at
       → Shown answer after (rest_events context block levels bytes before left at) start (items_end (read (levels - 1) bytes) BareToken left at)
   unfolding events_in chain item_trees items_end
-  block-left before (suc left) at none on shown = absurd (omega arith)
-  block-left before zero at none on shown = rw on shown
+  block_left before (suc left) at none on shown = absurd (omega arith)
+  block_left before zero at none on shown = rw on shown
 
   -- or that of the file
-  pub file-left : (before : code.Before) (left at : ℕ) → left ≤ 0 → block ≡ false → Shown answer after nothing start at
+  pub file_left : (before : code.Before) (left at : ℕ) → left ≤ 0 → block ≡ false → Shown answer after nothing start at
       → Shown answer after (rest_events context block levels bytes before left at) start (items_end (read (levels - 1) bytes) BareToken left at)
   unfolding events_in chain item_trees items_end
-  file-left before (suc left) at none off shown = absurd (omega arith)
-  file-left before zero at none off shown = rw off shown
+  file_left before (suc left) at none off shown = absurd (omega arith)
+  file_left before zero at none off shown = rw off shown
 
   -- one token, and those that are left behind it
   pub one_left : (token : Printed) (shown : List ℕ) (before : code.Before) (left at number : ℕ) → 0 < left

@@ -25,7 +25,7 @@ use Rattle.leaves.specs.Records.{Opens, PrintsRecord}
 use Rattle.leaves.specs.declared.record.Opened.{Opened}
 use Rattle.leaves.specs.declared.record.Opened.TheVariants as opened-is
 use Rattle.leaves.proofs.Classes.{word_leaf}
-use Rattle.leaves.proofs.Leaves.{own-leaf}
+use Rattle.leaves.proofs.Leaves.{own_leaf}
 use Rattle.leaves.proofs.Records.{read_record}
 use Rattle.tokens.specs.Inner.{else_front}
 
@@ -38,7 +38,7 @@ pub id_shown : (bytes : List ℕ) (levels : ℕ) (own : Own) (context : Context)
     → Shown answer room (events_in context labelled false (read levels bytes class.Word at).tree) before (read levels bytes class.Word at).end
 unfolding parts_due fields_due read_parts built events_in run
 id_shown bytes levels own context at is done =
-    rw ((read_record bytes class.Word at levels own is).1, own-leaf bytes class.Word word_leaf at levels own is) (alike (λ x. refl) done)
+    rw ((read_record bytes class.Word at levels own is).1, own_leaf bytes class.Word word_leaf at levels own is) (alike (λ x. refl) done)
 
 -- what is shown from its own bytes on is shown of the record that was opened
 pub id_opened : {context : Context} {levels : ℕ} {bytes left room after : List ℕ} {last answer : Printed} {opened : Opened} {own : Own} {state : CodeFormatter}
@@ -54,17 +54,17 @@ id_opened {context} {levels} {bytes} {left} {room} {last = last} {own = own} {st
 
 module _ {answer : Printed} {room : List ℕ} {context : Context} {position : BracePosition} {leaf : Events} {before : Run} {end : ℕ} where
   -- a brace on the same line
-  pub opens-same : position ≡ SameLine → Shown answer room (leaf ▹ newline context) before end → Shown answer room (opening context position leaf) before end
-  opens-same is shown = rw is shown
+  pub opens_same : position ≡ SameLine → Shown answer room (leaf ▹ newline context) before end → Shown answer room (opening context position leaf) before end
+  opens_same is shown = rw is shown
 
   -- and on a new one
-  pub opens-new : position ≡ NewLine → Shown answer room (newline context ▹ leaf ▹ newline context) before end → Shown answer room (opening context position leaf) before end
-  opens-new is shown = rw is shown
+  pub opens_new : position ≡ NewLine → Shown answer room (newline context ▹ leaf ▹ newline context) before end → Shown answer room (opening context position leaf) before end
+  opens_new is shown = rw is shown
 
   -- a tag between spaces
   pub else_same : position ≡ SameLine → Shown answer room (blank context ▹ leaf ▹ blank context) before end → Shown answer room (else_front context position leaf) before end
   else_same is shown = rw is shown
 
   -- and on a new line
-  pub else-new : position ≡ NewLine → Shown answer room (newline context ▹ leaf) before end → Shown answer room (else_front context position leaf) before end
-  else-new is shown = rw is shown
+  pub else_new : position ≡ NewLine → Shown answer room (newline context ▹ leaf) before end → Shown answer room (else_front context position leaf) before end
+  else_new is shown = rw is shown

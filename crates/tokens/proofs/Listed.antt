@@ -41,10 +41,10 @@ use Rattle.leads.specs.Leads.{before_of, lead_in, Led, LeadsIn}
 use Rattle.leads.specs.declared.Before as code
 use Rattle.leads.specs.declared.Lead.{Lead}
 use Rattle.leads.specs.declared.Lead.TheVariants.{Ready, Over}
-use Rattle.leads.proofs.Leads.{token-missing, lead-stopped}
+use Rattle.leads.proofs.Leads.{token_missing, lead_stopped}
 use Rattle.tokens.specs.Inner.{sized_events, listed_events}
-use Rattle.tokens.proofs.PlainTokens.{HeadFirst, kind_named, data_shown, data-headed, first-headed}
-use Rattle.tokens.proofs.Cycle.{token-opened}
+use Rattle.tokens.proofs.PlainTokens.{HeadFirst, kind_named, data_shown, data_headed, first_headed}
+use Rattle.tokens.proofs.Cycle.{token_opened}
 
 -- ---- the number of a token
 
@@ -63,7 +63,7 @@ listed_number levels bytes at context drops before room state {token} {left} {ne
     go (own_is.Refused why) is =
         by_test (eqb state.full 0)
         (λ empty. ended_going (went
-        ∙ sym (lead-stopped levels bytes at context drops (before_of before) room state (token-missing levels bytes at why is) (eqb-true _ _ empty) _ 0).state))
+        ∙ sym (lead_stopped levels bytes at context drops (before_of before) room state (token_missing levels bytes at why is) (eqb-true _ _ empty) _ 0).state))
         (λ full. ended_going (went ∙ run_full _ room state (eqb-false _ _ full)))
 
 -- ---- a token behind its lead-in
@@ -72,9 +72,9 @@ module _ {context : Context} {drops : Bool} {before : Before} {levels : ℕ} {by
     (leads : LeadsIn lead left last room context drops before levels bytes)
   where
     -- where the walk ended before it
-    pub listed-over : {answer : Printed} → lead ≡ Over answer
+    pub listed_over : {answer : Printed} → lead ≡ Over answer
         → Prints answer left last room (λ at. listed_events context drops before (read levels bytes BareToken at).tree) (λ at. (read levels bytes BareToken at).end)
-    listed-over {answer} is =
+    listed_over {answer} is =
         let over : LeadsIn (Over answer) left last room context drops before levels bytes = rw is at leads in
         record { from = λ at here. over.from at here _ _ }
 
@@ -86,15 +86,15 @@ module _ {context : Context} {drops : Bool} {before : Before} {levels : ℕ} {by
           ready.from at here
 
       -- so its record is open
-      pub listed-opens : Opens (opened-is.Record own state) left (Done state at) left context false levels bytes BareToken true
+      pub listed_opens : Opens (opened-is.Record own state) left (Done state at) left context false levels bytes BareToken true
       unfolding run
-      listed-opens = record {
+      listed_opens = record {
         from = λ place same. rw (← same) (refl, led.token, own_fits bytes at BareToken levels own led.token, refl);
       }
 
       -- and the text of its head lies within the bytes
-      pub head-text : (head.text ≤ head.end) × (head.end ≤ length bytes)
-      head-text = let held = own_fits bytes _ _ _ head led.reads in (held.part, held.inside)
+      pub head_text : (head.text ≤ head.end) × (head.end ≤ length bytes)
+      head_text = let held = own_fits bytes _ _ _ head led.reads in (held.part, held.inside)
 
       module _ {answer : Printed} {after : List ℕ} where
         -- what is shown of the record is shown of the token of the list
@@ -107,8 +107,8 @@ module _ {context : Context} {drops : Bool} {before : Before} {levels : ℕ} {by
             → (own.kind ≡ kind → PrintsKind answer after (Done state own.end) left context (leaf plain) kind LocatedExpression (own.map / 2) (levels - 1) bytes)
             → Shown answer after (listed_events context drops before (read levels bytes BareToken at).tree) (outcome last room) (read levels bytes BareToken at).end
         listed-kind number kind byte known fielded done =
-            let opens = listed-opens in
-            let named = kind_named byte known (token-opened false at opens refl refl).known in
+            let opens = listed_opens in
+            let named = kind_named byte known (token_opened false at opens refl refl).known in
             listed-shown (opened-kind opens refl (leaf plain) kind named fielded (done named))
 
         -- and what is shown from its head on, where that is its first field
@@ -118,7 +118,7 @@ module _ {context : Context} {drops : Bool} {before : Before} {levels : ℕ} {by
             → Shown answer after (listed_events context drops before (read levels bytes BareToken at).tree) (outcome last room) (read levels bytes BareToken at).end
         listed-first number kind others byte known fielded shown =
             listed-kind number kind byte known fielded (λ named.
-            let same = first-headed levels bytes at own led.token led.found led.finds number kind others byte named in
+            let same = first_headed levels bytes at own led.token led.found led.finds number kind others byte named in
             shown own.end (rw (← same) at led.reads))
 
         -- that of an `Instruction` is its mnemonic
@@ -145,6 +145,6 @@ module _ {context : Context} {drops : Bool} {before : Before} {levels : ℕ} {by
         unfolding built kind_number stored_with
         listed-data number shown =
             listed-kind 5 variant.Data number refl refl (λ kind.
-            let size = data-headed levels bytes at own led.token led.found led.finds number in
+            let size = data_headed levels bytes at own led.token led.found led.finds number in
             let sized = shown led.found.place (rw (size.1, size.2) at led.reads) in
             done_before refl (data_shown context (levels - 1) bytes (own.map / 2) own.end _ size.0 (sized.from _ refl)))

@@ -1,5 +1,5 @@
 -- The walk before the check: where it settles that the tree is accepted the check would pass, and else the check is asked.
---   pass-settled : settles tree printed ≡ true → OnePass options tree room (printed_answer printed) left
+--   pass_settled : settles tree printed ≡ true → OnePass options tree room (printed_answer printed) left
 use mathlib.Core.Path.{◌≡◌, refl, sym, ap, ◌∙◌}
 use mathlib.Core.List.{List}
 use mathlib.Core.Bool.{true, false}
@@ -19,17 +19,17 @@ use Rattle.text.proofs.Choices.{true_false, and_true_left, and_true_right}
 use Rattle.tree.specs.Checking.{read_file, plain_tree, length_checked, end_checked, batch_checked}
 use Rattle.tree.specs.declared.grammar.Class.TheVariants.{Tokens}
 use Rattle.tree.proofs.Readings.{passed_file, length_failed}
-use Rattle.tree.proofs.Plain.{plain-passed}
-use Rattle.printing.specs.Running.{at_start, outcome, room_of}
+use Rattle.tree.proofs.Plain.{plain_passed}
+use Rattle.printing.specs.Running.{at_start, outcome, room_of_lem}
 use Rattle.printing.specs.declared.Printed.{Printed}
 use Rattle.printing.specs.declared.Printed.TheVariants.{Done, Refused}
-use Rattle.printing.proofs.Running.{place-behind}
+use Rattle.printing.proofs.Running.{place_behind}
 use Rattle.printing.proofs.Stops.{going_free}
 use Rattle.events.specs.Trees.{first, file_end, tokens}
 use Rattle.events.proofs.Judged.{read_judged}
 use Rattle.tokens.specs.Chunks.{file_events, held_with, chunks_answer, RoomHolds, one_pass_with}
 use Rattle.tokens.specs.Settling.{Walks, printed_answer, settles}
-use Rattle.tokens.proofs.Whole.{whole-walked}
+use Rattle.tokens.proofs.Whole.{whole_walked}
 
 -- what is promised under given options
 pub record OnePass (options : FormattingOptions) (tree room : List ℕ) (said : Answer) (left : List ℕ) : Type 0 where
@@ -38,7 +38,7 @@ pub record OnePass (options : FormattingOptions) (tree room : List ℕ) (said : 
   pub whole : left ≡ one_pass_with (options-are.Options options) tree room
 
 -- the room of an answer
-room_of_lem : (printed : Printed) (left : List ℕ) → left ≡ room_of (outcome printed left)
+room_of_lem : (printed : Printed) (left : List ℕ) → left ≡ room_of_lem (outcome printed left)
 room_of_lem (Done state at) left = refl
 room_of_lem (Refused why) left = refl
 
@@ -50,39 +50,39 @@ end_passed tree end at same last =
 
 module _ (options : FormattingOptions) (tree room : List ℕ) where
   -- a tree of a wrong length leaves the room as it was
-  pub pass-unsized : (why : Refusal) → length_checked 65535 tree ≡ Failed why → OnePass options tree room (answer.Refused why) room
-  pass-unsized why unsized =
+  pub pass_unsized : (why : Refusal) → length_checked 65535 tree ≡ Failed why → OnePass options tree room (answer.Refused why) room
+  pass_unsized why unsized =
       let failed = length_failed 65535 64 tree why unsized in
       record { answered = rw failed refl; holds = rw failed tt; whole = rw unsized refl }
 
   module _ (narrow : Narrow options) (sized : length_checked 65535 tree ≡ Passed) {printed : Printed} {left : List ℕ} (walks : Walks printed left options tree room) where
     -- the room is as the run leaves it
-    run-left : left ≡ one_pass_with (options-are.Options options) tree room
-    run-left = rw sized (room_of_lem printed left ∙ ap room_of walks.state)
+    run_left : left ≡ one_pass_with (options-are.Options options) tree room
+    run_left = rw sized (room_of_lem printed left ∙ ap room_of_lem walks.state)
 
     -- the check refuses the tree
-    pub pass-failed : (why : Refusal) → batch_checked tree ≡ Failed why → OnePass options tree room (answer.Refused why) left
-    pass-failed why failed = record { answered = rw failed refl; holds = rw failed tt; whole = run-left }
+    pub pass_failed : (why : Refusal) → batch_checked tree ≡ Failed why → OnePass options tree room (answer.Refused why) left
+    pass_failed why failed = record { answered = rw failed refl; holds = rw failed tt; whole = run_left }
 
     -- the check passes it
-    pub pass-passed : batch_checked tree ≡ Passed → OnePass options tree room (printed_answer printed) left
-    pass-passed passed =
-        let held = whole-walked options tree room narrow passed walks in
-        record { answered = held.answered; holds = held.holds; whole = run-left }
+    pub pass_passed : batch_checked tree ≡ Passed → OnePass options tree room (printed_answer printed) left
+    pass_passed passed =
+        let held = whole_walked options tree room narrow passed walks in
+        record { answered = held.answered; holds = held.holds; whole = run_left }
 
     -- an answer that settles it: the walk met no stop, so reading meets no refusal
-    settled-passed : (is : Printed) → printed ≡ is → settles tree is ≡ true → batch_checked tree ≡ Passed
+    settled_passed : (is : Printed) → printed ≡ is → settles tree is ≡ true → batch_checked tree ≡ Passed
     unfolding settles
-    settled-passed (Done state at) is settling =
+    settled_passed (Done state at) is settling =
         let free = going_free (file_events options tree) room at_start (ap (λ (p : Printed). outcome p left) (sym is) ∙ walks.state) in
         passed_file 65535 64 tree (record {
           size = sized;
           layout = read_judged 64 tree Tokens 0 (record { options = options; indent = 0 }) (tokens false first file_end) true free;
-          end = end_passed tree (read_file 64 tree).end at (place-behind walks is) (and_true_left (eqb at (length tree)) (plain_tree tree) settling);
-          texts = plain-passed tree (and_true_right (eqb at (length tree)) (plain_tree tree) settling) 64;
+          end = end_passed tree (read_file 64 tree).end at (place_behind walks is) (and_true_left (eqb at (length tree)) (plain_tree tree) settling);
+          texts = plain_passed tree (and_true_right (eqb at (length tree)) (plain_tree tree) settling) 64;
         })
-    settled-passed (Refused why) is settling = true_false (sym settling)
+    settled_passed (Refused why) is settling = true_false (sym settling)
 
     -- so the walk's own answer is the call's
-    pub pass-settled : settles tree printed ≡ true → OnePass options tree room (printed_answer printed) left
-    pass-settled settling = pass-passed (settled-passed printed refl settling)
+    pub pass_settled : settles tree printed ≡ true → OnePass options tree room (printed_answer printed) left
+    pass_settled settling = pass_passed (settled_passed printed refl settling)

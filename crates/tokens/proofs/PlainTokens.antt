@@ -33,7 +33,7 @@ use Rattle.printing.proofs.Running.{alike}
 use Rattle.events.specs.Printed.{plain}
 use Rattle.events.specs.Trees.{blank, one_of, leaf, arguments, events_in}
 use Rattle.events.specs.Views.{bit_at}
-use Rattle.events.proofs.Refusals.{skip-passed}
+use Rattle.events.proofs.Refusals.{skip_passed}
 use Rattle.leaves.specs.Records.{field_trees, fields_end}
 use Rattle.tokens.specs.Fronts.{is_plain}
 use Rattle.tokens.specs.Inner.{value_events, sized_events, operand_events, operand_end}
@@ -102,7 +102,7 @@ pub data_shown : (context : Context) (levels : ℕ) (bytes : List ℕ) (bits at 
     (fields_end (read levels bytes) (fields variant.Data LocatedExpression) bits at)
 unfolding built field_trees fields_end events_in run
 data_shown context levels bytes bits at size skips done =
-    let passed = skip-passed levels bytes ExpressionArguments at size skips in
+    let passed = skip_passed levels bytes ExpressionArguments at size skips in
     rw passed.0 (alike (λ x. refl) (rw passed.1 at done))
 
 -- ---- heads
@@ -122,16 +122,16 @@ module _ (levels : ℕ) (bytes : List ℕ) (at : ℕ) (own : Own) (is : read_own
     (found : head_at levels bytes BareToken at ≡ Found head)
   where
     -- so where the head of a `Data` was found its values were skipped, and it is the size
-    pub data-headed : get_or bytes at 0 ≡ 5
+    pub data_headed : get_or bytes at 0 ≡ 5
         → (skipped (levels - 1) bytes ExpressionArguments own.end ≡ Next head.place) × (head.class ≡ DataSize) × (head.levels ≡ levels - 1)
     unfolding head_at field_head
-    data-headed five = second_behind (levels - 1) DataSize head _ (rw (is, five) at found)
+    data_headed five = second_behind (levels - 1) DataSize head _ (rw (is, five) at found)
 
     -- that of another token is its first field
-    pub first-headed : (number : ℕ) (kind : Kind) → HeadFirst number → get_or bytes at 0 ≡ number → own.kind ≡ kind
+    pub first_headed : (number : ℕ) (kind : Kind) → HeadFirst number → get_or bytes at 0 ≡ number → own.kind ≡ kind
         → record { place = own.end; class = first_class BareToken (fields kind LocatedExpression); levels = levels - 1 } ≡ head
     unfolding head_at field_head
-    first-headed number kind others is_number is-kind =
+    first_headed number kind others is_number is-kind =
         let same : Found (record { place = own.end; class = first_class BareToken (fields kind LocatedExpression); levels = levels - 1 }) ≡ Found head =
         rw (is, is_number, is-kind, others.0, others.1, others.2, others.3) at found in
         cc

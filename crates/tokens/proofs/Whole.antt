@@ -1,5 +1,5 @@
 -- The walk over a whole tree leaves the chunks that are held, or ends with the refusal that holding them meets.
---   whole-walked : of a tree that was accepted, whole-failed : of one that was not
+--   whole_walked : of a tree that was accepted, whole_failed : of one that was not
 use mathlib.Core.Path.{◌≡◌, refl, sym, ap, ◌∙◌}
 use mathlib.Core.List.{List, [], reverse}
 use mathlib.Core.Bool.{false}
@@ -23,7 +23,7 @@ use Rattle.printing.specs.declared.CodeFormatter.{CodeFormatter}
 use Rattle.printing.specs.declared.Printed.{Printed}
 use Rattle.printing.specs.declared.Printed.TheVariants.{Done, Refused}
 use Rattle.printing.proofs.Holding.{holds_nothing, same}
-use Rattle.events.proofs.Storable.{file-storable}
+use Rattle.events.proofs.Storable.{file_storable}
 use Rattle.events.proofs.Accepted.{file_accepted}
 use Rattle.tokens.specs.Chunks.{file_events, held_with, chunks_answer, RoomHolds, room_with}
 use Rattle.tokens.specs.Settling.{Walks, printed_answer}
@@ -36,8 +36,8 @@ pub record Whole (options : FormattingOptions) (tree room : List ℕ) (said : An
 
 module _ (options : FormattingOptions) (tree room : List ℕ) where
   -- a tree that was not accepted leaves the room as it was
-  pub whole-failed : (why : Refusal) → batch_checked tree ≡ Failed why → Whole options tree room (answer.Refused why) room
-  whole-failed why failed = record { answered = rw failed refl; holds = rw failed tt; whole = rw failed refl }
+  pub whole_failed : (why : Refusal) → batch_checked tree ≡ Failed why → Whole options tree room (answer.Refused why) room
+  whole_failed why failed = record { answered = rw failed refl; holds = rw failed tt; whole = rw failed refl }
 
   module _ (narrow : Narrow options) (passed : batch_checked tree ≡ Passed) where
     -- the run agrees with what is held
@@ -45,12 +45,12 @@ module _ (options : FormattingOptions) (tree room : List ℕ) where
     agrees =
         let file = file_passed 65535 64 tree passed in
         same (file_events options tree)
-        (file-storable 64 tree (length_passed 65535 tree file.size) options (omega arith) narrow.indent) (holds_nothing room)
+        (file_storable 64 tree (length_passed 65535 tree file.size) options (omega arith) narrow.indent) (holds_nothing room)
 
     -- where it went on
-    whole-done : (left : List ℕ) (state : CodeFormatter) → going left state ≡ settled (run (file_events options tree) (going room at_start))
+    whole_done : (left : List ℕ) (state : CodeFormatter) → going left state ≡ settled (run (file_events options tree) (going room at_start))
         → Whole options tree room (answer.Accepted state.used) left
-    whole-done left state ran = go (hold (length room) (file_events options tree) (held [] false)) refl (rw (← ran) at agrees)
+    whole_done left state ran = go (hold (length room) (file_events options tree) (held [] false)) refl (rw (← ran) at agrees)
       where
         go : (chunks : Held) → hold (length room) (file_events options tree) (held [] false) ≡ chunks → Same (length room) (going left state) chunks
             → Whole options tree room (answer.Accepted state.used) left
@@ -67,9 +67,9 @@ module _ (options : FormattingOptions) (tree room : List ℕ) where
         go (refused why) is both = absurd both
 
     -- where it ended
-    whole-ended : (left : List ℕ) (why : Refusal) → ended left why ≡ settled (run (file_events options tree) (going room at_start))
+    whole_ended : (left : List ℕ) (why : Refusal) → ended left why ≡ settled (run (file_events options tree) (going room at_start))
         → Whole options tree room (answer.Refused why) left
-    whole-ended left why ran = go (hold (length room) (file_events options tree) (held [] false)) refl (rw (← ran) at agrees)
+    whole_ended left why ran = go (hold (length room) (file_events options tree) (held [] false)) refl (rw (← ran) at agrees)
       where
         go : (chunks : Held) → hold (length room) (file_events options tree) (held [] false) ≡ chunks → Same (length room) (ended left why) chunks
             → Whole options tree room (answer.Refused why) left
@@ -78,11 +78,11 @@ module _ (options : FormattingOptions) (tree room : List ℕ) where
             record { answered = rw (passed, is) (ap answer.Refused both.1); holds = rw (passed, is) tt; whole = rw (passed, ← ran) refl }
 
     -- so of the walk over the file, whatever it answered
-    pub whole-walked : {printed : Printed} {left : List ℕ} → Walks printed left options tree room → Whole options tree room (printed_answer printed) left
-    whole-walked {printed} {left} walks = go printed refl
+    pub whole_walked : {printed : Printed} {left : List ℕ} → Walks printed left options tree room → Whole options tree room (printed_answer printed) left
+    whole_walked {printed} {left} walks = go printed refl
       where
         go : (is : Printed) → printed ≡ is → Whole options tree room (printed_answer printed) left
         go (Done state at) is =
-            rw is (whole-done left state (ap (λ (p : Printed). outcome p left) (sym is) ∙ walks.state))
+            rw is (whole_done left state (ap (λ (p : Printed). outcome p left) (sym is) ∙ walks.state))
         go (Refused why) is =
-            rw is (whole-ended left why (ap (λ (p : Printed). outcome p left) (sym is) ∙ walks.state))
+            rw is (whole_ended left why (ap (λ (p : Printed). outcome p left) (sym is) ∙ walks.state))

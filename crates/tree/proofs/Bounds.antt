@@ -1,6 +1,6 @@
 -- No more blocks stand in each other than there are levels, and every text lies within the bytes.
 --   read_nesting : .. nesting (read levels bytes class at .tree) ≤ levels
---   texts-inside : .. List.Memᴰ text (read levels bytes class at .texts) → Inside bytes text
+--   texts_inside : .. List.Memᴰ text (read levels bytes class at .texts) → Inside bytes text
 use mathlib.Core.Path.{◌≡◌, refl}
 use mathlib.Core.Logic.{⊎_elim}
 use mathlib.Core.List.Memᴰ
@@ -23,8 +23,8 @@ use Rattle.tree.specs.declared.own.Own.{Own}
 use Rattle.tree.specs.declared.own.Span.TheVariants.{Behind}
 use Rattle.tree.specs.declared.own.OwnRead.TheVariants.{Record}
 use Rattle.tree.specs.declared.own.TriviaSpan.{TriviaSpan}
-use Rattle.tree.proofs.OwnBytes.{ItemHeld, Headed, items_held, trivia_of_lem, trivia-cases, own-cases}
-use Rattle.tree.proofs.Readings.{every-reading}
+use Rattle.tree.proofs.OwnBytes.{ItemHeld, Headed, items_held, trivia_of_lem, trivia_cases, own_cases}
+use Rattle.tree.proofs.Readings.{every_reading}
 
 -- ---- blocks in each other
 
@@ -96,7 +96,7 @@ parts_nesting limit reader below (due class ∷ parts) at (suc place) = parts_ne
 pub read_nesting : (levels : ℕ) (bytes : List ℕ) (class : Class) (at : ℕ) → nesting (read levels bytes class at).tree ≤ levels
 unfolding nesting
 read_nesting levels bytes =
-    every-reading bytes (λ levels class at reading. nesting reading.tree ≤ levels)
+    every_reading bytes (λ levels class at reading. nesting reading.tree ≤ levels)
     (λ levels class at reader why. omega arith)
     (λ levels class at own is below.
     built_nesting own.kind levels _ _ (parts_nesting levels (read levels bytes) below (parts_due class own) own.end))
@@ -120,8 +120,8 @@ empty_text bytes place at = rw (slice_empty at bytes) (λ some. absurd (omega ar
 
 module _ (bytes : List ℕ) where
   -- the text of a trivia item
-  item-text : (at : ℕ) → 1 ≤ at → ItemHeld bytes at → Stands bytes (record { place = at + 3; bytes = trivium_text bytes at })
-  item-text at first held =
+  item_text : (at : ℕ) → 1 ≤ at → ItemHeld bytes at → Stands bytes (record { place = at + 3; bytes = trivium_text bytes at })
+  item_text at first held =
       let inside : trivium_behind bytes at ≤ length bytes = held.inside in
       by_test (eqb (get_or bytes at 0) 1)
       (λ q. rw q (λ some. absurd (omega arith)))
@@ -130,15 +130,15 @@ module _ (bytes : List ℕ) where
       rw (q, length-slice (at + 3) (at + 3 + number_at bytes (at + 1)) bytes last) (λ some. (omega arith, omega arith, (at + 3 + number_at bytes (at + 1), refl))))
 
   -- those of trivia items
-  items-texts : (at count end : ℕ) → 1 ≤ at → trivia_end bytes at count ≡ Behind end
+  items_texts : (at count end : ℕ) → 1 ≤ at → trivia_end bytes at count ≡ Behind end
       → (text : Placed) → Memᴰ text (trivia_texts bytes at count) → Stands bytes text
   unfolding trivia_texts
-  items-texts at zero end first e text member = absurd (Memᴰ.not-nil member)
-  items-texts at (suc count) end first e text member =
+  items_texts at zero end first e text member = absurd (Memᴰ.not-nil member)
+  items_texts at (suc count) end first e text member =
       let held = items_held bytes at count end e in
       ⊎_elim
-      (λ same. rw same (item-text at first held.0))
-      (λ behind. items-texts (trivium_behind bytes at) count end (omega (arith, held.0.onward)) held.1 text behind)
+      (λ same. rw same (item_text at first held.0))
+      (λ behind. items_texts (trivium_behind bytes at) count end (omega (arith, held.0.onward)) held.1 text behind)
       (Memᴰ.cases_cons member)
 
   -- those of trivia, and a text behind them
@@ -149,19 +149,19 @@ module _ (bytes : List ℕ) where
   own_texts at class kind trivia headed letters own text member =
       ⊎_elim
       (λ item.
-      trivia-cases bytes (at + 2) (get_or bytes (at + 1) 0 % 2)
+      trivia_cases bytes (at + 2) (get_or bytes (at + 1) 0 % 2)
       (λ (span : TriviaSpan). Memᴰ text (trivia_texts bytes span.first span.count) → Stands bytes text)
       (λ without none. absurd (Memᴰ.not-nil none))
-      (λ end some room count is. items-texts (at + 2 + 2) (number_at bytes (at + 2)) end (omega arith) is text)
+      (λ end some room count is. items_texts (at + 2 + 2) (number_at bytes (at + 2)) end (omega arith) is text)
       trivia headed.trivia_is item)
       (λ letter. let same : text ≡ letters = Memᴰ.eq_of_singleton letter in rw same own)
       (Memᴰ.append_cases (trivia_texts bytes trivia.first trivia.count) member)
 
   -- those of a record's own bytes
-  record-texts : (at : ℕ) (class : Class) (levels : ℕ) (own : Own) → read_own bytes at class levels ≡ Record own
+  record_texts : (at : ℕ) (class : Class) (levels : ℕ) (own : Own) → read_own bytes at class levels ≡ Record own
       → (text : Placed) → Memᴰ text (texts_of bytes own) → Stands bytes text
-  record-texts at class =
-      own-cases bytes at class (λ (own : Own). (text : Placed) → Memᴰ text (texts_of bytes own) → Stands bytes text)
+  record_texts at class =
+      own_cases bytes at class (λ (own : Own). (text : Placed) → Memᴰ text (texts_of bytes own) → Stands bytes text)
       (λ kind trivia headed number room. own_texts at class kind trivia headed _ (empty_text bytes (trivia.end + 2) (trivia.end + 2)))
       (λ kind trivia end headed leaf stands held.
       let held-trivia = trivia_of_lem headed in
@@ -170,28 +170,28 @@ module _ (bytes : List ℕ) where
       (λ kind trivia headed list leaf. own_texts at class kind trivia headed _ (empty_text bytes trivia.end trivia.end))
 
   -- those of its parts
-  parts-texts : (reader : Reader) → ((class : Class) (at : ℕ) (text : Placed) → Memᴰ text (reader class at).texts → Stands bytes text)
+  parts_texts : (reader : Reader) → ((class : Class) (at : ℕ) (text : Placed) → Memᴰ text (reader class at).texts → Stands bytes text)
       → (parts : List Due) (at : ℕ) (text : Placed) → Memᴰ text (read_parts reader parts at).texts → Stands bytes text
   unfolding read_parts
-  parts-texts reader below [] at text member = absurd (Memᴰ.not-nil member)
-  parts-texts reader below (nothing ∷ parts) at text member = parts-texts reader below parts at text member
-  parts-texts reader below (due class ∷ parts) at text member =
+  parts_texts reader below [] at text member = absurd (Memᴰ.not-nil member)
+  parts_texts reader below (nothing ∷ parts) at text member = parts_texts reader below parts at text member
+  parts_texts reader below (due class ∷ parts) at text member =
       ⊎_elim
       (λ first. below class at text first)
-      (λ rest. parts-texts reader below parts (reader class at).end text rest)
+      (λ rest. parts_texts reader below parts (reader class at).end text rest)
       (Memᴰ.append_cases (reader class at).texts member)
 
   -- every text that is read is a part of the bytes, whether the reading passes or not
-  pub texts-stand : (levels : ℕ) (class : Class) (at : ℕ) (text : Placed) → Memᴰ text (read levels bytes class at).texts → Stands bytes text
-  texts-stand =
-      every-reading bytes (λ levels class at reading. (text : Placed) → Memᴰ text reading.texts → Stands bytes text)
+  pub texts_stand : (levels : ℕ) (class : Class) (at : ℕ) (text : Placed) → Memᴰ text (read levels bytes class at).texts → Stands bytes text
+  texts_stand =
+      every_reading bytes (λ levels class at reading. (text : Placed) → Memᴰ text reading.texts → Stands bytes text)
       (λ levels class at reader why text member. absurd (Memᴰ.not-nil member))
       (λ levels class at own is below text member.
       ⊎_elim
-      (λ own_text. record-texts at class (suc levels) own is text own_text)
-      (λ part-text. parts-texts (read levels bytes) below (parts_due class own) own.end text part-text)
+      (λ own_text. record_texts at class (suc levels) own is text own_text)
+      (λ part-text. parts_texts (read levels bytes) below (parts_due class own) own.end text part-text)
       (Memᴰ.append_cases (texts_of bytes own) member))
 
   -- so it lies within the bytes
-  pub texts-inside : (levels : ℕ) (class : Class) (at : ℕ) (text : Placed) → Memᴰ text (read levels bytes class at).texts → Inside bytes text
-  texts-inside levels class at text member some = let stands = texts-stand levels class at text member some in (stands.0, stands.1)
+  pub texts_inside : (levels : ℕ) (class : Class) (at : ℕ) (text : Placed) → Memᴰ text (read levels bytes class at).texts → Inside bytes text
+  texts_inside levels class at text member some = let stands = texts_stand levels class at text member some in (stands.0, stands.1)

@@ -96,12 +96,12 @@ items_end_lem bytes place (suc left) found h = absurd (omega arith)
 
 module _ (bytes : List ℕ) (at count fault place left found : ℕ) (items : ItemsLeft bytes at count fault place left found) where
   -- the loop over the items ends
-  pub items-done : left ≤ 0 → found ≡ fault_from bytes fault (trivia_texts bytes at count)
-  items-done h = sym (items.same ∙ items_end_lem bytes place left found h)
+  pub items_done : left ≤ 0 → found ≡ fault_from bytes fault (trivia_texts bytes at count)
+  items_done h = sym (items.same ∙ items_end_lem bytes place left found h)
 
   -- an item that is left lies within the bytes
-  pub item-inside : 0 < left → ItemHeld bytes place
-  item-inside h = (trivium_first bytes place left items.end found h items.items).0
+  pub item_inside : 0 < left → ItemHeld bytes place
+  item_inside h = (trivium_first bytes place left items.end found h items.items).0
 
   -- the items behind one that was looked at
   item_on : 0 < left → (next seen : ℕ) → trivium_behind bytes place ≡ next
@@ -116,8 +116,8 @@ module _ (bytes : List ℕ) (at count fault place left found : ℕ) (items : Ite
       }
 
   -- a newline
-  pub newline-on : 0 < left → get_or bytes place 0 ≡ 1 → ItemsLeft bytes at count fault (place + 1) (left - 1) found
-  newline-on h newline = item_on h (place + 1) found (simp (eq-eqb _ _ newline)) (simp (eq-eqb _ _ newline) (fault_empty bytes found (place + 3)))
+  pub newline_on : 0 < left → get_or bytes place 0 ≡ 1 → ItemsLeft bytes at count fault (place + 1) (left - 1) found
+  newline_on h newline = item_on h (place + 1) found (simp (eq-eqb _ _ newline)) (simp (eq-eqb _ _ newline) (fault_empty bytes found (place + 3)))
 
   -- an item with a text
   module _ (h : 0 < left) (other : get_or bytes place 0 ≡ 1 → ⊥) (size : ℕ) (sized : size ≡ get_or bytes (place + 1) 0 + 256 * get_or bytes (place + 2) 0) where
@@ -126,10 +126,10 @@ module _ (bytes : List ℕ) (at count fault place left found : ℕ) (items : Ite
     size_number = let second : place + 1 + 1 ≡ place + 2 = omega arith in rw second (sym sized)
 
     -- its text lies within the bytes
-    pub text-inside : place + 3 + size ≤ length bytes
-    text-inside =
+    pub text_inside : place + 3 + size ≤ length bytes
+    text_inside =
         let behind : trivium_behind bytes place ≡ place + 3 + size = simp (ne_eqb _ _ other) (rw size_number) in
-        let held = item-inside h in omega arith
+        let held = item_inside h in omega arith
 
     -- the items behind it are left
     pub text_on_lem : (seen : ℕ) → seen ≡ fault_with bytes found (record { place = place + 3; bytes = slice (place + 3) (place + 3 + size) bytes })

@@ -36,7 +36,7 @@ use Rattle.tree.specs.declared.parts.HeadRead.{HeadRead}
 use Rattle.tree.specs.declared.parts.HeadRead.TheVariants.{NoHead}
 use Rattle.tree.proofs.Rows.{row_first, row_none}
 use Rattle.tree.proofs.OwnBytes.{item_held, own_fits}
-use Rattle.tree.proofs.Records.{level-left}
+use Rattle.tree.proofs.Records.{level_left}
 
 -- ---- the place behind a record
 
@@ -67,18 +67,18 @@ item_broken bytes at span same is = ap (trivium_on bytes at) (sym is ∙ same)
 
 module _ (bytes : List ℕ) (at : ℕ) (span : Span) (same : span ≡ trivium_end bytes at) (end : ℕ) (is : span ≡ Behind end) where
   -- an item that keeps it has a first byte
-  pub item-inside : at + 1 ≤ length bytes
-  item-inside = let held = (item_held bytes at end (sym same ∙ is)).0 in omega arith
+  pub item_inside : at + 1 ≤ length bytes
+  item_inside = let held = (item_held bytes at end (sym same ∙ is)).0 in omega arith
 
   -- a newline
-  pub item-newline : get_or bytes at 0 ≡ 1 → Item (record { code = get_or bytes at 0; start = end; end = end }) ≡ trivium_at bytes at
+  pub item_newline : get_or bytes at 0 ≡ 1 → Item (record { code = get_or bytes at 0; start = end; end = end }) ≡ trivium_at bytes at
   unfolding trivium_at
-  item-newline newline = sym (ap (trivium_on bytes at) (sym same ∙ is) ∙ simp (eq-eqb _ _ newline))
+  item_newline newline = sym (ap (trivium_on bytes at) (sym same ∙ is) ∙ simp (eq-eqb _ _ newline))
 
   -- an item with a text
-  pub item-text : (get_or bytes at 0 ≡ 1 → ⊥) → Item (record { code = get_or bytes at 0; start = at + 3; end = end }) ≡ trivium_at bytes at
+  pub item_text : (get_or bytes at 0 ≡ 1 → ⊥) → Item (record { code = get_or bytes at 0; start = at + 3; end = end }) ≡ trivium_at bytes at
   unfolding trivium_at
-  item-text other = sym (ap (trivium_on bytes at) (sym same ∙ is) ∙ simp (ne_eqb _ _ other))
+  item_text other = sym (ap (trivium_on bytes at) (sym same ∙ is) ∙ simp (ne_eqb _ _ other))
 
 -- an item that was read: its code, its text, which lies within the bytes, and the place behind it
 pub record ItemRead (bytes : List ℕ) (at : ℕ) (item : TriviumSpan) : Type 0 where
@@ -133,8 +133,8 @@ items_first bytes at count item e = let this = item_read bytes at item e in rw (
 -- the class of the first field, from the row
 module _ (class : Class) (slots : List Slot) (row : ℕ) (same : row ≡ row_of slots) where
   -- a row of no fields
-  pub first-none : row ≡ 0 → class ≡ first_class class slots
-  first-none e = sym (ap (first_class class) (row_none row slots same (omega arith)))
+  pub first_none : row ≡ 0 → class ≡ first_class class slots
+  first_none e = sym (ap (first_class class) (row_none row slots same (omega arith)))
 
   -- a row with a first one
   pub first_some : (row ≡ 0 → ⊥) → (found : Class) → ((slot : Slot) → row % 128 ≡ slot_code slot → found ≡ slot_class slot) → found ≡ first_class class slots
@@ -148,27 +148,27 @@ own_inside bytes at read-own own fits is = let held : OwnFits bytes at own = rw 
 
 module _ (levels : ℕ) (bytes : List ℕ) (class : Class) (at : ℕ) (read-own : OwnRead) (same : read-own ≡ read_own bytes at class levels) where
   -- the own bytes of a record within a token are refused
-  pub inner-refused : (refusal : Refusal) → read-own ≡ Refused refusal → NoHead refusal ≡ inner_head levels bytes class at
+  pub inner_refused : (refusal : Refusal) → read-own ≡ Refused refusal → NoHead refusal ≡ inner_head levels bytes class at
   unfolding inner_head
-  inner-refused refusal is = ap (inner_on levels bytes class at) (sym is ∙ same)
+  inner_refused refusal is = ap (inner_on levels bytes class at) (sym is ∙ same)
 
   -- those of a token
-  pub head-refused : (refusal : Refusal) → read-own ≡ Refused refusal → NoHead refusal ≡ head_at levels bytes class at
+  pub head_refused : (refusal : Refusal) → read-own ≡ Refused refusal → NoHead refusal ≡ head_at levels bytes class at
   unfolding head_at
-  head-refused refusal is = ap (head_on levels bytes class at) (sym is ∙ same)
+  head_refused refusal is = ap (head_on levels bytes class at) (sym is ∙ same)
 
   -- a record within a token that was read
-  pub inner-field : (own : Own) → read-own ≡ Record own → (number : ℕ) → number ≡ get_or bytes at 0 → (found : HeadRead)
+  pub inner_field : (own : Own) → read-own ≡ Record own → (number : ℕ) → number ≡ get_or bytes at 0 → (found : HeadRead)
       → found ≡ field_head levels bytes class number own → found ≡ inner_head levels bytes class at
   unfolding inner_head
-  inner-field own is number first found e = e ∙ rw first (ap (inner_on levels bytes class at) (sym is ∙ same))
+  inner_field own is number first found e = e ∙ rw first (ap (inner_on levels bytes class at) (sym is ∙ same))
 
   -- behind the own bytes of a token that were read stands its head
-  pub head-behind-read : (own : Own) → read-own ≡ Record own → head_behind levels bytes class at own ≡ head_at levels bytes class at
+  pub head_behind_read : (own : Own) → read-own ≡ Record own → head_behind levels bytes class at own ≡ head_at levels bytes class at
   unfolding head_behind head_at
-  head-behind-read own is =
+  head_behind_read own is =
       let held = own_fits bytes at class levels own (sym same ∙ is) in
-      let level = level-left levels bytes class at read-own same own is in
+      let level = level_left levels bytes class at read-own same own is in
       let here : head_behind levels bytes class at own ≡ head_on levels bytes class at (Record own) =
       simp (ne_eqb levels 0 (λ none. omega (arith, level, none)), lt-leb (length bytes) at (omega (arith, held.behind, held.part, held.inside))) in
       here ∙ ap (head_on levels bytes class at) (sym is ∙ same)
@@ -182,24 +182,24 @@ head_low levels bytes class at own none = sym (simp (eq-eqb _ _ none))
 
 module _ (levels : ℕ) (bytes : List ℕ) (class : Class) (at : ℕ) (own : Own) (some : levels ≡ 0 → ⊥) where
   -- or at the end
-  pub head-past : length bytes ≤ at → NoHead (layout at) ≡ head_behind levels bytes class at own
+  pub head_past : length bytes ≤ at → NoHead (layout at) ≡ head_behind levels bytes class at own
   unfolding head_behind
-  head-past past = sym (simp (ne_eqb _ _ some, le-leb _ _ past))
+  head_past past = sym (simp (ne_eqb _ _ some, le-leb _ _ past))
 
   module _ (inside : at < length bytes) (number : ℕ) (first : number ≡ get_or bytes at 0) (found : HeadRead) where
-    head-here : head_behind levels bytes class at own ≡ head_on levels bytes class at (Record own)
+    head_here : head_behind levels bytes class at own ≡ head_on levels bytes class at (Record own)
     unfolding head_behind
-    head-here = simp (ne_eqb _ _ some, lt-leb _ _ inside)
+    head_here = simp (ne_eqb _ _ some, lt-leb _ _ inside)
 
     -- of a block
-    pub head-block : (eqb number 2 || eqb number 3) ≡ true → found ≡ inner_head (levels - 1) bytes BlockRecord own.end → found ≡ head_behind levels bytes class at own
-    head-block block e = e ∙ sym (head-here ∙ simp (← first, block))
+    pub head_block : (eqb number 2 || eqb number 3) ≡ true → found ≡ inner_head (levels - 1) bytes BlockRecord own.end → found ≡ head_behind levels bytes class at own
+    head_block block e = e ∙ sym (head_here ∙ simp (← first, block))
 
     -- of an expression
-    pub head-expression : (eqb number 2 || eqb number 3) ≡ false → number ≡ 9 → found ≡ inner_head (levels - 1) bytes BareExpression own.end
+    pub head_expression : (eqb number 2 || eqb number 3) ≡ false → number ≡ 9 → found ≡ inner_head (levels - 1) bytes BareExpression own.end
         → found ≡ head_behind levels bytes class at own
-    head-expression block expression e = e ∙ sym (head-here ∙ simp (← first, block, eq-eqb _ _ expression))
+    head_expression block expression e = e ∙ sym (head_here ∙ simp (← first, block, eq-eqb _ _ expression))
 
     -- of any other
-    pub head-field : (eqb number 2 || eqb number 3) ≡ false → (number ≡ 9 → ⊥) → found ≡ field_head levels bytes class number own → found ≡ head_behind levels bytes class at own
-    head-field block expression e = e ∙ sym (head-here ∙ simp (← first, block, ne_eqb _ _ expression))
+    pub head_field : (eqb number 2 || eqb number 3) ≡ false → (number ≡ 9 → ⊥) → found ≡ field_head levels bytes class number own → found ≡ head_behind levels bytes class at own
+    head_field block expression e = e ∙ sym (head_here ∙ simp (← first, block, ne_eqb _ _ expression))

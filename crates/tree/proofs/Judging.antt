@@ -21,7 +21,7 @@ use Rattle.tree.specs.Walk.{fault_from, record_on, record_read}
 use Rattle.tree.specs.declared.grammar.Class.TheVariants.{Tokens}
 use Rattle.tree.specs.declared.check.RecordRead.{RecordRead}
 use Rattle.tree.specs.declared.check.RecordRead.TheVariants.{Whole, Refused}
-use Rattle.tree.proofs.Bounds.{Inside, texts-inside}
+use Rattle.tree.proofs.Bounds.{Inside, texts_inside}
 use Rattle.tree.proofs.Faults.{fault_stays}
 
 -- ---- the first byte found is that of refusal 7
@@ -59,26 +59,26 @@ judged_on_lem bytes end texts inside (Failed refusal) = refl
 module _ (limit levels : ℕ) (bytes : List ℕ) (sized : length_checked limit bytes ≡ Passed)
     (read-file : RecordRead) (same : read-file ≡ record_read bytes (length bytes) (read_file levels bytes)) where
   -- a file whose length is right is judged by its record
-  judged-file : (found : RecordRead) → read-file ≡ found → tree_checked limit levels bytes ≡ judged bytes found
+  judged_file : (found : RecordRead) → read-file ≡ found → tree_checked limit levels bytes ≡ judged bytes found
   unfolding tree_checked record_read
-  judged-file found is =
+  judged_file found is =
       let file = read_file levels bytes in
       rw sized
-      (judged_on_lem bytes file.end file.texts (texts-inside bytes levels Tokens 0) file.checked ∙ ap (judged bytes) (sym same ∙ is))
+      (judged_on_lem bytes file.end file.texts (texts_inside bytes levels Tokens 0) file.checked ∙ ap (judged bytes) (sym same ∙ is))
 
   -- a record is refused
-  pub check-refused : (refusal : Refusal) → read-file ≡ Refused refusal → Failed refusal ≡ tree_checked limit levels bytes
-  check-refused refusal is = sym (judged-file (Refused refusal) is)
+  pub check_refused : (refusal : Refusal) → read-file ≡ Refused refusal → Failed refusal ≡ tree_checked limit levels bytes
+  check_refused refusal is = sym (judged_file (Refused refusal) is)
 
   module _ (end fault : ℕ) (is : read-file ≡ Whole end fault) where
     -- bytes follow the list
-    pub check-behind : end < length bytes → Failed (record { reason = TreeLayout; place = end }) ≡ tree_checked limit levels bytes
-    check-behind h = sym (judged-file (Whole end fault) is ∙ simp (lt-ltb _ _ h))
+    pub check_behind : end < length bytes → Failed (record { reason = TreeLayout; place = end }) ≡ tree_checked limit levels bytes
+    check_behind h = sym (judged_file (Whole end fault) is ∙ simp (lt-ltb _ _ h))
 
     -- a byte of a text is not accepted
-    pub check-fault : length bytes ≤ end → fault < length bytes → not_ascii fault ≡ tree_checked limit levels bytes
-    check-fault h k = sym (judged-file (Whole end fault) is ∙ simp (le-ltb _ _ h, lt-ltb _ _ k))
+    pub check_fault : length bytes ≤ end → fault < length bytes → not_ascii fault ≡ tree_checked limit levels bytes
+    check_fault h k = sym (judged_file (Whole end fault) is ∙ simp (le-ltb _ _ h, lt-ltb _ _ k))
 
     -- all is well
-    pub check-passed : length bytes ≤ end → length bytes ≤ fault → Passed ≡ tree_checked limit levels bytes
-    check-passed h k = sym (judged-file (Whole end fault) is ∙ simp (le-ltb _ _ h, le-ltb _ _ k))
+    pub check_passed : length bytes ≤ end → length bytes ≤ fault → Passed ≡ tree_checked limit levels bytes
+    check_passed h k = sym (judged_file (Whole end fault) is ∙ simp (le-ltb _ _ h, le-ltb _ _ k))

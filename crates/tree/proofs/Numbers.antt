@@ -72,40 +72,40 @@ module _ (bytes : List ℕ) (at : ℕ) where
   abbrev Laid : OwnRead → Type 0
   Laid found = numbers_own found ≡ cond (was_read found) (0, own_end at found) (5, at)
 
-  list-laid : (kind : Kind) (map : ℕ) (trivia : TriviaSpan) (count : Number) → Laid (list_on at kind map trivia count)
-  list-laid kind map trivia (Read count) = refl
-  list-laid kind map trivia Missing = refl
+  list_laid : (kind : Kind) (map : ℕ) (trivia : TriviaSpan) (count : Number) → Laid (list_on at kind map trivia count)
+  list_laid kind map trivia (Read count) = refl
+  list_laid kind map trivia Missing = refl
 
-  leaf-laid : (kind : Kind) (map : ℕ) (trivia : TriviaSpan) (span : Span) → Laid (leaf_on at kind map trivia span)
-  leaf-laid kind map trivia (Behind end) = refl
-  leaf-laid kind map trivia Broken = refl
+  leaf_laid : (kind : Kind) (map : ℕ) (trivia : TriviaSpan) (span : Span) → Laid (leaf_on at kind map trivia span)
+  leaf_laid kind map trivia (Behind end) = refl
+  leaf_laid kind map trivia Broken = refl
 
-  choice-laid : (test : Bool) (taken left : OwnRead) → Laid taken → Laid left → Laid (cond test taken left)
-  choice-laid true taken left is other = is
-  choice-laid false taken left is other = other
+  choice_laid : (test : Bool) (taken left : OwnRead) → Laid taken → Laid left → Laid (cond test taken left)
+  choice_laid true taken left is other = is
+  choice_laid false taken left is other = other
 
-  rest-laid : (text : TextRule) (number : ℕ) (kind : Kind) (map : ℕ) (trivia : TriviaSpan) → Laid (rest_of bytes at text number kind map trivia)
+  rest_laid : (text : TextRule) (number : ℕ) (kind : Kind) (map : ℕ) (trivia : TriviaSpan) → Laid (rest_of bytes at text number kind map trivia)
   unfolding rest_of
-  rest-laid text number kind map trivia =
-      choice-laid (eqb number 24) _ _ (list-laid kind map trivia (read_number bytes trivia.end))
-      (choice-laid ((eqb number 25 || eqb number 26) && leb 2 map) _ _ (leaf-laid kind map trivia (text_end bytes trivia.end text)) refl)
+  rest_laid text number kind map trivia =
+      choice_laid (eqb number 24) _ _ (list_laid kind map trivia (read_number bytes trivia.end))
+      (choice_laid ((eqb number 25 || eqb number 26) && leb 2 map) _ _ (leaf_laid kind map trivia (text_end bytes trivia.end text)) refl)
 
-  trivia-laid : (ruled : Rule) (number : ℕ) (kind : Kind) (map : ℕ) (trivia : TriviaRead) → Laid (trivia_of_record bytes at ruled number kind map trivia)
-  trivia-laid ruled number kind map (Trivia trivia) = rest-laid ruled.text number kind map trivia
-  trivia-laid ruled number kind map BrokenTrivia = refl
+  trivia_laid : (ruled : Rule) (number : ℕ) (kind : Kind) (map : ℕ) (trivia : TriviaRead) → Laid (trivia_of_record bytes at ruled number kind map trivia)
+  trivia_laid ruled number kind map (Trivia trivia) = rest_laid ruled.text number kind map trivia
+  trivia_laid ruled number kind map BrokenTrivia = refl
 
-  map-laid : (ruled : Rule) (number : ℕ) (kind : KindRead) → Laid (map_of_record bytes at ruled number kind)
-  map-laid ruled number Unknown = refl
-  map-laid ruled number (Known kind) =
+  map_laid : (ruled : Rule) (number : ℕ) (kind : KindRead) → Laid (map_of_record bytes at ruled number kind)
+  map_laid ruled number Unknown = refl
+  map_laid ruled number (Known kind) =
       let map = get_or bytes (at + 1) 0 in
-      choice-laid (ltb (length bytes) (at + 2)) _ _ refl
-      (choice-laid (map_fits ruled number kind map) _ _ (trivia-laid ruled number kind map (trivia_read bytes (at + 2) (map % 2))) refl)
+      choice_laid (ltb (length bytes) (at + 2)) _ _ refl
+      (choice_laid (map_fits ruled number kind map) _ _ (trivia_laid ruled number kind map (trivia_read bytes (at + 2) (map % 2))) refl)
 
-  own-laid : (class : Class) → Laid (own_at bytes at class)
+  own_laid : (class : Class) → Laid (own_at bytes at class)
   unfolding own_at
-  own-laid class =
+  own_laid class =
       let number = get_or bytes at 0 in
-      choice-laid (may_stand (rule class) number) _ _ (map-laid (rule class) number (kind_of number)) refl
+      choice_laid (may_stand (rule class) number) _ _ (map_laid (rule class) number (kind_of number)) refl
 
 choice_own : (test : Bool) (taken left : OwnRead) → numbers_own (cond test taken left) ≡ cond test (numbers_own taken) (numbers_own left)
 choice_own true taken left = refl
@@ -114,7 +114,7 @@ choice_own false taken left = refl
 pub own_numbers_lem : (bytes : List ℕ) (at : ℕ) (class : Class) (levels : ℕ) → numbers_own (read_own bytes at class levels) ≡ own_numbers bytes at class levels
 unfolding read_own own_numbers
 own_numbers_lem bytes at class levels =
-    choice_own (leb (length bytes) at) _ _ ∙ rw (choice_own (eqb levels 0) _ (own_at bytes at class), own-laid bytes at class) refl
+    choice_own (leb (length bytes) at) _ _ ∙ rw (choice_own (eqb levels 0) _ (own_at bytes at class), own_laid bytes at class) refl
 
 -- ---- a record that is skipped
 
@@ -137,9 +137,9 @@ choice_head true taken left = refl
 choice_head false taken left = refl
 
 module _ (levels : ℕ) (bytes : List ℕ) where
-  field-numbers : (class : Class) (number : ℕ) (own : Own) → numbers_head (field_head levels bytes class number own) ≡ field_numbers levels bytes number own
+  field_numbers_lem : (class : Class) (number : ℕ) (own : Own) → numbers_head (field_head levels bytes class number own) ≡ field_numbers levels bytes number own
   unfolding field_head
-  field-numbers class number own =
+  field_numbers_lem class number own =
       let below = levels - 1 in
       choice_head (eqb number 5) _ _
       ∙ rw (
@@ -150,36 +150,36 @@ module _ (levels : ℕ) (bytes : List ℕ) where
         skip_numbers below bytes BinaryOp own.end,
       ) refl
 
-  inner-numbers : (class : Class) (at : ℕ) (found : OwnRead) → numbers_head (inner_on levels bytes class at found) ≡ inner_numbers levels bytes (get_or bytes at 0) found
-  inner-numbers class at (Record own) = field-numbers class (get_or bytes at 0) own
-  inner-numbers class at (Refused refusal) = refl
+  inner_numbers_lem : (class : Class) (at : ℕ) (found : OwnRead) → numbers_head (inner_on levels bytes class at found) ≡ inner_numbers levels bytes (get_or bytes at 0) found
+  inner_numbers_lem class at (Record own) = field_numbers_lem class (get_or bytes at 0) own
+  inner_numbers_lem class at (Refused refusal) = refl
 
 module _ (levels : ℕ) (bytes : List ℕ) (class : Class) (at : ℕ) where
-  token-numbers : (own : Own) → numbers_head (head_on levels bytes class at (Record own)) ≡ token_numbers levels bytes (get_or bytes at 0) own
+  token_numbers_lem : (own : Own) → numbers_head (head_on levels bytes class at (Record own)) ≡ token_numbers levels bytes (get_or bytes at 0) own
   unfolding inner_head
-  token-numbers own =
+  token_numbers_lem own =
       let below = levels - 1 in
       let number = get_or bytes at 0 in
       choice_head (eqb number 2 || eqb number 3) (inner_head below bytes BlockRecord own.end) _
       ∙ rw (
         choice_head (eqb number 9) (inner_head below bytes BareExpression own.end) (field_head levels bytes class number own),
-        inner-numbers below bytes BlockRecord own.end (read_own bytes own.end BlockRecord below),
-        inner-numbers below bytes BareExpression own.end (read_own bytes own.end BareExpression below),
-        field-numbers levels bytes class number own,
+        inner_numbers_lem below bytes BlockRecord own.end (read_own bytes own.end BlockRecord below),
+        inner_numbers_lem below bytes BareExpression own.end (read_own bytes own.end BareExpression below),
+        field_numbers_lem levels bytes class number own,
       ) refl
 
-  pub behind-numbers : (own : Own) → numbers_head (head_behind levels bytes class at own) ≡ behind_numbers levels bytes at own
+  pub behind_numbers_lem : (own : Own) → numbers_head (head_behind levels bytes class at own) ≡ behind_numbers levels bytes at own
   unfolding head_behind behind_numbers
-  behind-numbers own =
-      choice_head (eqb levels 0) _ _ ∙ rw (choice_head (leb (length bytes) at) _ (head_on levels bytes class at (Record own)), token-numbers own) refl
+  behind_numbers_lem own =
+      choice_head (eqb levels 0) _ _ ∙ rw (choice_head (leb (length bytes) at) _ (head_on levels bytes class at (Record own)), token_numbers_lem own) refl
 
-  found-numbers : (found : OwnRead) → numbers_head (head_on levels bytes class at found) ≡ head_numbers_on levels bytes (get_or bytes at 0) found
-  found-numbers (Record own) = token-numbers own
-  found-numbers (Refused refusal) = refl
+  found_numbers : (found : OwnRead) → numbers_head (head_on levels bytes class at found) ≡ head_numbers_on levels bytes (get_or bytes at 0) found
+  found_numbers (Record own) = token_numbers_lem own
+  found_numbers (Refused refusal) = refl
 
-  pub head-numbers : numbers_head (head_at levels bytes class at) ≡ head_numbers levels bytes class at
+  pub head_numbers_lem : numbers_head (head_at levels bytes class at) ≡ head_numbers levels bytes class at
   unfolding head_at head_numbers
-  head-numbers = found-numbers (read_own bytes at class levels)
+  head_numbers_lem = found_numbers (read_own bytes at class levels)
 
 -- ---- an answer that is known, with the numbers of its definition
 
@@ -193,8 +193,8 @@ skip_known levels bytes class at is = (is, ap numbers_skipped is ∙ skip_number
 
 pub behind_known : {found : HeadRead} (levels : ℕ) (bytes : List ℕ) (class : Class) (at : ℕ) (own : Own) → found ≡ head_behind levels bytes class at own
     → (found ≡ head_behind levels bytes class at own) × (numbers_head found ≡ behind_numbers levels bytes at own)
-behind_known levels bytes class at own is = (is, ap numbers_head is ∙ behind-numbers levels bytes class at own)
+behind_known levels bytes class at own is = (is, ap numbers_head is ∙ behind_numbers_lem levels bytes class at own)
 
 pub head_known : {found : HeadRead} (levels : ℕ) (bytes : List ℕ) (class : Class) (at : ℕ) → found ≡ head_at levels bytes class at
     → (found ≡ head_at levels bytes class at) × (numbers_head found ≡ head_numbers levels bytes class at)
-head_known levels bytes class at is = (is, ap numbers_head is ∙ head-numbers levels bytes class at)
+head_known levels bytes class at is = (is, ap numbers_head is ∙ head_numbers_lem levels bytes class at)

@@ -129,25 +129,25 @@ module _ (bytes : List ℕ) (at bit : ℕ) (P : TriviaSpan → Type 0)
     → P (record { first = at + 2; count = number_at bytes at; end = end }))
   where
     -- the same trivia
-    span-is : (span span' : TriviaSpan) → P span → Trivia span ≡ Trivia span' → P span'
-    span-is span span' p e = let same : span ≡ span' = cc in rw (← same) p
+    span_is : (span span' : TriviaSpan) → P span → Trivia span ≡ Trivia span' → P span'
+    span_is span span' p e = let same : span ≡ span' = cc in rw (← same) p
 
     -- where the items end
-    span-cases : (trivia : TriviaSpan) → (bit ≡ 0 → ⊥) → at + 2 ≤ length bytes → (number_at bytes at ≡ 0 → ⊥)
+    span_cases : (trivia : TriviaSpan) → (bit ≡ 0 → ⊥) → at + 2 ≤ length bytes → (number_at bytes at ≡ 0 → ⊥)
         → (span : Span) → trivia_end bytes (at + 2) (number_at bytes at) ≡ span → trivia_span (at + 2) (number_at bytes at) span ≡ Trivia trivia → P trivia
-    span-cases trivia stands room count (Behind end) is e = span-is _ trivia (some end stands room count is) e
-    span-cases trivia stands room count Broken is e = broken_trivia e
+    span_cases trivia stands room count (Behind end) is e = span_is _ trivia (some end stands room count is) e
+    span_cases trivia stands room count Broken is e = broken_trivia e
 
     -- whether the bit stands
-    pub trivia-cases : (trivia : TriviaSpan) → trivia_read bytes at bit ≡ Trivia trivia → P trivia
+    pub trivia_cases : (trivia : TriviaSpan) → trivia_read bytes at bit ≡ Trivia trivia → P trivia
     unfolding trivia_read
-    trivia-cases trivia e =
+    trivia_cases trivia e =
         by_choice (eqb bit 0) _ _ (Trivia trivia) e
-        (λ q f. span-is _ trivia (without (eqb-true _ _ q)) f)
+        (λ q f. span_is _ trivia (without (eqb-true _ _ q)) f)
         (λ q f. by_test (leb (at + 2) (length bytes))
         (λ room. by_choice (eqb (number_at bytes at) 0) _ _ (Trivia trivia) (rw room at f)
         (λ count g. broken_trivia g)
-        (λ count g. span-cases trivia (eqb-false _ _ q) (leb-true _ _ room) (eqb-false _ _ count) _ refl g))
+        (λ count g. span_cases trivia (eqb-false _ _ q) (leb-true _ _ room) (eqb-false _ _ count) _ refl g))
         (λ room. broken_trivia (rw room at f)))
 
 -- trivia that were read are items that were, and lie within the bytes
@@ -161,7 +161,7 @@ pub record TriviaHeld (bytes : List ℕ) (at : ℕ) (trivia : TriviaSpan) : Type
 pub trivia_held : (bytes : List ℕ) (at bit : ℕ) → at ≤ length bytes → (trivia : TriviaSpan) → trivia_read bytes at bit ≡ Trivia trivia → TriviaHeld bytes at trivia
 unfolding trivia_end
 trivia_held bytes at bit here =
-    trivia-cases bytes at bit (TriviaHeld bytes at)
+    trivia_cases bytes at bit (TriviaHeld bytes at)
     (λ without. record { first = omega arith; items = refl; onward = omega arith; inside = here })
     (λ end some room count is.
     let inside = items_inside bytes (at + 2) (number_at bytes at) end room is in
@@ -208,18 +208,18 @@ module _ (bytes : List ℕ) (at : ℕ) (class : Class) (P : Own → Type 0)
     record_is own own' p e = let same : own ≡ own' = cc in rw (← same) p
 
     -- where the text ends
-    text-cases : (kind : Kind) (trivia : TriviaSpan) → Headed bytes at class kind trivia → leaf_number (get_or bytes at 0) ≡ true → 2 ≤ get_or bytes (at + 1) 0
+    text_cases : (kind : Kind) (trivia : TriviaSpan) → Headed bytes at class kind trivia → leaf_number (get_or bytes at 0) ≡ true → 2 ≤ get_or bytes (at + 1) 0
         → (own : Own) (span : Span) → text_end bytes trivia.end (rule class).text ≡ span
         → leaf_on at kind (get_or bytes (at + 1) 0) trivia span ≡ Record own → P own
-    text-cases kind trivia headed leaf stands own (Behind end) is e =
+    text_cases kind trivia headed leaf stands own (Behind end) is e =
         record_is _ own (text kind trivia end headed leaf stands (text_held bytes trivia.end end (rule class).text is)) e
-    text-cases kind trivia headed leaf stands own Broken is e = refused_record_lem e
+    text_cases kind trivia headed leaf stands own Broken is e = refused_record_lem e
 
     -- what stands behind the trivia
-    rest-cases : (kind : Kind) (trivia : TriviaSpan) → Headed bytes at class kind trivia → (own : Own)
+    rest_cases : (kind : Kind) (trivia : TriviaSpan) → Headed bytes at class kind trivia → (own : Own)
         → rest_of bytes at (rule class).text (get_or bytes at 0) kind (get_or bytes (at + 1) 0) trivia ≡ Record own → P own
     unfolding rest_of
-    rest-cases kind trivia headed own e =
+    rest_cases kind trivia headed own e =
         let number : ℕ = get_or bytes at 0 in
         let map : ℕ = get_or bytes (at + 1) 0 in
         by_choice (eqb number 24) _ _ (Record own) e
@@ -227,45 +227,45 @@ module _ (bytes : List ℕ) (at : ℕ) (class : Class) (P : Own → Type 0)
         (λ room. record_is _ own (list kind trivia headed (eqb-true _ _ q) (leb-true _ _ room)) (rw room at f))
         (λ room. refused_record_lem (rw room at f)))
         (λ q f. by_choice (leaf_number number && leb 2 map) _ _ (Record own) f
-        (λ leaf g. text-cases kind trivia headed (and_true_left (leaf_number number) (leb 2 map) leaf)
+        (λ leaf g. text_cases kind trivia headed (and_true_left (leaf_number number) (leb 2 map) leaf)
         (leb-true _ _ (and_true_right (leaf_number number) (leb 2 map) leaf)) own _ refl g)
         (λ leaf g. record_is _ own (other kind trivia headed q leaf) g))
 
     -- the trivia
-    trivia-of-record : (kind : Kind) → ((trivia : TriviaSpan) → trivia_read bytes (at + 2) (get_or bytes (at + 1) 0 % 2) ≡ Trivia trivia → Headed bytes at class kind trivia)
+    trivia_of_record_lem : (kind : Kind) → ((trivia : TriviaSpan) → trivia_read bytes (at + 2) (get_or bytes (at + 1) 0 % 2) ≡ Trivia trivia → Headed bytes at class kind trivia)
         → (own : Own) (trivia : TriviaRead) → trivia_read bytes (at + 2) (get_or bytes (at + 1) 0 % 2) ≡ trivia
         → trivia_of_record bytes at (rule class) (get_or bytes at 0) kind (get_or bytes (at + 1) 0) trivia ≡ Record own → P own
-    trivia-of-record kind headed own (Trivia trivia) is e = rest-cases kind trivia (headed trivia is) own e
-    trivia-of-record kind headed own BrokenTrivia is e = refused_record_lem e
+    trivia_of_record_lem kind headed own (Trivia trivia) is e = rest_cases kind trivia (headed trivia is) own e
+    trivia_of_record_lem kind headed own BrokenTrivia is e = refused_record_lem e
 
     -- the kind and the map
-    kind-cases : may_stand (rule class) (get_or bytes at 0) ≡ true → (own : Own) (kind : KindRead) → kind_of (get_or bytes at 0) ≡ kind
+    kind_cases : may_stand (rule class) (get_or bytes at 0) ≡ true → (own : Own) (kind : KindRead) → kind_of (get_or bytes at 0) ≡ kind
         → map_of_record bytes at (rule class) (get_or bytes at 0) kind ≡ Record own → P own
-    kind-cases standing own Unknown is e = refused_record_lem e
-    kind-cases standing own (Known kind) is e =
+    kind_cases standing own Unknown is e = refused_record_lem e
+    kind_cases standing own (Known kind) is e =
         by_choice (ltb (length bytes) (at + 2)) _ _ (Record own) e
         (λ q f. refused_record_lem f)
         (λ q f. by_choice (map_fits (rule class) (get_or bytes at 0) kind (get_or bytes (at + 1) 0)) _ _ (Record own) f
-        (λ fits g. trivia-of-record kind
+        (λ fits g. trivia_of_record_lem kind
         (λ trivia read. record { room = ltb-false _ _ q; kind_is = is; standing = standing; fits = fits; trivia_is = read }) own _ refl g)
         (λ fits g. refused_record_lem g))
 
     -- the record
-    pub own-cases : (levels : ℕ) (own : Own) → read_own bytes at class levels ≡ Record own → P own
+    pub own_cases : (levels : ℕ) (own : Own) → read_own bytes at class levels ≡ Record own → P own
     unfolding read_own own_at
-    own-cases levels own e =
+    own_cases levels own e =
         by_choice (leb (length bytes) at) _ _ (Record own) e
         (λ q f. refused_record_lem f)
         (λ q f. by_choice (eqb levels 0) _ _ (Record own) f
         (λ deep g. refused_record_lem g)
         (λ deep g. by_choice (may_stand (rule class) (get_or bytes at 0)) _ _ (Record own) g
-        (λ standing h. kind-cases standing own _ refl h)
+        (λ standing h. kind_cases standing own _ refl h)
         (λ standing h. refused_record_lem h)))
 
 -- own bytes that were read stand behind the record's place and within the bytes
 pub own_fits : (bytes : List ℕ) (at : ℕ) (class : Class) (levels : ℕ) (own : Own) → read_own bytes at class levels ≡ Record own → OwnFits bytes at own
 own_fits bytes at class =
-    own-cases bytes at class (OwnFits bytes at)
+    own_cases bytes at class (OwnFits bytes at)
     (λ kind trivia headed number room.
     let held = trivia_of_lem headed in
     record { behind = omega arith; part = omega arith; inside = room; trivia = held.first; items = (trivia.end, held.items, omega arith) })

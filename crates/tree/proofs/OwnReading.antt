@@ -41,17 +41,17 @@ use Rattle.tree.proofs.OwnBytes.{own_fits}
 
 module _ (bytes : List ℕ) (at : ℕ) (text : TextRule) (number : ℕ) (kind : Kind) (map : ℕ) (trivia : TriviaSpan) where
   -- a list, by what its count reads as
-  pub rest-list : number ≡ 24 → {result : Number} → result ≡ read_number bytes trivia.end → (read : Number) → result ≡ read
+  pub rest_list : number ≡ 24 → {result : Number} → result ≡ read_number bytes trivia.end → (read : Number) → result ≡ read
       → list_on at kind map trivia read ≡ rest_of bytes at text number kind map trivia
   unfolding rest_of
-  rest-list h e read told = sym (rw (eq-eqb _ _ h) (ap (list_on at kind map trivia) (sym e ∙ told)))
+  rest_list h e read told = sym (rw (eq-eqb _ _ h) (ap (list_on at kind map trivia) (sym e ∙ told)))
 
   module _ (h : number ≡ 24 → ⊥) {texted : Bool} (e : texted ≡ ((eqb number 25 || eqb number 26) && leb 2 map)) where
     -- a leaf with a text
-    pub rest-leaf : texted ≡ true → {result : Span} → result ≡ text_end bytes trivia.end text → (span : Span) → result ≡ span
+    pub rest_leaf : texted ≡ true → {result : Span} → result ≡ text_end bytes trivia.end text → (span : Span) → result ≡ span
         → leaf_on at kind map trivia span ≡ rest_of bytes at text number kind map trivia
     unfolding rest_of
-    rest-leaf t d span told = sym (rw (ne_eqb _ _ h, sym e ∙ t) (ap (leaf_on at kind map trivia) (sym d ∙ told)))
+    rest_leaf t d span told = sym (rw (ne_eqb _ _ h, sym e ∙ t) (ap (leaf_on at kind map trivia) (sym d ∙ told)))
 
     -- nothing more
     pub rest_none : texted ≡ false → Record (own_of kind map trivia trivia.end trivia.end 0) ≡ rest_of bytes at text number kind map trivia
@@ -67,28 +67,28 @@ module _ (bytes : List ℕ) (at : ℕ) (ruled : Rule) (number : ℕ) {stands : B
   first_of_lem = sym (rw may)
 
   -- it may not
-  pub first-alien : not stands ≡ true → Refused (layout at) ≡ first_bytes bytes at ruled number
-  first-alien t = sym (first_of_lem ∙ rw (not-true stands t))
+  pub first_alien : not stands ≡ true → Refused (layout at) ≡ first_bytes bytes at ruled number
+  first_alien t = sym (first_of_lem ∙ rw (not-true stands t))
 
   module _ (t : not stands ≡ false) {result : KindRead} (kinds : result ≡ kind_of number) where
     -- by the kind
-    first-map : (read : KindRead) → result ≡ read → first_bytes bytes at ruled number ≡ map_of_record bytes at ruled number read
-    first-map read told = first_of_lem ∙ rw (not-false stands t) (ap (map_of_record bytes at ruled number) (sym kinds ∙ told))
+    first_map : (read : KindRead) → result ≡ read → first_bytes bytes at ruled number ≡ map_of_record bytes at ruled number read
+    first_map read told = first_of_lem ∙ rw (not-false stands t) (ap (map_of_record bytes at ruled number) (sym kinds ∙ told))
 
     -- it is no kind
-    pub first-unknown : result ≡ Unknown → Refused (layout at) ≡ first_bytes bytes at ruled number
-    first-unknown told = sym (first-map Unknown told)
+    pub first_unknown : result ≡ Unknown → Refused (layout at) ≡ first_bytes bytes at ruled number
+    first_unknown told = sym (first_map Unknown told)
 
     module _ (kind : Kind) (told : result ≡ Known kind) where
       -- the map is missing
       pub first_short : length bytes < at + 2 → Refused (layout at) ≡ first_bytes bytes at ruled number
-      first_short h = sym (first-map (Known kind) told ∙ rw (lt-ltb (length bytes) (at + 2) h))
+      first_short h = sym (first_map (Known kind) told ∙ rw (lt-ltb (length bytes) (at + 2) h))
 
       module _ (h : at + 2 ≤ length bytes) {map : ℕ} (mapped : map ≡ get_or bytes (at + 1) 0) {fits : Bool} (fit : fits ≡ map_fits ruled number kind map) where
         -- by whether the map fits
         first-fit : first_bytes bytes at ruled number
             ≡ cond fits (trivia_of_record bytes at ruled number kind map (trivia_read bytes (at + 2) (map % 2))) (Refused (layout at))
-        first-fit = first-map (Known kind) told ∙ rw (le-ltb (length bytes) (at + 2) h) (sym (rw (fit, mapped)))
+        first-fit = first_map (Known kind) told ∙ rw (le-ltb (length bytes) (at + 2) h) (sym (rw (fit, mapped)))
 
         -- it does not
         pub first-unfit : not fits ≡ true → Refused (layout at) ≡ first_bytes bytes at ruled number
@@ -103,20 +103,20 @@ module _ (bytes : List ℕ) (at : ℕ) (ruled : Rule) (number : ℕ) {stands : B
 module _ (bytes : List ℕ) (at : ℕ) (class : Class) {number : ℕ} (byte : number ≡ get_or bytes at 0) {ruled : Rule} (rules : ruled ≡ rule class)
     {result : Judged} (judged : judged_on bytes at ruled number result ≡ first_bytes bytes at ruled number) where
   -- by what its first two bytes say
-  pub own-judged : (told : Judged) → result ≡ told → judged_on bytes at ruled number told ≡ own_at bytes at class
+  pub own_judged : (told : Judged) → result ≡ told → judged_on bytes at ruled number told ≡ own_at bytes at class
   unfolding own_at first_bytes
-  own-judged told e = ap (judged_on bytes at ruled number) (sym e) ∙ judged ∙ rw (rules, byte)
+  own_judged told e = ap (judged_on bytes at ruled number) (sym e) ∙ judged ∙ rw (rules, byte)
 
   module _ (kind : Kind) (map : ℕ) (told : result ≡ Fit kind map) {found : TriviaRead} (e : found ≡ trivia_read bytes (at + 2) (map % 2)) where
     -- by its trivia
-    pub own-trivia : (trivia : TriviaRead) → found ≡ trivia → trivia_of_record bytes at ruled number kind map trivia ≡ own_at bytes at class
-    own-trivia trivia read = ap (trivia_of_record bytes at ruled number kind map) (sym read ∙ e) ∙ own-judged (Fit kind map) told
+    pub own_trivia_lem : (trivia : TriviaRead) → found ≡ trivia → trivia_of_record bytes at ruled number kind map trivia ≡ own_at bytes at class
+    own_trivia_lem trivia read = ap (trivia_of_record bytes at ruled number kind map) (sym read ∙ e) ∙ own_judged (Fit kind map) told
 
     -- by what stands behind them
-    pub own-rest : (trivia : TriviaSpan) → found ≡ Trivia trivia → {rest : RestRead}
+    pub own_rest : (trivia : TriviaSpan) → found ≡ Trivia trivia → {rest : RestRead}
         → ((at : ℕ) (kind : Kind) → rest_on at kind map trivia rest ≡ rest_of bytes at ruled.text number kind map trivia)
         → (is : RestRead) → rest ≡ is → rest_on at kind map trivia is ≡ own_at bytes at class
-    own-rest trivia read same is behind = ap (rest_on at kind map trivia) (sym behind) ∙ same at kind ∙ own-trivia (Trivia trivia) read
+    own_rest trivia read same is behind = ap (rest_on at kind map trivia) (sym behind) ∙ same at kind ∙ own_trivia_lem (Trivia trivia) read
 
 -- ---- a leaf with a text and no trivia
 
@@ -142,21 +142,21 @@ own_bare bytes at class {ruled} rules may t room kind map text end is =
     let first = first_fits bytes at ruled 25 may t refl Leaf refl room (sym map) (bare_fits bytes at end ruled ends) refl in
     let start : at + 4 ≡ at + 2 + 2 = omega arith in
     rw start
-    (sym (own-judged bytes at class (sym kind) rules first (Fit Leaf 2) refl)
+    (sym (own_judged bytes at class (sym kind) rules first (Fit Leaf 2) refl)
     ∙ ap (leaf_on at Leaf 2 (record { first = at + 2; count = 0; end = at + 2 })) ends)
 
 -- ---- a record
 
 module _ (bytes : List ℕ) (at : ℕ) (class : Class) (levels : ℕ) where
   -- it is due at the end
-  pub read-end : length bytes ≤ at → Refused (layout (length bytes)) ≡ read_own bytes at class levels
+  pub read_end : length bytes ≤ at → Refused (layout (length bytes)) ≡ read_own bytes at class levels
   unfolding read_own
-  read-end h = sym (rw (le-leb _ _ h))
+  read_end h = sym (rw (le-leb _ _ h))
 
   -- it stands too deep
-  pub read-deep : at < length bytes → levels ≡ 0 → Refused (record { reason = TreeDepth; place = at }) ≡ read_own bytes at class levels
+  pub read_deep : at < length bytes → levels ≡ 0 → Refused (record { reason = TreeDepth; place = at }) ≡ read_own bytes at class levels
   unfolding read_own
-  read-deep h e = sym (rw (lt-leb _ _ h, eq-eqb _ _ e))
+  read_deep h e = sym (rw (lt-leb _ _ h, eq-eqb _ _ e))
 
   -- it has a first byte
   read_first : at < length bytes → (levels ≡ 0 → ⊥) → own_at bytes at class ≡ read_own bytes at class levels

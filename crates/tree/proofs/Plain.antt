@@ -17,7 +17,7 @@ use Rattle.tree.specs.Walk.{fault_from, record_on, record_read}
 use Rattle.tree.specs.declared.grammar.Class.TheVariants.{Tokens}
 use Rattle.tree.specs.declared.check.RecordRead.{RecordRead}
 use Rattle.tree.specs.declared.check.RecordRead.TheVariants.{Whole, Refused}
-use Rattle.tree.proofs.Bounds.{Stands, texts-stand}
+use Rattle.tree.proofs.Bounds.{Stands, texts_stand}
 use Rattle.tree.proofs.Faults.{faults_accepted}
 
 -- what stands behind some bytes is accepted where all bytes behind them are
@@ -56,12 +56,12 @@ module _ (bytes : List ℕ) (plain : plain_tree bytes ≡ true) where
       ap accepted_text part.2.1 ∙ behind_accepted 4 text.place part.2.0 bytes plain part.0)
 
   -- every text that is read is
-  file-texts : (levels : ℕ) (text : Placed) → Memᴰ text (read_file levels bytes).texts → accepted_text text.bytes ≡ true
-  file-texts levels text member = text_plain text (texts-stand bytes levels Tokens 0 text member)
+  file_texts : (levels : ℕ) (text : Placed) → Memᴰ text (read_file levels bytes).texts → accepted_text text.bytes ≡ true
+  file_texts levels text member = text_plain text (texts_stand bytes levels Tokens 0 text member)
 
   -- so there is no refusal 7
-  pub plain-passed : (levels : ℕ) → texts_checked (read_file levels bytes).texts ≡ Passed
-  plain-passed levels = texts_accepted (read_file levels bytes).texts (file-texts levels)
+  pub plain_passed : (levels : ℕ) → texts_checked (read_file levels bytes).texts ≡ Passed
+  plain_passed levels = texts_accepted (read_file levels bytes).texts (file_texts levels)
 
   -- a record, with no byte found
   abbrev pub unfound : RecordRead → RecordRead
@@ -69,16 +69,16 @@ module _ (bytes : List ℕ) (plain : plain_tree bytes ≡ true) where
   unfound (Refused refusal) = Refused refusal
 
   -- so is a record that was read with one found, where texts change nothing
-  on-plain : (fault end : ℕ) (texts : List Placed) → fault_from bytes (length bytes) texts ≡ length bytes → (checked : Checked)
+  on_plain : (fault end : ℕ) (texts : List Placed) → fault_from bytes (length bytes) texts ≡ length bytes → (checked : Checked)
       → unfound (record_on bytes fault end texts checked) ≡ record_on bytes (length bytes) end texts checked
-  on-plain fault end texts same Passed = ap (Whole end) (sym same)
-  on-plain fault end texts same (Failed refusal) = refl
+  on_plain fault end texts same Passed = ap (Whole end) (sym same)
+  on_plain fault end texts same (Failed refusal) = refl
 
   -- the file's record
-  pub file-plain : (levels fault : ℕ) (read : RecordRead) → read ≡ record_read bytes fault (read_file levels bytes) → (told : RecordRead) → read ≡ told
+  pub file_plain : (levels fault : ℕ) (read : RecordRead) → read ≡ record_read bytes fault (read_file levels bytes) → (told : RecordRead) → read ≡ told
       → unfound told ≡ record_read bytes (length bytes) (read_file levels bytes)
   unfolding record_read
-  file-plain levels fault read same told is =
+  file_plain levels fault read same told is =
       let file = read_file levels bytes in
-      let accepted = faults_accepted bytes (length bytes) file.texts (file-texts levels) in
-      ap unfound (sym is ∙ same) ∙ on-plain fault file.end file.texts accepted file.checked
+      let accepted = faults_accepted bytes (length bytes) file.texts (file_texts levels) in
+      ap unfound (sym is ∙ same) ∙ on_plain fault file.end file.texts accepted file.checked

@@ -56,10 +56,10 @@ field_first plan parts plans h =
 
 module _ (plan : Plan) where
   -- where no field is left it is an item
-  in-items : (fields : ℕ) → plan.row ≤ 0 → next_in fields plan ≡ next_item plan
+  in_items : (fields : ℕ) → plan.row ≤ 0 → next_in fields plan ≡ next_item plan
   unfolding next_in
-  in-items zero none = refl
-  in-items (suc fields) none = simp (le-ltb 0 plan.row none)
+  in_items zero none = refl
+  in_items (suc fields) none = simp (le-ltb 0 plan.row none)
 
   -- else the first field stands, or is passed over
   in_field : (fields : ℕ) → 0 < plan.row
@@ -69,8 +69,8 @@ module _ (plan : Plan) where
 
 -- a row's number is as good as any above it
 in_same : (some others : ℕ) (plan : Plan) → plan.row ≤ some → plan.row ≤ others → next_in some plan ≡ next_in others plan
-in_same zero others plan h g = in-items plan zero h ∙ sym (in-items plan others h)
-in_same (suc some) zero plan h g = in-items plan (suc some) g ∙ sym (in-items plan zero g)
+in_same zero others plan h g = in_items plan zero h ∙ sym (in_items plan others h)
+in_same (suc some) zero plan h g = in_items plan (suc some) g ∙ sym (in_items plan zero g)
 in_same (suc some) (suc others) plan h g =
     by_test (ltb 0 plan.row)
     (λ t.
@@ -78,33 +78,33 @@ in_same (suc some) (suc others) plan h g =
     in_field plan some left
     ∙ ap (cond (eqb (plan.bits % 2) 1) (Next (class_of (plan.row % 128 % 64)) (behind_field plan))) (in_same some others (behind_field plan) (omega arith) (omega arith))
     ∙ sym (in_field plan others left))
-    (λ t. let none = ltb-false 0 plan.row t in in-items plan (suc some) none ∙ sym (in-items plan (suc others) none))
+    (λ t. let none = ltb-false 0 plan.row t in in_items plan (suc some) none ∙ sym (in_items plan (suc others) none))
 
 module _ (plan : Plan) where
   -- the first field of a row
-  next-first : 0 < plan.row
+  next_first : 0 < plan.row
       → next_part plan ≡ cond (eqb (plan.bits % 2) 1) (Next (class_of (plan.row % 128 % 64)) (behind_field plan)) (next_part (behind_field plan))
-  next-first left =
+  next_first left =
       in_same plan.row (suc plan.row) plan (omega arith) (omega arith) ∙ in_field plan plan.row left
       ∙ ap (cond (eqb (plan.bits % 2) 1) (Next (class_of (plan.row % 128 % 64)) (behind_field plan)))
       (in_same plan.row (plan.row / 128) (behind_field plan) (omega arith) (omega arith))
 
   -- one whose bit does not stand is passed over
-  pub next-absent : 0 < plan.row → (plan.bits % 2 ≡ 1 → ⊥) → next_part plan ≡ next_part (behind_field plan)
-  next-absent left bit = next-first left ∙ simp (ne_eqb _ _ bit)
+  pub next_absent : 0 < plan.row → (plan.bits % 2 ≡ 1 → ⊥) → next_part plan ≡ next_part (behind_field plan)
+  next_absent left bit = next_first left ∙ simp (ne_eqb _ _ bit)
 
   -- one whose bit stands is the next part
   pub next_field : 0 < plan.row → plan.bits % 2 ≡ 1 → next_part plan ≡ Next (class_of (plan.row % 128 % 64)) (behind_field plan)
-  next_field left bit = next-first left ∙ simp (eq-eqb _ _ bit)
+  next_field left bit = next_first left ∙ simp (eq-eqb _ _ bit)
 
   -- no field is left, and no item
-  pub next-none : plan.row ≤ 0 → plan.count ≡ 0 → next_part plan ≡ NoPart
-  next-none none e = in-items plan plan.row none ∙ simp (eq-eqb _ _ e)
+  pub next_none : plan.row ≤ 0 → plan.count ≡ 0 → next_part plan ≡ NoPart
+  next_none none e = in_items plan plan.row none ∙ simp (eq-eqb _ _ e)
 
   -- no field is left, but an item
-  pub next-item : plan.row ≤ 0 → (plan.count ≡ 0 → ⊥)
+  pub next_item_lem : plan.row ≤ 0 → (plan.count ≡ 0 → ⊥)
       → next_part plan ≡ Next plan.item (record { row = 0; bits = 0; item = plan.item; count = plan.count - 1 })
-  next-item none e = in-items plan plan.row none ∙ simp (ne_eqb _ _ e)
+  next_item_lem none e = in_items plan plan.row none ∙ simp (ne_eqb _ _ e)
 
 -- the plan of what stands behind a part is less
 items_less : (plan : Plan) → size_with (next_item plan) ≤ plan_size plan

@@ -29,22 +29,22 @@ module _ (bytes : List ℕ) (P : ℕ → Class → ℕ → Reading → Type 0)
     → P (suc levels) class at (record_of bytes at own (read_parts (read levels bytes) (parts_due class own) own.end)))
   where
     -- where no level is left
-    without-levels : (class : Class) (at : ℕ) (own : OwnRead) → read_own bytes at class zero ≡ own → P zero class at (read_on unread bytes class at own)
-    without-levels class at (Record own) is = no_record bytes at class own is
-    without-levels class at (Refused why) is = refusal zero class at unread why
+    without_levels : (class : Class) (at : ℕ) (own : OwnRead) → read_own bytes at class zero ≡ own → P zero class at (read_on unread bytes class at own)
+    without_levels class at (Record own) is = no_record bytes at class own is
+    without_levels class at (Refused why) is = refusal zero class at unread why
 
     -- where one is
-    with-levels : (levels : ℕ) → ((field : Class) (place : ℕ) → P levels field place (read levels bytes field place))
+    with_levels : (levels : ℕ) → ((field : Class) (place : ℕ) → P levels field place (read levels bytes field place))
         → (class : Class) (at : ℕ) (own : OwnRead) → read_own bytes at class (suc levels) ≡ own
         → P (suc levels) class at (read_on (read levels bytes) bytes class at own)
-    with-levels levels below class at (Record own) is = step levels class at own is below
-    with-levels levels below class at (Refused why) is = refusal (suc levels) class at (read levels bytes) why
+    with_levels levels below class at (Record own) is = step levels class at own is below
+    with_levels levels below class at (Refused why) is = refusal (suc levels) class at (read levels bytes) why
 
     -- at all levels
-    pub every-reading : (levels : ℕ) (class : Class) (at : ℕ) → P levels class at (read levels bytes class at)
+    pub every_reading : (levels : ℕ) (class : Class) (at : ℕ) → P levels class at (read levels bytes class at)
     unfolding read
-    every-reading zero class at = without-levels class at _ refl
-    every-reading (suc levels) class at = with-levels levels (every-reading levels) class at _ refl
+    every_reading zero class at = without_levels class at _ refl
+    every_reading (suc levels) class at = with_levels levels (every_reading levels) class at _ refl
 
 -- of a tree that passed every check did
 pub record FilePassed (limit levels : ℕ) (bytes : List ℕ) : Type 0 where

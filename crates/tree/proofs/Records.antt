@@ -82,17 +82,17 @@ walked_on (suc levels) bytes class at fault own seen e f =
 
 module _ (levels : ℕ) (bytes : List ℕ) (class : Class) (at : ℕ) (read-own : OwnRead) (same : read-own ≡ read_own bytes at class levels) where
   -- where its own bytes are refused
-  pub read-refused : (fault : ℕ) (refusal : Refusal) → read-own ≡ own_read.Refused refusal → Refused refusal ≡ record_read bytes fault (read levels bytes class at)
-  read-refused fault refusal is = refused_on levels bytes class at fault refusal (sym same ∙ is)
+  pub read_refused : (fault : ℕ) (refusal : Refusal) → read-own ≡ own_read.Refused refusal → Refused refusal ≡ record_read bytes fault (read levels bytes class at)
+  read_refused fault refusal is = refused_on levels bytes class at fault refusal (sym same ∙ is)
 
   -- where they are read there is a level left
-  pub level-left : (own : Own) → read-own ≡ own_read.Record own → 0 < levels
-  level-left own is = some_level levels bytes class at own (sym same ∙ is)
+  pub level_left : (own : Own) → read-own ≡ own_read.Record own → 0 < levels
+  level_left own is = some_level levels bytes class at own (sym same ∙ is)
 
   -- and the record is a walk over its parts that stand
-  pub read-walked : (fault : ℕ) (own : Own) (seen : ℕ) → read-own ≡ own_read.Record own → seen ≡ fault_from bytes fault (texts_of bytes own)
+  pub read_walked : (fault : ℕ) (own : Own) (seen : ℕ) → read-own ≡ own_read.Record own → seen ≡ fault_from bytes fault (texts_of bytes own)
       → record_read bytes fault (read levels bytes class at) ≡ walked (walker_of (read (levels - 1) bytes) bytes) (standing (parts_due class own)) own.end seen
-  read-walked fault own seen is found = walked_on levels bytes class at fault own seen (sym same ∙ is) found
+  read_walked fault own seen is found = walked_on levels bytes class at fault own seen (sym same ∙ is) found
 
 -- a record of which no part stands is read
 pub walk_none : (walker : Walker) (class : Class) (own : Own) (place fault : ℕ) {has : Bool} → (has ≡ false → ((class : Class) → standing (parts_due class own) ≡ []))
@@ -115,9 +115,9 @@ module _ (walker : Walker) (plan : Plan) (place fault : ℕ) (later : Plan) (beh
     (left : PartsLeft walker plan place fault later behind found)
     (part : Part) (next : (parts : List Due) → Plans later parts → NextOf part parts) where
   -- no part is left
-  pub walk-done : part ≡ NoPart → (parts : List Due) → Plans plan parts → Whole behind found ≡ walked walker (standing parts) place fault
+  pub walk_done : part ≡ NoPart → (parts : List Due) → Plans plan parts → Whole behind found ≡ walked walker (standing parts) place fault
   unfolding walked
-  walk-done e parts plans =
+  walk_done e parts plans =
       let rest = left.walk parts plans in
       let none : standing rest.0 ≡ [] = rw e at (next rest.0 rest.1) in
       sym (rest.2 ∙ ap (λ (classes : List Class). walked walker classes behind found) none)
@@ -129,10 +129,10 @@ module _ (walker : Walker) (plan : Plan) (place fault : ℕ) (later : Plan) (beh
     others parts plans = rw e at (next parts plans)
 
     -- the walk goes on with it
-    walk-next : (parts : List Due) → Plans plan parts
+    walk_next : (parts : List Due) → Plans plan parts
         → (others : List Due) × Plans rest others × (walked walker (standing parts) place fault ≡ onward (walker class behind found) (walked walker (standing others)))
     unfolding walked
-    walk-next parts plans =
+    walk_next parts plans =
         let now = left.walk parts plans in
         let behind-part = others now.0 now.1 in
         (behind-part.0, behind-part.2, now.2 ∙ ap (λ (classes : List Class). walked walker classes behind found) behind-part.1)
@@ -141,14 +141,14 @@ module _ (walker : Walker) (plan : Plan) (place fault : ℕ) (later : Plan) (beh
     pub walk_refused : (refusal : Refusal) (read : RecordRead) → read ≡ walker class behind found → read ≡ Refused refusal
         → (parts : List Due) → Plans plan parts → read ≡ walked walker (standing parts) place fault
     walk_refused refusal read same is parts plans =
-        let now = walk-next parts plans in
+        let now = walk_next parts plans in
         is ∙ sym (now.2 ∙ ap (λ (read : RecordRead). onward read (walked walker (standing now.0))) (sym same ∙ is))
 
     -- it is read whole
-    pub walk-on : (end seen : ℕ) (read : RecordRead) → read ≡ walker class behind found → read ≡ Whole end seen
+    pub walk_on : (end seen : ℕ) (read : RecordRead) → read ≡ walker class behind found → read ≡ Whole end seen
         → PartsLeft walker plan place fault rest end seen
-    walk-on end seen read same is = record {
+    walk_on end seen read same is = record {
       walk = λ parts plans.
-          let now = walk-next parts plans in
+          let now = walk_next parts plans in
           (now.0, now.1, now.2 ∙ ap (λ (read : RecordRead). onward read (walked walker (standing now.0))) (sym same ∙ is));
     }

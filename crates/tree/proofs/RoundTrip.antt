@@ -39,8 +39,8 @@ use Rattle.tree.specs.declared.own.TriviaRead.TheVariants.{Trivia}
 use Rattle.tree.proofs.Cases.{by_choice, both_passed}
 use Rattle.tree.proofs.KindLayout.{kind_number, node_stored, kind_number_lem, forms_all, items_counted, items_stored, leaf_stored}
 use Rattle.tree.proofs.Places.{Stands, none_stands, both_stand, part_stands, byte_stands, number_stands}
-use Rattle.tree.proofs.OwnBytes.{TextHeld, ItemHeld, Headed, leaf_number, items_held, trivia-cases, own-cases}
-use Rattle.tree.proofs.Readings.{every-reading, file_passed}
+use Rattle.tree.proofs.OwnBytes.{TextHeld, ItemHeld, Headed, leaf_number, items_held, trivia_cases, own_cases}
+use Rattle.tree.proofs.Readings.{every_reading, file_passed}
 
 -- ---- texts and trivia
 
@@ -73,17 +73,17 @@ trivia_counted bytes at (suc count) = rw (trivia_counted bytes (trivium_behind b
 
 module _ (bytes : List ℕ) (small : (i : ℕ) → get_or bytes i 0 < 256) where
   -- a length and as many bytes
-  sized-stands : (at : ℕ) → at + 2 + number_at bytes at ≤ length bytes
+  sized_stands : (at : ℕ) → at + 2 + number_at bytes at ≤ length bytes
       → Stands bytes at (two_bytes (length (slice (at + 2) (at + 2 + number_at bytes at) bytes)) ++ slice (at + 2) (at + 2 + number_at bytes at) bytes) (at + 2 + number_at bytes at)
-  sized-stands at inside =
+  sized_stands at inside =
       let count : ℕ = number_at bytes at in
       let long : length (slice (at + 2) (at + 2 + count) bytes) ≡ count = length-slice (at + 2) (at + 2 + count) bytes inside ∙ omega arith in
       rw long (both_stand (number_stands bytes at (small at) (omega arith)) (part_stands bytes (at + 2) (at + 2 + count) (omega arith) inside))
 
   -- a trivia item
-  item-stands : (at : ℕ) → ItemHeld bytes at
+  item_stands : (at : ℕ) → ItemHeld bytes at
       → Stands bytes at (stored_trivium (record { code = get_or bytes at 0; text = trivium_text bytes at })) (trivium_behind bytes at)
-  item-stands at held =
+  item_stands at held =
       let inside : trivium_behind bytes at ≤ length bytes = held.inside in
       let onward : at < trivium_behind bytes at = held.onward in
       by_test (eqb (get_or bytes at 0) 1)
@@ -94,25 +94,25 @@ module _ (bytes : List ℕ) (small : (i : ℕ) → get_or bytes i 0 < 256) where
       let last : at + 1 + 2 + number_at bytes (at + 1) ≡ at + 3 + number_at bytes (at + 1) = omega arith in
       let first : at + 1 + 2 ≡ at + 3 = omega arith in
       let room : at + 1 + 2 + number_at bytes (at + 1) ≤ length bytes = rw last (rw q at inside) in
-      rw q (both_stand (byte_stands bytes at (omega arith)) (rw (last, first) at (sized-stands (at + 1) room))))
+      rw q (both_stand (byte_stands bytes at (omega arith)) (rw (last, first) at (sized_stands (at + 1) room))))
 
   -- trivia items, one behind the other
-  items-stand : (at count end : ℕ) → at ≤ length bytes → trivia_end bytes at count ≡ Behind end → Stands bytes at (stored_items (trivia_from bytes at count)) end
+  items_stand : (at count end : ℕ) → at ≤ length bytes → trivia_end bytes at count ≡ Behind end → Stands bytes at (stored_items (trivia_from bytes at count)) end
   unfolding trivia_end trivia_from stored_items
-  items-stand at zero end inside e =
+  items_stand at zero end inside e =
       let same : at ≡ end = cc in
       rw (← same) (none_stands bytes at inside)
-  items-stand at (suc count) end inside e =
+  items_stand at (suc count) end inside e =
       let held = items_held bytes at count end e in
-      both_stand (item-stands at held.0) (items-stand (trivium_behind bytes at) count end held.0.inside held.1)
+      both_stand (item_stands at held.0) (items_stand (trivium_behind bytes at) count end held.0.inside held.1)
 
   -- trivia that were read stand, and their bit
-  trivia-stand : (at bit : ℕ) → bit < 2 → at ≤ length bytes → (trivia : TriviaSpan) → trivia_read bytes at bit ≡ Trivia trivia
+  trivia_stand : (at bit : ℕ) → bit < 2 → at ≤ length bytes → (trivia : TriviaSpan) → trivia_read bytes at bit ≡ Trivia trivia
       → Stands bytes at (stored_trivia (trivia_from bytes trivia.first trivia.count)) trivia.end
       × (trivia_bit (trivia_from bytes trivia.first trivia.count) ≡ bit)
   unfolding trivia_from
-  trivia-stand at bit two inside =
-      trivia-cases bytes at bit
+  trivia_stand at bit two inside =
+      trivia_cases bytes at bit
       (λ (trivia : TriviaSpan).
       Stands bytes at (stored_trivia (trivia_from bytes trivia.first trivia.count)) trivia.end
       × (trivia_bit (trivia_from bytes trivia.first trivia.count) ≡ bit))
@@ -121,19 +121,19 @@ module _ (bytes : List ℕ) (small : (i : ℕ) → get_or bytes i 0 < 256) where
       let items : List Trivium = trivia_from bytes (at + 2) (number_at bytes at) in
       let counted : length items ≡ number_at bytes at = trivia_counted bytes (at + 2) (number_at bytes at) in (
         rw (trivia_stored items (omega arith), counted)
-            (both_stand (number_stands bytes at (small at) room) (items-stand (at + 2) (number_at bytes at) end room is)),
+            (both_stand (number_stands bytes at (small at) room) (items_stand (at + 2) (number_at bytes at) end room is)),
         trivia_bit_lem items (omega arith) ∙ omega arith,
       ))
 
   -- kind, map and trivia stand
-  head-stands : (at : ℕ) (class : Class) (kind : Kind) (trivia : TriviaSpan) → Headed bytes at class kind trivia
+  head_stands : (at : ℕ) (class : Class) (kind : Kind) (trivia : TriviaSpan) → Headed bytes at class kind trivia
       → Stands bytes at (get_or bytes at 0 ∷ get_or bytes (at + 1) 0 ∷ stored_trivia (trivia_from bytes trivia.first trivia.count)) trivia.end
       × (trivia_bit (trivia_from bytes trivia.first trivia.count) ≡ get_or bytes (at + 1) 0 % 2)
       × (at + 2 ≤ trivia.end)
-  head-stands at class kind trivia headed =
+  head_stands at class kind trivia headed =
       let room : at + 2 ≤ length bytes = headed.room in
       let next : at + 1 + 1 ≡ at + 2 = omega arith in
-      let read = trivia-stand (at + 2) (get_or bytes (at + 1) 0 % 2) (omega arith) room trivia headed.trivia_is in
+      let read = trivia_stand (at + 2) (get_or bytes (at + 1) 0 % 2) (omega arith) room trivia headed.trivia_is in
       let two : Stands bytes at (get_or bytes at 0 ∷ get_or bytes (at + 1) 0 ∷ []) (at + 2) =
       rw (← next) (both_stand (byte_stands bytes at (omega arith)) (byte_stands bytes (at + 1) (omega arith))) in
       (both_stand two read.0, read.1, read.0.onward)
@@ -171,16 +171,16 @@ Laid bytes at reading = reading.checked ≡ Passed → Stands bytes at (stored r
 
 module _ (bytes : List ℕ) (reader : Reader) (below : (class : Class) (at : ℕ) → Laid bytes at (reader class at)) where
   -- parts that were read stand one behind the other
-  parts-stand : (parts : List Due) (at : ℕ) → at ≤ length bytes → (read_parts reader parts at).checked ≡ Passed
+  parts_stand : (parts : List Due) (at : ℕ) → at ≤ length bytes → (read_parts reader parts at).checked ≡ Passed
       → Stands bytes at (flat (map stored (read_parts reader parts at).trees)) (read_parts reader parts at).end
   unfolding read_parts flat stored_with
-  parts-stand [] at inside e = none_stands bytes at inside
-  parts-stand (nothing ∷ parts) at inside e = parts-stand parts at inside e
-  parts-stand (due class ∷ parts) at inside e =
+  parts_stand [] at inside e = none_stands bytes at inside
+  parts_stand (nothing ∷ parts) at inside e = parts_stand parts at inside e
+  parts_stand (due class ∷ parts) at inside e =
       let next : ℕ = (reader class at).end in
       let passed = both_passed (reader class at).checked (read_parts reader parts next).checked e in
       let first = (below class at passed.0).0 in
-      both_stand first (parts-stand parts next first.inside passed.1)
+      both_stand first (parts_stand parts next first.inside passed.1)
 
   -- the bits of the parts are those of the map
   fields_bits : (slots : List Slot) (bits at : ℕ) → fields_fit slots bits ≡ true → (read_parts reader (fields_due slots bits) at).checked ≡ Passed
@@ -245,39 +245,39 @@ module _ (bytes : List ℕ) (small : (i : ℕ) → get_or bytes i 0 < 256) (read
   LaidOwn own = Laid bytes at (record_of bytes at own (read_parts reader (parts_due class own) own.end))
 
   -- a list
-  list-laid : (kind : Kind) (trivia : TriviaSpan) → Headed bytes at class kind trivia → get_or bytes at 0 ≡ 24 → trivia.end + 2 ≤ length bytes
+  list_laid : (kind : Kind) (trivia : TriviaSpan) → Headed bytes at class kind trivia → get_or bytes at 0 ≡ 24 → trivia.end + 2 ≤ length bytes
       → LaidOwn (own_of kind (get_or bytes (at + 1) 0) trivia (trivia.end + 2) (trivia.end + 2) (number_at bytes trivia.end))
   unfolding stored_with built parts_due fields_due map_fits
-  list-laid kind trivia headed is room =
+  list_laid kind trivia headed is room =
       let known : kind_of 24 ≡ Known kind = rw is at headed.kind_is in
       let same : kind ≡ variant.Vec = cc in
       let empty : get_or bytes (at + 1) 0 ≡ 0 = eqb-true _ _ (rw is at headed.fits) in
       let listed : is_list (rule class).items ≡ true = rw is at headed.standing in
-      let head = head-stands bytes small at class kind trivia headed in
+      let head = head_stands bytes small at class kind trivia headed in
       rw same (λ passed.
       let count : ℕ = number_at bytes trivia.end in
       let parts : List Due = items_due (rule class).items count in
       let trees : List Tree = (read_parts reader parts (trivia.end + 2)).trees in
-      let items = parts-stand bytes reader below parts (trivia.end + 2) room passed in
+      let items = parts_stand bytes reader below parts (trivia.end + 2) room passed in
       let counted : item_count (chain trees) ≡ count = items_counted trees ∙ trees_counted reader parts (trivia.end + 2) ∙ items_due_lem (rule class).items count listed in
       let bit : trivia_bit (trivia_from bytes trivia.first trivia.count) ≡ get_or bytes (at + 1) 0 = head.1 ∙ omega arith in
       let whole = both_stand head.0 (both_stand (number_stands bytes trivia.end (small trivia.end) room) items) in
       (rw (counted, items_stored trees, bit) (rw is at whole), omega (arith, items.onward)))
 
   -- a leaf, whether its text stands or not
-  leaf-laid : (kind : Kind) (trivia : TriviaSpan) (text end : ℕ) → Headed bytes at class kind trivia → leaf_number (get_or bytes at 0) ≡ true
+  leaf_laid : (kind : Kind) (trivia : TriviaSpan) (text end : ℕ) → Headed bytes at class kind trivia → leaf_number (get_or bytes at 0) ≡ true
       → Stands bytes trivia.end (stored_text (slice text end bytes)) end → part_bits (stored_text (slice text end bytes) ∷ []) ≡ get_or bytes (at + 1) 0 / 2
       → LaidOwn (own_of kind (get_or bytes (at + 1) 0) trivia text end 0)
   unfolding parts_due fields_due read_parts stored_with flat
-  leaf-laid kind trivia text end headed leaf stands bits =
+  leaf_laid kind trivia text end headed leaf stands bits =
       let number : ℕ = get_or bytes at 0 in
       let items : List Trivium = trivia_from bytes trivia.first trivia.count in
       let letters : List ℕ = slice text end bytes in
-      let head = head-stands bytes small at class kind trivia headed in
+      let head = head_stands bytes small at class kind trivia headed in
       let as-leaf = leaf_stored number kind (rule class).value items letters [] leaf headed.kind_is in
-      let no-parts : parts_due class (own_of kind (get_or bytes (at + 1) 0) trivia text end 0) ≡ [] = rw (as-leaf.1, no_items (rule class).items) in
+      let no_parts : parts_due class (own_of kind (get_or bytes (at + 1) 0) trivia text end 0) ≡ [] = rw (as-leaf.1, no_items (rule class).items) in
       let flags : trivia_bit items + 2 * part_bits (stored_text letters ∷ []) ≡ get_or bytes (at + 1) 0 = omega (arith, head.1, bits) in
-      rw no-parts (λ passed.
+      rw no_parts (λ passed.
       (rw (as-leaf.0, flags, append-nil (stored_text letters)) (both_stand head.0 stands), omega (arith, stands.onward)))
 
   -- a leaf with its text
@@ -290,21 +290,21 @@ module _ (bytes : List ℕ) (small : (i : ℕ) → get_or bytes i 0 < 256) (read
       let letters : List ℕ = slice (start + 2) (start + 2 + number_at bytes start) bytes in
       let some : 0 < length letters = rw (length-slice (start + 2) (start + 2 + number_at bytes start) bytes inside) (omega (arith, held.some)) in
       let one = text_bits (rule class).text (get_or bytes (at + 1) 0 / 2) (leaf_fits (rule class) (get_or bytes at 0) kind (get_or bytes (at + 1) 0) headed.fits leaf) in
-      leaf-laid kind trivia (start + 2) end headed leaf
-      (rw (held.last, text_stored letters some) (sized-stands bytes small start inside))
+      leaf_laid kind trivia (start + 2) end headed leaf
+      (rw (held.last, text_stored letters some) (sized_stands bytes small start inside))
       (rw held.last (text_bit letters some ∙ omega arith))
 
   -- a record with fields
-  node-laid : (kind : Kind) (trivia : TriviaSpan) → Headed bytes at class kind trivia → eqb (get_or bytes at 0) 24 ≡ false → leaf_number (get_or bytes at 0) ≡ false
+  node_laid : (kind : Kind) (trivia : TriviaSpan) → Headed bytes at class kind trivia → eqb (get_or bytes at 0) 24 ≡ false → leaf_number (get_or bytes at 0) ≡ false
       → LaidOwn (own_of kind (get_or bytes (at + 1) 0) trivia trivia.end trivia.end 0)
   unfolding parts_due stored_with
-  node-laid kind trivia headed list leaf =
+  node_laid kind trivia headed list leaf =
       let number : ℕ = get_or bytes at 0 in
       let flags : ℕ = get_or bytes (at + 1) 0 in
       let end : ℕ = trivia.end in
       let slots : List Slot = fields kind (rule class).value in
       let items : List Trivium = trivia_from bytes trivia.first trivia.count in
-      let head = head-stands bytes small at class kind trivia headed in
+      let head = head_stands bytes small at class kind trivia headed in
       let is : kind_number kind ≡ number = kind_number_lem number kind headed.kind_is in
       let only_fields : parts_due class (own_of kind flags trivia end end 0) ≡ fields_due slots (flags / 2) =
       rw (no_items (rule class).items) (append-nil (fields_due slots (flags / 2))) in
@@ -312,30 +312,30 @@ module _ (bytes : List ℕ) (small : (i : ℕ) → get_or bytes i 0 < 256) (read
       let counted : length trees ≡ length slots = trees_counted reader (fields_due slots (flags / 2)) end ∙ fields_counted slots (flags / 2) in
       let as-node = node_stored kind (rule class).value items (slice end end bytes) trees (rw is list) (rw is leaf) in
       rw only_fields (λ passed.
-      let parts = parts-stand bytes reader below (fields_due slots (flags / 2)) end head.0.inside passed in
+      let parts = parts_stand bytes reader below (fields_due slots (flags / 2)) end head.0.inside passed in
       let bits = fields_bits bytes reader below slots (flags / 2) end
       (node_fits (rule class) number kind flags headed.fits list leaf).1 passed in
       let byte : trivia_bit items + 2 * part_bits (map stored trees) ≡ flags = omega (arith, head.1, bits) in
       (rw (as-node, is, ← counted, forms_all trees, byte) (both_stand head.0 parts), omega (arith, parts.onward)))
 
   -- a record with neither a count nor a text
-  other-laid : (kind : Kind) (trivia : TriviaSpan) → Headed bytes at class kind trivia → eqb (get_or bytes at 0) 24 ≡ false
+  other_laid : (kind : Kind) (trivia : TriviaSpan) → Headed bytes at class kind trivia → eqb (get_or bytes at 0) 24 ≡ false
       → (leaf_number (get_or bytes at 0) && leb 2 (get_or bytes (at + 1) 0)) ≡ false
       → LaidOwn (own_of kind (get_or bytes (at + 1) 0) trivia trivia.end trivia.end 0)
   unfolding part_bits
-  other-laid kind trivia headed list no_text =
+  other_laid kind trivia headed list no_text =
       let end : ℕ = trivia.end in
-      let inside : end ≤ length bytes = (head-stands bytes small at class kind trivia headed).0.inside in
+      let inside : end ≤ length bytes = (head_stands bytes small at class kind trivia headed).0.inside in
       by_test (leaf_number (get_or bytes at 0))
       (λ leaf.
-      leaf-laid kind trivia end end headed leaf
+      leaf_laid kind trivia end end headed leaf
       (rw (slice_empty end bytes) (none_stands bytes end inside))
       (rw (slice_empty end bytes) (omega (arith, leb-false 2 (get_or bytes (at + 1) 0) (rw leaf at no_text)))))
-      (λ leaf. node-laid kind trivia headed list leaf)
+      (λ leaf. node_laid kind trivia headed list leaf)
 
   -- a record whose own bytes were read
-  record-laid : (levels : ℕ) (own : Own) → read_own bytes at class levels ≡ Record own → LaidOwn own
-  record-laid levels own e = own-cases bytes at class LaidOwn list-laid text_laid other-laid levels own e
+  record_laid : (levels : ℕ) (own : Own) → read_own bytes at class levels ≡ Record own → LaidOwn own
+  record_laid levels own e = own_cases bytes at class LaidOwn list_laid text_laid other_laid levels own e
 
 -- ---- every reading
 
@@ -346,9 +346,9 @@ pub round_trip : (levels : ℕ) (bytes : List ℕ) → ((i : ℕ) → get_or byt
     × ((read levels bytes class at).end ≤ length bytes)
 round_trip levels bytes small class at passed =
     let laid =
-    every-reading bytes (λ levels class at reading. Laid bytes at reading)
+    every_reading bytes (λ levels class at reading. Laid bytes at reading)
     (λ levels class at reader why e. failed_passed e)
-    (λ levels class at own is below. record-laid bytes small (read levels bytes) below at class (suc levels) own is)
+    (λ levels class at own is below. record_laid bytes small (read levels bytes) below at class (suc levels) own is)
     levels class at passed in
     (laid.0.same, laid.1, laid.0.inside)
 

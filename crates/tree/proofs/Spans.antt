@@ -25,68 +25,68 @@ module _ (bytes : List ℕ) (at : ℕ) {number : Number} (e : number ≡ read_nu
       by_test (leb (at + 2) (length bytes)) (leb-true _ _) (λ t. let z : ◌≡◌ {A = ℕ} 0 1 = cc (rw t at (sym told ∙ e)) in omega arith)
 
   -- a length and its bytes, by what the length reads as
-  sized-by-number : (read : Number) → number ≡ read → sized_end bytes at ≡ sized_on bytes at read
+  sized_by_number : (read : Number) → number ≡ read → sized_end bytes at ≡ sized_on bytes at read
   unfolding sized_end
-  sized-by-number read told = ap (sized_on bytes at) (sym e ∙ told)
+  sized_by_number read told = ap (sized_on bytes at) (sym e ∙ told)
 
   -- a length is missing
-  pub sized-missing : number ≡ Missing → Broken ≡ sized_end bytes at
-  sized-missing told = sym (sized-by-number Missing told)
+  pub sized_missing : number ≡ Missing → Broken ≡ sized_end bytes at
+  sized_missing told = sym (sized_by_number Missing told)
 
   module _ (count : ℕ) (told : number ≡ Read count) where
     -- fewer bytes are left than a length says
-    pub sized-short : length bytes - (at + 2) < count → Broken ≡ sized_end bytes at
-    sized-short h = let inside = read_inside count told in sym (sized-by-number (Read count) told ∙ rw (lt-ltb (length bytes) (at + 2 + count) (omega arith)))
+    pub sized_short : length bytes - (at + 2) < count → Broken ≡ sized_end bytes at
+    sized_short h = let inside = read_inside count told in sym (sized_by_number (Read count) told ∙ rw (lt-ltb (length bytes) (at + 2 + count) (omega arith)))
 
     -- as many are left
-    pub sized-whole : count ≤ length bytes - (at + 2) → Behind (at + 2 + count) ≡ sized_end bytes at
-    sized-whole h = let inside = read_inside count told in sym (sized-by-number (Read count) told ∙ rw (le-ltb (length bytes) (at + 2 + count) (omega arith)))
+    pub sized_whole : count ≤ length bytes - (at + 2) → Behind (at + 2 + count) ≡ sized_end bytes at
+    sized_whole h = let inside = read_inside count told in sym (sized_by_number (Read count) told ∙ rw (le-ltb (length bytes) (at + 2 + count) (omega arith)))
 
   module _ (rule : TextRule) where
     -- a text, by what its length reads as
-    text-by-number : (read : Number) → number ≡ read → text_end bytes at rule ≡ text_of_count bytes at rule read
+    text_by_number : (read : Number) → number ≡ read → text_end bytes at rule ≡ text_of_count bytes at rule read
     unfolding text_end
-    text-by-number read told = ap (text_of_count bytes at rule) (sym e ∙ told)
+    text_by_number read told = ap (text_of_count bytes at rule) (sym e ∙ told)
 
     -- a text's length is missing
-    pub text-missing : number ≡ Missing → Broken ≡ text_end bytes at rule
-    text-missing told = sym (text-by-number Missing told)
+    pub text_missing : number ≡ Missing → Broken ≡ text_end bytes at rule
+    text_missing told = sym (text_by_number Missing told)
 
     -- it is 0
-    pub text-empty : (count : ℕ) → number ≡ Read count → count ≡ 0 → Broken ≡ text_end bytes at rule
-    text-empty count told h = sym (text-by-number (Read count) told ∙ rw (eq-eqb _ _ h))
+    pub text_empty : (count : ℕ) → number ≡ Read count → count ≡ 0 → Broken ≡ text_end bytes at rule
+    text_empty count told h = sym (text_by_number (Read count) told ∙ rw (eq-eqb _ _ h))
 
     -- it is not
-    pub text-some : (count : ℕ) → number ≡ Read count → (count ≡ 0 → ⊥) → text_end bytes at rule ≡ text_on bytes at rule count
-    text-some count told h = text-by-number (Read count) told ∙ rw (ne_eqb _ _ h)
+    pub text_some : (count : ℕ) → number ≡ Read count → (count ≡ 0 → ⊥) → text_end bytes at rule ≡ text_on bytes at rule count
+    text_some count told h = text_by_number (Read count) told ∙ rw (ne_eqb _ _ h)
 
     -- a free text is a length and its bytes
     pub text_free : (count : ℕ) → number ≡ Read count → (count ≡ 0 → ⊥) → rule ≡ Free → sized_end bytes at ≡ text_end bytes at rule
-    text_free count told h free = sized-by-number (Read count) told ∙ sym (text-some count told h ∙ ap (λ (other : TextRule). text_on bytes at other count) free)
+    text_free count told h free = sized_by_number (Read count) told ∙ sym (text_some count told h ∙ ap (λ (other : TextRule). text_on bytes at other count) free)
 
     -- a text of one byte of a range
-    pub text-byte : (count : ℕ) → number ≡ Read count → (count ≡ 0 → ⊥) → (low high : ℕ) → rule ≡ Byte low high
+    pub text_byte : (count : ℕ) → number ≡ Read count → (count ≡ 0 → ⊥) → (low high : ℕ) → rule ≡ Byte low high
         → text_end bytes at rule ≡ text_on bytes at (Byte low high) count
-    text-byte count told h low high byte = text-some count told h ∙ ap (λ (other : TextRule). text_on bytes at other count) byte
+    text_byte count told h low high byte = text_some count told h ∙ ap (λ (other : TextRule). text_on bytes at other count) byte
 
   module _ (bit : ℕ) (stands : bit ≡ 0 → ⊥) where
     -- trivia whose bit stands, by what their number reads as
-    trivia-by-number : (read : Number) → number ≡ read → trivia_read bytes at bit ≡ trivia_on bytes at read
+    trivia_by_number : (read : Number) → number ≡ read → trivia_read bytes at bit ≡ trivia_on bytes at read
     unfolding trivia_read
-    trivia-by-number read told = rw (ne_eqb _ _ stands) (ap (trivia_on bytes at) (sym e ∙ told))
+    trivia_by_number read told = rw (ne_eqb _ _ stands) (ap (trivia_on bytes at) (sym e ∙ told))
 
     -- the number of trivia items is missing
-    pub trivia-missing : number ≡ Missing → BrokenTrivia ≡ trivia_read bytes at bit
-    trivia-missing told = sym (trivia-by-number Missing told)
+    pub trivia_missing : number ≡ Missing → BrokenTrivia ≡ trivia_read bytes at bit
+    trivia_missing told = sym (trivia_by_number Missing told)
 
     -- it is 0
-    pub trivia-empty : (count : ℕ) → number ≡ Read count → count ≡ 0 → BrokenTrivia ≡ trivia_read bytes at bit
-    trivia-empty count told h = sym (trivia-by-number (Read count) told ∙ rw (eq-eqb _ _ h))
+    pub trivia_empty : (count : ℕ) → number ≡ Read count → count ≡ 0 → BrokenTrivia ≡ trivia_read bytes at bit
+    trivia_empty count told h = sym (trivia_by_number (Read count) told ∙ rw (eq-eqb _ _ h))
 
     -- it is not
-    pub trivia-some : (count : ℕ) → number ≡ Read count → (count ≡ 0 → ⊥) → {items : Span} → items ≡ trivia_end bytes (at + 2) count → (span : Span) → items ≡ span
+    pub trivia_some : (count : ℕ) → number ≡ Read count → (count ≡ 0 → ⊥) → {items : Span} → items ≡ trivia_end bytes (at + 2) count → (span : Span) → items ≡ span
         → trivia_span (at + 2) count span ≡ trivia_read bytes at bit
-    trivia-some count told h items span read = sym (trivia-by-number (Read count) told ∙ rw (ne_eqb _ _ h) (ap (trivia_span (at + 2) count) (sym items ∙ read)))
+    trivia_some count told h items span read = sym (trivia_by_number (Read count) told ∙ rw (ne_eqb _ _ h) (ap (trivia_span (at + 2) count) (sym items ∙ read)))
 
 -- no trivia item is left
 pub trivia_none : (bytes : List ℕ) (at left : ℕ) → left ≤ 0 → trivia_end bytes at left ≡ Behind at

@@ -14,7 +14,7 @@ use Rattle.tree.specs.declared.grammar.Kind.{Kind}
 use Rattle.tree.specs.declared.grammar.Kind.TheVariants as variant
 use Rattle.tree.specs.declared.grammar.Class.{Class}
 use Rattle.tree.proofs.Cases.{both_passed}
-use Rattle.tree.proofs.Readings.{every-reading}
+use Rattle.tree.proofs.Readings.{every_reading}
 
 -- whole items are a whole list
 chain_whole : (trees : List Tree) → ((place : ℕ) → whole (get_or trees place absent) ≡ true) → whole (chain trees) ≡ true
@@ -85,7 +85,7 @@ parts_whole reader below (due class ∷ parts) at e (suc place) =
 pub read_whole : (levels : ℕ) (bytes : List ℕ) (class : Class) (at : ℕ) → (read levels bytes class at).checked ≡ Passed → whole (read levels bytes class at).tree ≡ true
 unfolding whole
 read_whole levels bytes =
-    every-reading bytes (λ levels class at reading. reading.checked ≡ Passed → whole reading.tree ≡ true)
+    every_reading bytes (λ levels class at reading. reading.checked ≡ Passed → whole reading.tree ≡ true)
     (λ levels class at reader why e. failed_passed e)
     (λ levels class at own is below e.
     built_whole own.kind _ _ (parts_whole (read levels bytes) below (parts_due class own) own.end e))

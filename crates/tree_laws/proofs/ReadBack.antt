@@ -127,24 +127,24 @@ module _ (Below : Class → ℕ → Tree → Type 0) (some : (class : Class) (at
   bits_fit (left_out {class} {slots} {at} {parts} rest) = rw (bits_behind [] (map stored parts)) (bits_fit rest)
 
   -- a field without bytes is left out
-  empty-absent : {slots : List Slot} {at : ℕ} {parts : List Tree} → FieldsFit Below slots at parts → (place : ℕ)
+  empty_absent : {slots : List Slot} {at : ℕ} {parts : List Tree} → FieldsFit Below slots at parts → (place : ℕ)
       → length (stored (get_or parts place absent)) ≡ 0 → get_or parts place absent ≡ absent
-  empty-absent well.none place e = refl
-  empty-absent (standing {slot} {slots} {at} {part} {parts} first rest) zero e = absurd (omega (arith, some (slot_class slot) at part first))
-  empty-absent (standing first rest) (suc place) e = empty-absent rest place e
-  empty-absent (left_out rest) zero e = refl
-  empty-absent (left_out rest) (suc place) e = empty-absent rest place e
+  empty_absent well.none place e = refl
+  empty_absent (standing {slot} {slots} {at} {part} {parts} first rest) zero e = absurd (omega (arith, some (slot_class slot) at part first))
+  empty_absent (standing first rest) (suc place) e = empty_absent rest place e
+  empty_absent (left_out rest) zero e = refl
+  empty_absent (left_out rest) (suc place) e = empty_absent rest place e
 
   -- `tag_else` and `else_` have the same bit
-  else-fits : (value : Class) {at : ℕ} {parts : List Tree} → FieldsFit Below (fields variant.If value) at parts → ElseFits variant.If parts
+  else_fits_lem : (value : Class) {at : ℕ} {parts : List Tree} → FieldsFit Below (fields variant.If value) at parts → ElseFits variant.If parts
       → part_bits (map stored parts) / 8 % 2 ≡ part_bits (map stored parts) / 16 % 2
   unfolding stored_with
-  else-fits value {at} {parts} fits together =
+  else_fits_lem value {at} {parts} fits together =
       let form : ℕ → List ℕ = λ place. stored (get_or parts place absent) in
       let five : forms_from 0 5 parts ≡ map stored parts = rw (parts_counted fits) at (forms_all parts) in
       rw (← five) (fourth_fifth (form 0) (form 1) (form 2) (form 3) (form 4)
-      (λ e. rw ((together refl).0 (empty-absent fits 3 e)))
-      (λ e. rw ((together refl).1 (empty-absent fits 4 e))))
+      (λ e. rw ((together refl).0 (empty_absent fits 3 e)))
+      (λ e. rw ((together refl).1 (empty_absent fits 4 e))))
 
 module _ (bytes : List ℕ) (Below : Class → ℕ → Tree → Type 0) (reader : Reader)
     (some : (class : Class) (at : ℕ) (tree : Tree) → Below class at tree → 0 < length (stored tree))
@@ -168,29 +168,29 @@ module _ (bytes : List ℕ) (Below : Class → ℕ → Tree → Type 0) (reader 
         }
 
     -- the fields of a record
-    fields-found : {slots : List Slot} {at end : ℕ} {parts : List Tree} → FieldsFit Below slots at parts → Stands bytes at (flat (map stored parts)) end
+    fields_found : {slots : List Slot} {at end : ℕ} {parts : List Tree} → FieldsFit Below slots at parts → Stands bytes at (flat (map stored parts)) end
         → AllFound (read_parts reader (fields_due slots (part_bits (map stored parts))) at) parts end
     unfolding read_parts fields_due flat stored_with texts_checked
-    fields-found {at} {end} well.none here =
+    fields_found {at} {end} well.none here =
         let last : end ≡ at + 0 = ends here in
         record { trees_are = refl; end_is = omega arith; passed = refl; accepted = refl }
-    fields-found {end} (standing {slot} {slots} {at} {part} {parts} first rest) here =
+    fields_found {end} (standing {slot} {slots} {at} {part} {parts} first rest) here =
         rw (bit_stands (stored part) (map stored parts) (some (slot_class slot) at part first), bits_behind (stored part) (map stored parts))
-        (one_found (slot_class slot) at end part parts (fields_due slots (part_bits (map stored parts))) first here (fields-found rest))
-    fields-found (left_out {class} {slots} {at} {parts} rest) here =
-        let behind = fields-found rest here in
+        (one_found (slot_class slot) at end part parts (fields_due slots (part_bits (map stored parts))) first here (fields_found rest))
+    fields_found (left_out {class} {slots} {at} {parts} rest) here =
+        let behind = fields_found rest here in
         rw (bit_clear (map stored parts), bits_behind [] (map stored parts))
         (record { trees_are = rw behind.trees_are; end_is = behind.end_is; passed = behind.passed; accepted = behind.accepted })
 
     -- the items of a list
-    items-found : {class : Class} {at end : ℕ} {items : List Tree} → ItemsFit Below class at items → Stands bytes at (flat (map stored items)) end
+    items_found : {class : Class} {at end : ℕ} {items : List Tree} → ItemsFit Below class at items → Stands bytes at (flat (map stored items)) end
         → AllFound (read_parts reader (replicate (length items) (due class)) at) items end
     unfolding read_parts flat texts_checked
-    items-found {class} {at} {end} well.none here =
+    items_found {class} {at} {end} well.none here =
         let last : end ≡ at + 0 = ends here in
         record { trees_are = refl; end_is = omega arith; passed = refl; accepted = refl }
-    items-found {class} {end} (well.next {at} {item} {items} first rest) here =
-        one_found class at end item items (replicate (length items) (due class)) first here (items-found rest)
+    items_found {class} {end} (well.next {at} {item} {items} first rest) here =
+        one_found class at end item items (replicate (length items) (due class)) first here (items_found rest)
 
 -- ---- stored forms
 
@@ -297,12 +297,12 @@ only_fields class own is = rw (is, none (rule class).items) (append-nil (fields_
 
 module _ (bytes : List ℕ) (levels : ℕ) (class : Class) (at : ℕ) where
   -- a record whose own bytes and parts are read
-  record-found : {trivia : List Trivium} {text : List ℕ} {parts : List Tree} {end : ℕ} (own : Own) → read_own bytes at class (suc levels) ≡ Record own
+  record_found : {trivia : List Trivium} {text : List ℕ} {parts : List Tree} {end : ℕ} (own : Own) → read_own bytes at class (suc levels) ≡ Record own
       → trivia_of bytes own ≡ trivia → texts_checked (trivia_texts bytes own.trivia own.trivia_count) ≡ Passed
       → text_of bytes own ≡ text → accepted_text text ≡ true → AllFound (read_parts (read levels bytes) (parts_due class own) own.end) parts end
       → Found (read (suc levels) bytes class at) (node at trivia (built own.kind text parts)) end
   unfolding read texts_checked
-  record-found own is trivia-is trivia-accepted text-is text_accepted parts =
+  record_found own is trivia-is trivia-accepted text-is text_accepted parts =
       rw is (record {
         tree_is = rw (trivia-is, text-is, parts.trees_are);
         end_is = parts.end_is;
@@ -314,17 +314,17 @@ module _ (bytes : List ℕ) (levels : ℕ) (class : Class) (at : ℕ) where
       })
 
   -- a leaf or path item whose own bytes are read
-  leaf-own : {number flags end : ℕ} {kind : Kind} {trivia : List Trivium} {text rest : List ℕ} (text_at : ℕ)
+  leaf_own : {number flags end : ℕ} {kind : Kind} {trivia : List Trivium} {text rest : List ℕ} (text_at : ℕ)
       → (head : HeadStands bytes at number flags trivia rest end) → leaf_number number ≡ true → kind_of number ≡ Known kind
       → read_own bytes at class (suc levels) ≡ Record (own_of kind flags head.trivia.span text_at end 0)
       → slice text_at end bytes ≡ text → accepted_text text ≡ true
       → Found (read (suc levels) bytes class at) (node at trivia (built kind text [])) end
   unfolding fields_due read_parts texts_checked
-  leaf-own {number} {flags} {end} {kind} {trivia} {text} text_at head leaf known is text-is accepted =
+  leaf_own {number} {flags} {end} {kind} {trivia} {text} text_at head leaf known is text-is accepted =
       let own : Own = own_of kind flags head.trivia.span text_at end 0 in
-      let no-parts : parts_due class own ≡ [] = only_fields class own refl ∙ rw (leaf_stored number kind (rule class).value trivia text [] leaf known).1 in
-      record-found own is head.trivia.same head.trivia.texts text-is accepted
-      (rw no-parts (record { trees_are = refl; end_is = refl; passed = refl; accepted = refl }))
+      let no_parts : parts_due class own ≡ [] = only_fields class own refl ∙ rw (leaf_stored number kind (rule class).value trivia text [] leaf known).1 in
+      record_found own is head.trivia.same head.trivia.texts text-is accepted
+      (rw no_parts (record { trees_are = refl; end_is = refl; passed = refl; accepted = refl }))
 
   -- by its text
   text_found : {number flags end : ℕ} {kind : Kind} {trivia : List Trivium} (text : List ℕ) → TextFits (rule class).text text
@@ -336,21 +336,21 @@ module _ (bytes : List ℕ) (levels : ℕ) (class : Class) (at : ℕ) where
   text_found {number} {flags} {end} {kind} {trivia} [] fits head flags-are leaf known own =
       let last : head.trivia.span.end ≡ end = omega (arith, head.trivia.last, ends head.behind) in
       let low : leb 2 flags ≡ false = lt-leb 2 flags (omega (arith, (bit_below trivia 0).0)) in
-      leaf-own end head leaf known (own ∙ rw (leaf_other number leaf, leaf, low, last)) (slice_empty end bytes) (text_accepted fits)
+      leaf_own end head leaf known (own ∙ rw (leaf_other number leaf, leaf, low, last)) (slice_empty end bytes) (text_accepted fits)
   text_found {number} {flags} {end} {kind} {trivia} (byte ∷ text) fits head flags-are leaf known own =
       let start : head.trivia.span.end ≡ at + 2 + length (stored_trivia trivia) = head.trivia.last in
       let high : leb 2 flags ≡ true = le-leb 2 flags (omega arith) in
       let letters = sized (byte ∷ text) head.behind in
-      leaf-own (at + 2 + length (stored_trivia trivia) + 2) head leaf known
+      leaf_own (at + 2 + length (stored_trivia trivia) + 2) head leaf known
       (own ∙ rw (leaf_other number leaf, leaf, high, start, text_read byte text fits letters)) (sym letters.letters.same) (text_accepted fits)
 
   -- a leaf or path item
-  leaf-found : {number end : ℕ} {kind : Kind} {located : Bool} {trivia : List Trivium} (text : List ℕ)
+  leaf_found : {number end : ℕ} {kind : Kind} {located : Bool} {trivia : List Trivium} (text : List ℕ)
       → leaf_number number ≡ true → kind_of number ≡ Known kind → Within class number → TriviaFit located trivia → (located ≡ true → ((rule class).located || eqb number 26) ≡ true)
       → TextFits (rule class).text text → Stands bytes at (stored_leaf number trivia text) end
       → Found (read (suc levels) bytes class at) (node at trivia (built kind text [])) end
   unfolding map_fits flat
-  leaf-found {number} {end} {kind} {located} {trivia} text leaf known within trivia-fit where-located text-fit here =
+  leaf_found {number} {end} {kind} {located} {trivia} text leaf known within trivia-fit where-located text-fit here =
       let bits : ℕ = part_bits (stored_text text ∷ []) in
       let flags : ℕ = trivia_bit trivia + 2 * bits in
       let below = bit_below trivia bits in
@@ -367,13 +367,13 @@ module _ (bytes : List ℕ) (levels : ℕ) (class : Class) (at : ℕ) where
       → Found (read levels bytes field place) tree end)
     where
       -- a record with fields
-      fielded-found : {number end : ℕ} {kind : Kind} {trivia : List Trivium} {parts : List Tree}
+      fielded_found : {number end : ℕ} {kind : Kind} {trivia : List Trivium} {parts : List Tree}
           → kind_of number ≡ Known kind → (number < 24) ⊎ (26 < number) → Within class number → TriviaFit (rule class).located trivia
           → FieldsFit (WellFormed levels) (fields kind (rule class).value) (at + 2 + length (stored_trivia trivia)) parts → ElseFits kind parts
           → Stands bytes at (stored_node number trivia (map stored parts)) end
           → Found (read (suc levels) bytes class at) (node at trivia (built kind [] parts)) end
       unfolding map_fits rest_of
-      fielded-found {number} {end} {kind} {trivia} {parts} known other within trivia-fit fields_fit together here =
+      fielded_found {number} {end} {kind} {trivia} {parts} known other within trivia-fit fields_fit together here =
           let bits : ℕ = part_bits (map stored parts) in
           let flags : ℕ = trivia_bit trivia + 2 * bits in
           let parted = bit_below trivia bits in
@@ -382,7 +382,7 @@ module _ (bytes : List ℕ) (levels : ℕ) (class : Class) (at : ℕ) where
           let head = head_read number flags trivia (flat (map stored parts)) trivia-fit here in
           let stands : may_stand (rule class) number ≡ true = rw (tests.0, le-leb (rule class).first number within.0, le-leb number (rule class).last within.1) in
           let else-fit : else_fits number bits ≡ true =
-          else_may number kind bits known (λ is. else-fits (WellFormed levels) some (rule class).value (rw is at fields_fit) (rw is at together)) in
+          else_may number kind bits known (λ is. else_fits_lem (WellFormed levels) some (rule class).value (rw is at fields_fit) (rw is at together)) in
           let fits : map_fits (rule class) number kind flags ≡ true =
           rw (tests.0, tests.1, trivia_may trivia-fit ((rule class).located || eqb number 26) (λ e. rw e) (flags % 2) parted.0, parted.1, else-fit)
           (bits_fit (WellFormed levels) some fields_fit) in
@@ -390,15 +390,15 @@ module _ (bytes : List ℕ) (levels : ℕ) (class : Class) (at : ℕ) where
           let place : ℕ = at + 2 + length (stored_trivia trivia) in
           let last : head.trivia.span.end ≡ place = head.trivia.last in
           let found : Own = own_of kind flags head.trivia.span place place 0 in
-          record-found found (own ∙ rw (tests.0, tests.1, last)) head.trivia.same head.trivia.texts (slice_empty place bytes) (unfold accepted_text in refl)
-          (rw (only_fields class found refl, parted.1) (fields-found bytes (WellFormed levels) (read levels bytes) some below fields_fit head.behind))
+          record_found found (own ∙ rw (tests.0, tests.1, last)) head.trivia.same head.trivia.texts (slice_empty place bytes) (unfold accepted_text in refl)
+          (rw (only_fields class found refl, parted.1) (fields_found bytes (WellFormed levels) (read levels bytes) some below fields_fit head.behind))
 
       -- a list
-      list-found : {item : Class} {items : List Tree} {end : ℕ} → (rule class).items ≡ ListOf item → ItemsFit (WellFormed levels) item (at + 4) items
+      list_found : {item : Class} {items : List Tree} {end : ℕ} → (rule class).items ≡ ListOf item → ItemsFit (WellFormed levels) item (at + 4) items
           → Stands bytes at (24 ∷ 0 ∷ (two_bytes (length items) ++ flat (map stored items))) end
           → Found (read (suc levels) bytes class at) (node at [] (Vec (chain items))) end
       unfolding map_fits rest_of parts_due fields_due built
-      list-found {item} {items} {end} of items-fit here =
+      list_found {item} {items} {end} of items-fit here =
           let count : ℕ = length items in
           let head = head_read 24 0 [] (two_bytes count ++ flat (map stored items)) (well.without {located = false}) here in
           let stands : may_stand (rule class) 24 ≡ true = rw of in
@@ -408,20 +408,20 @@ module _ (bytes : List ℕ) (levels : ℕ) (class : Class) (at : ℕ) where
           let number = number_at_lem count parts.0 in
           let last : head.trivia.span.end ≡ at + 2 = omega (arith, head.trivia.last) in
           let place : at + 2 + 2 ≡ at + 4 = omega arith in
-          record-found (own_of variant.Vec 0 head.trivia.span (at + 4) (at + 4) count) (own ∙ rw (last, le-leb (at + 2 + 2) (length bytes) number.1, number.0, place))
+          record_found (own_of variant.Vec 0 head.trivia.span (at + 4) (at + 4) count) (own ∙ rw (last, le-leb (at + 2 + 2) (length bytes) number.1, number.0, place))
           head.trivia.same head.trivia.texts (slice_empty (at + 4) bytes) (unfold accepted_text in refl)
-          (rw of (items-found bytes (WellFormed levels) (read levels bytes) (some_bytes levels) below items-fit (rw place at parts.1)))
+          (rw of (items_found bytes (WellFormed levels) (read levels bytes) (some_bytes levels) below items-fit (rw place at parts.1)))
 
       -- a record of any kind
-      formed-found : {tree : Tree} {end : ℕ} → Formed (WellFormed levels) class at tree → Stands bytes at (stored tree) end → Found (read (suc levels) bytes class at) tree end
+      formed_found : {tree : Tree} {end : ℕ} → Formed (WellFormed levels) class at tree → Stands bytes at (stored tree) end → Found (read (suc levels) bytes class at) tree end
       unfolding built
-      formed-found (well.list {item} {items} of count fits) here = list-found of fits (rw (list_form at items) at here)
-      formed-found (well.leaf {trivia} {text} within trivia-fit text-fit) here =
-          leaf-found text refl refl within trivia-fit (λ e. rw e) text-fit (rw (leaf_form at 25 variant.Leaf trivia text refl refl) at here)
-      formed-found (well.path {trivia} {text} within trivia-fit text-fit) here =
-          leaf-found text refl refl within trivia-fit (λ e. or_right (rule class).located true refl) text-fit (rw (leaf_form at 26 variant.PathItem trivia text refl refl) at here)
-      formed-found (well.fielded {number} {kind} {trivia} {parts} known other within trivia-fit fits together) here =
-          fielded-found known other within trivia-fit fits together
+      formed_found (well.list {item} {items} of count fits) here = list_found of fits (rw (list_form at items) at here)
+      formed_found (well.leaf {trivia} {text} within trivia-fit text-fit) here =
+          leaf_found text refl refl within trivia-fit (λ e. rw e) text-fit (rw (leaf_form at 25 variant.Leaf trivia text refl refl) at here)
+      formed_found (well.path {trivia} {text} within trivia-fit text-fit) here =
+          leaf_found text refl refl within trivia-fit (λ e. or_right (rule class).located true refl) text-fit (rw (leaf_form at 26 variant.PathItem trivia text refl refl) at here)
+      formed_found (well.fielded {number} {kind} {trivia} {parts} known other within trivia-fit fits together) here =
+          fielded_found known other within trivia-fit fits together
           (rw (fielded_form at number kind (rule class).value trivia parts known other (parts_counted fits)) at here)
 
 -- a well-formed tree whose stored form stands at its place is read back
@@ -429,4 +429,4 @@ pub read_back : (levels : ℕ) (bytes : List ℕ) (class : Class) (at end : ℕ)
     → Found (read levels bytes class at) tree end
 unfolding WellFormed
 read_back zero bytes class at end tree formed here = absurd formed
-read_back (suc levels) bytes class at end tree formed here = formed-found bytes levels class at (read_back levels bytes) formed here
+read_back (suc levels) bytes class at end tree formed here = formed_found bytes levels class at (read_back levels bytes) formed here

@@ -38,8 +38,8 @@ use Rattle.tree.specs.declared.own.TriviaSpan.{TriviaSpan}
 use Rattle.tree.specs.declared.own.TriviaRead.TheVariants.{Trivia}
 use Rattle.tree.proofs.Cases.{by_choice, refused_record_lem, broken_behind, both_passed}
 use Rattle.tree.proofs.KindLayout.{kind_number_lem}
-use Rattle.tree.proofs.OwnBytes.{TextHeld, Headed, leaf_number, text_held, item_held, items_held, trivia-cases, own-cases, leaf_other}
-use Rattle.tree.proofs.Readings.{every-reading}
+use Rattle.tree.proofs.OwnBytes.{TextHeld, Headed, leaf_number, text_held, item_held, items_held, trivia_cases, own_cases, leaf_other}
+use Rattle.tree.proofs.Readings.{every_reading}
 use Rattle.tree.proofs.RoundTrip.{round_trip}
 use Rattle.tree_laws.specs.WellFormed.{TriviumFits, EachFits, TriviaFit, TextFits, FieldsFit, ItemsFit, Within, ElseFits, Formed, WellFormed}
 use Rattle.tree_laws.specs.WellFormed as well
@@ -83,11 +83,11 @@ module _ (bytes : List ℕ) (small : AllBytes bytes) where
   -- ---- trivia
 
   -- a trivia item that was read fits, and is stored in the bytes up to the next
-  item-formed : (at end : ℕ) → trivium_end bytes at ≡ Behind end → accepted_text (trivium_text bytes at) ≡ true
+  item_formed : (at end : ℕ) → trivium_end bytes at ≡ Behind end → accepted_text (trivium_text bytes at) ≡ true
       → TriviumFits (record { code = get_or bytes at 0; text = trivium_text bytes at })
       × (at + length (stored_trivium (record { code = get_or bytes at 0; text = trivium_text bytes at })) ≡ trivium_behind bytes at)
   unfolding trivium_end
-  item-formed at end e accepted =
+  item_formed at end e accepted =
       let inside : trivium_behind bytes at ≤ length bytes = (item_held bytes at end e).0.inside in
       by_test (eqb (get_or bytes at 0) 1)
       (λ q.
@@ -113,18 +113,18 @@ module _ (bytes : List ℕ) (small : AllBytes bytes) where
     long : at + length (stored_items (trivia_from bytes at count)) ≡ end
 
   -- they fit
-  items-formed : (at count end : ℕ) → trivia_end bytes at count ≡ Behind end → texts_checked (trivia_texts bytes at count) ≡ Passed → ItemsFormed at count end
+  items_formed : (at count end : ℕ) → trivia_end bytes at count ≡ Behind end → texts_checked (trivia_texts bytes at count) ≡ Passed → ItemsFormed at count end
   unfolding trivia_end trivia_from trivia_texts stored_items
-  items-formed at zero end e accepted =
+  items_formed at zero end e accepted =
       let same : at ≡ end = cc in
       record { each = well.none; counted = refl; long = omega arith }
-  items-formed at (suc count) end e accepted =
+  items_formed at (suc count) end e accepted =
       let item : Trivium = record { code = get_or bytes at 0; text = trivium_text bytes at } in
       let behind-it : ℕ = trivium_behind bytes at in
       let texts = texts_one _ (trivia_texts bytes behind-it count) accepted in
       let first = first_read bytes at count end e in
-      let one = item-formed at first.0 first.1 texts.0 in
-      let rest = items-formed behind-it count end (items_held bytes at count end e).1 texts.1 in
+      let one = item_formed at first.0 first.1 texts.0 in
+      let rest = items_formed behind-it count end (items_held bytes at count end e).1 texts.1 in
       record {
         each = well.next one.0 rest.each;
         counted = ap suc rest.counted;
@@ -132,13 +132,13 @@ module _ (bytes : List ℕ) (small : AllBytes bytes) where
       }
 
   -- trivia that were read fit where they may stand, and end where the record goes on
-  trivia-formed : (at bit : ℕ) (allowed : Bool) → ((bit ≡ 0 → ⊥) → allowed ≡ true) → (trivia : TriviaSpan) → trivia_read bytes at bit ≡ Trivia trivia
+  trivia_formed : (at bit : ℕ) (allowed : Bool) → ((bit ≡ 0 → ⊥) → allowed ≡ true) → (trivia : TriviaSpan) → trivia_read bytes at bit ≡ Trivia trivia
       → texts_checked (trivia_texts bytes trivia.first trivia.count) ≡ Passed
       → TriviaFit allowed (trivia_from bytes trivia.first trivia.count)
       × (at + length (stored_trivia (trivia_from bytes trivia.first trivia.count)) ≡ trivia.end)
   unfolding trivia_from
-  trivia-formed at bit allowed may-stand =
-      trivia-cases bytes at bit
+  trivia_formed at bit allowed may-stand =
+      trivia_cases bytes at bit
       (λ (trivia : TriviaSpan).
       texts_checked (trivia_texts bytes trivia.first trivia.count) ≡ Passed
       → TriviaFit allowed (trivia_from bytes trivia.first trivia.count)
@@ -146,7 +146,7 @@ module _ (bytes : List ℕ) (small : AllBytes bytes) where
       (λ without accepted. (well.without, omega arith))
       (λ end some room count is accepted.
       let items : List Trivium = trivia_from bytes (at + 2) (number_at bytes at) in
-      let formed = items-formed (at + 2) (number_at bytes at) end is accepted in (
+      let formed = items_formed (at + 2) (number_at bytes at) end is accepted in (
         subst (λ (allowed : Bool). TriviaFit allowed items) (sym (may-stand some)) (well.with (omega (arith, formed.counted, number_small at)) formed.each),
         omega (arith, trivia_long items (omega (arith, formed.counted)), formed.long),
       ))
@@ -154,24 +154,24 @@ module _ (bytes : List ℕ) (small : AllBytes bytes) where
   -- ---- a leaf's text
 
   -- a text that was read fits
-  text-formed : (text-rule : TextRule) (at end : ℕ) → text_end bytes at text-rule ≡ Behind end → accepted_text (slice (at + 2) end bytes) ≡ true
+  text_formed : (text-rule : TextRule) (at end : ℕ) → text_end bytes at text-rule ≡ Behind end → accepted_text (slice (at + 2) end bytes) ≡ true
       → TextFits text-rule (slice (at + 2) end bytes)
   unfolding text_end
-  text-formed text-rule at end e accepted =
+  text_formed text-rule at end e accepted =
       by_test (leb (at + 2) (length bytes))
       (λ room. by_choice (eqb (number_at bytes at) 0) _ _ (Behind end) (rw room at e)
       (λ none f. broken_behind f)
-      (λ none f. by-rule text-rule f accepted))
+      (λ none f. by_rule text-rule f accepted))
       (λ room. broken_behind (rw room at e))
     where
-      by-rule : (text-rule : TextRule) → text_on bytes at text-rule (number_at bytes at) ≡ Behind end → accepted_text (slice (at + 2) end bytes) ≡ true
+      by_rule : (text-rule : TextRule) → text_on bytes at text-rule (number_at bytes at) ≡ Behind end → accepted_text (slice (at + 2) end bytes) ≡ true
           → TextFits text-rule (slice (at + 2) end bytes)
-      by-rule NoText f accepted = broken_behind f
-      by-rule Free f accepted =
+      by_rule NoText f accepted = broken_behind f
+      by_rule Free f accepted =
           let held = text_held bytes at end text-rule e in
           let long : length (slice (at + 2) end bytes) ≤ 65535 = rw (length-slice (at + 2) end bytes held.inside) (omega (arith, number_small at)) in
           well.free long accepted
-      by-rule (Byte low high) f accepted =
+      by_rule (Byte low high) f accepted =
           let held = text_held bytes at end text-rule e in
           let byte : ℕ = get_or bytes (at + 2) 0 in
           by_choice (eqb (number_at bytes at) 1 && (ltb (at + 2) (length bytes) && (leb low byte && leb byte high))) _ _ (Behind end) f
@@ -293,12 +293,12 @@ module _ (bytes : List ℕ) (small : AllBytes bytes) (levels : ℕ) (below : (cl
       (rw (laid.0, length-slice at end bytes laid.2) (omega (arith, laid.1)), laid.1)
 
   -- fields that were read fit
-  fields-formed : (slots : List Slot) (bits at : ℕ) → fields_fit slots bits ≡ true → (read_parts (read levels bytes) (fields_due slots bits) at).checked ≡ Passed
+  fields_formed : (slots : List Slot) (bits at : ℕ) → fields_fit slots bits ≡ true → (read_parts (read levels bytes) (fields_due slots bits) at).checked ≡ Passed
       → texts_checked (read_parts (read levels bytes) (fields_due slots bits) at).texts ≡ Passed
       → FieldsFit (WellFormed levels) slots at (read_parts (read levels bytes) (fields_due slots bits) at).trees
   unfolding read_parts fields_due
-  fields-formed [] bits at fits passed accepted = well.none
-  fields-formed (slot ∷ slots) bits at fits passed accepted =
+  fields_formed [] bits at fits passed accepted = well.none
+  fields_formed (slot ∷ slots) bits at fits passed accepted =
       let told = field_told slot slots bits fits in
       by_test (eqb (bits % 2) 1)
       (λ q.
@@ -308,10 +308,10 @@ module _ (bytes : List ℕ) (small : AllBytes bytes) (levels : ℕ) (below : (cl
       let both = both_passed (read levels bytes class at).checked (read_parts (read levels bytes) rest next).checked (rw q at passed) in
       let texts = texts_apart (read levels bytes class at).texts (read_parts (read levels bytes) rest next).texts (rw q at accepted) in
       let others : FieldsFit (WellFormed levels) slots (at + length (stored (read levels bytes class at).tree)) (read_parts (read levels bytes) rest next).trees =
-      rw (part_end class at both.0).0 (fields-formed slots (bits / 2) next told.0 both.1 texts.1) in
+      rw (part_end class at both.0).0 (fields_formed slots (bits / 2) next told.0 both.1 texts.1) in
       rw q (well.standing (below class at both.0 texts.0) others))
       (λ q.
-      rw (q, (told.1 q).1) (well.left_out (fields-formed slots (bits / 2) at told.0 (rw q at passed) (rw q at accepted))))
+      rw (q, (told.1 q).1) (well.left_out (fields_formed slots (bits / 2) at told.0 (rw q at passed) (rw q at accepted))))
 
   -- a field is left out where its bit is clear
   left_out : (slots : List Slot) (bits at place : ℕ) → bits_from place bits % 2 ≡ 0 → get_or (read_parts (read levels bytes) (fields_due slots bits) at).trees place absent ≡ absent
@@ -324,11 +324,11 @@ module _ (bytes : List ℕ) (small : AllBytes bytes) (levels : ℕ) (below : (cl
       (λ q. rw q (left_out slots (bits / 2) at place clear))
 
   -- and only there
-  only-clear : (slots : List Slot) (bits at place : ℕ) → place < length slots → (read_parts (read levels bytes) (fields_due slots bits) at).checked ≡ Passed
+  only_clear : (slots : List Slot) (bits at place : ℕ) → place < length slots → (read_parts (read levels bytes) (fields_due slots bits) at).checked ≡ Passed
       → get_or (read_parts (read levels bytes) (fields_due slots bits) at).trees place absent ≡ absent → bits_from place bits % 2 ≡ 0
   unfolding read_parts fields_due stored_with
-  only-clear [] bits at place inside passed is = absurd (omega arith)
-  only-clear (slot ∷ slots) bits at zero inside passed is =
+  only_clear [] bits at place inside passed is = absurd (omega arith)
+  only_clear (slot ∷ slots) bits at zero inside passed is =
       by_test (eqb (bits % 2) 1)
       (λ q.
       let class : Class = slot_class slot in
@@ -338,40 +338,40 @@ module _ (bytes : List ℕ) (small : AllBytes bytes) (levels : ℕ) (below : (cl
       let here : at + 0 ≡ next = rw left at end.0 in
       absurd (omega (arith, end.1)))
       (λ q. omega (arith, eqb-false (bits % 2) 1 q))
-  only-clear (slot ∷ slots) bits at (suc place) inside passed is =
+  only_clear (slot ∷ slots) bits at (suc place) inside passed is =
       by_test (eqb (bits % 2) 1)
       (λ q.
       let class : Class = slot_class slot in
       let next : ℕ = (read levels bytes class at).end in
-      only-clear slots (bits / 2) next place (omega arith)
+      only_clear slots (bits / 2) next place (omega arith)
       (both_passed (read levels bytes class at).checked (read_parts (read levels bytes) (fields_due slots (bits / 2)) next).checked (rw q at passed)).1 (rw q at is))
-      (λ q. only-clear slots (bits / 2) at place (omega arith) (rw q at passed) (rw q at is))
+      (λ q. only_clear slots (bits / 2) at place (omega arith) (rw q at passed) (rw q at is))
 
   -- `tag_else` and `else_` that were read stand together
-  else-formed : (number : ℕ) (kind : Kind) (value : Class) (bits at : ℕ) → kind_of number ≡ Known kind → else_fits number bits ≡ true
+  else_formed : (number : ℕ) (kind : Kind) (value : Class) (bits at : ℕ) → kind_of number ≡ Known kind → else_fits number bits ≡ true
       → (read_parts (read levels bytes) (fields_due (fields kind value) bits) at).checked ≡ Passed
       → ElseFits kind (read_parts (read levels bytes) (fields_due (fields kind value) bits) at).trees
-  else-formed number kind value bits at known fits passed is =
+  else_formed number kind value bits at known fits passed is =
       let slots : List Slot = fields kind value in
       let same = else_told number kind bits known fits is in
       let five : length slots ≡ 5 = rw is in (
-        λ left. left_out slots bits at 4 (sym same ∙ only-clear slots bits at 3 (omega arith) passed left),
-        λ left. left_out slots bits at 3 (same ∙ only-clear slots bits at 4 (omega arith) passed left),
+        λ left. left_out slots bits at 4 (sym same ∙ only_clear slots bits at 3 (omega arith) passed left),
+        λ left. left_out slots bits at 3 (same ∙ only_clear slots bits at 4 (omega arith) passed left),
       )
 
   -- items that were read fit
-  list-formed : (class : Class) (count at : ℕ) → (read_parts (read levels bytes) (replicate count (due class)) at).checked ≡ Passed
+  list_formed : (class : Class) (count at : ℕ) → (read_parts (read levels bytes) (replicate count (due class)) at).checked ≡ Passed
       → texts_checked (read_parts (read levels bytes) (replicate count (due class)) at).texts ≡ Passed
       → ItemsFit (WellFormed levels) class at (read_parts (read levels bytes) (replicate count (due class)) at).trees
       × (length (read_parts (read levels bytes) (replicate count (due class)) at).trees ≡ count)
   unfolding read_parts
-  list-formed class zero at passed accepted = (well.none, refl)
-  list-formed class (suc count) at passed accepted =
+  list_formed class zero at passed accepted = (well.none, refl)
+  list_formed class (suc count) at passed accepted =
       let next : ℕ = (read levels bytes class at).end in
       let rest : List Due = replicate count (due class) in
       let both = both_passed (read levels bytes class at).checked (read_parts (read levels bytes) rest next).checked passed in
       let texts = texts_apart (read levels bytes class at).texts (read_parts (read levels bytes) rest next).texts accepted in
-      let others = list-formed class count next both.1 texts.1 in
+      let others = list_formed class count next both.1 texts.1 in
       let fit : ItemsFit (WellFormed levels) class (at + length (stored (read levels bytes class at).tree)) (read_parts (read levels bytes) rest next).trees =
       rw (part_end class at both.0).0 others.0 in
       (well.next (below class at both.0 texts.0) fit, ap suc others.1)
@@ -387,10 +387,10 @@ module _ (bytes : List ℕ) (small : AllBytes bytes) (levels : ℕ) (below : (cl
         → WellFormed (suc levels) class at (record_of bytes at own (read_parts (read levels bytes) (parts_due class own) own.end)).tree
 
     -- a list
-    list-own : (kind : Kind) (trivia : TriviaSpan) → Headed bytes at class kind trivia → get_or bytes at 0 ≡ 24 → trivia.end + 2 ≤ length bytes
+    list_own : (kind : Kind) (trivia : TriviaSpan) → Headed bytes at class kind trivia → get_or bytes at 0 ≡ 24 → trivia.end + 2 ≤ length bytes
         → FormedOwn (own_of kind (get_or bytes (at + 1) 0) trivia (trivia.end + 2) (trivia.end + 2) (number_at bytes trivia.end))
     unfolding WellFormed parts_due fields_due built map_fits trivia_from trivia_read
-    list-own kind trivia headed is room own passed texts =
+    list_own kind trivia headed is room own passed texts =
         let known : kind_of 24 ≡ Known kind = rw is at headed.kind_is in
         let same : kind ≡ variant.Vec = cc in
         let empty : get_or bytes (at + 1) 0 ≡ 0 = eqb-true (get_or bytes (at + 1) 0) 0 (rw is at headed.fits) in
@@ -399,7 +399,7 @@ module _ (bytes : List ℕ) (small : AllBytes bytes) (levels : ℕ) (below : (cl
         let last : trivia.end ≡ at + 2 = cc in
         let listed = list_class_lem (rule class).items (rw is at headed.standing) in
         let count : ℕ = number_at bytes trivia.end in
-        let items = list-formed listed.0 count (trivia.end + 2) (rw (same, listed.1) at passed) (rw (same, listed.1) at texts.parts) in
+        let items = list_formed listed.0 count (trivia.end + 2) (rw (same, listed.1) at passed) (rw (same, listed.1) at texts.parts) in
         let trees : List Tree = (read_parts (read levels bytes) (replicate count (due listed.0)) (trivia.end + 2)).trees in
         let few : length trees ≤ 65535 = rw items.1 (number_small bytes small trivia.end) in
         let behind-count : trivia.end + 2 ≡ at + 4 = omega arith in
@@ -407,11 +407,11 @@ module _ (bytes : List ℕ) (small : AllBytes bytes) (levels : ℕ) (below : (cl
         rw (same, no_items, listed.1) (well.list listed.1 few fit)
 
     -- a leaf or path item whose text fits
-    leaf-formed : (kind : Kind) (trivia : TriviaSpan) (text : List ℕ) (parts : List Tree) → Headed bytes at class kind trivia → leaf_number (get_or bytes at 0) ≡ true
+    leaf_formed : (kind : Kind) (trivia : TriviaSpan) (text : List ℕ) (parts : List Tree) → Headed bytes at class kind trivia → leaf_number (get_or bytes at 0) ≡ true
         → texts_checked (trivia_texts bytes trivia.first trivia.count) ≡ Passed → TextFits (rule class).text text
         → Formed (WellFormed levels) class at (node at (trivia_from bytes trivia.first trivia.count) (built kind text parts))
     unfolding built
-    leaf-formed kind trivia text parts headed leaf accepted fits =
+    leaf_formed kind trivia text parts headed leaf accepted fits =
         let number : ℕ = get_or bytes at 0 in
         let flags : ℕ = get_or bytes (at + 1) 0 in
         let other = leaf_other number leaf in
@@ -422,32 +422,32 @@ module _ (bytes : List ℕ) (small : AllBytes bytes) (levels : ℕ) (below : (cl
         let is : number ≡ 25 = eqb-true number 25 q in
         let known : kind_of 25 ≡ Known kind = rw is at headed.kind_is in
         let same : kind ≡ variant.Leaf = cc in
-        let trivia-fit = trivia-formed bytes small (at + 2) (flags % 2) (rule class).located
+        let trivia-fit = trivia_formed bytes small (at + 2) (flags % 2) (rule class).located
         (λ some. or_left (rule class).located (eqb number 26) (trivia_told (rule class) number flags told.0 some) (rw is)) trivia headed.trivia_is accepted in
         rw same (well.leaf (rw is at within) trivia-fit.0 fits))
         (λ q.
         let is : number ≡ 26 = eqb-true number 26 (rw q at leaf) in
         let known : kind_of 26 ≡ Known kind = rw is at headed.kind_is in
         let same : kind ≡ variant.PathItem = cc in
-        rw same (well.path (rw is at within) (trivia-formed bytes small (at + 2) (flags % 2) true (λ some. refl) trivia headed.trivia_is accepted).0 fits))
+        rw same (well.path (rw is at within) (trivia_formed bytes small (at + 2) (flags % 2) true (λ some. refl) trivia headed.trivia_is accepted).0 fits))
 
     -- a leaf with its text
-    text-own : (kind : Kind) (trivia : TriviaSpan) (end : ℕ) → Headed bytes at class kind trivia → leaf_number (get_or bytes at 0) ≡ true
+    text_own : (kind : Kind) (trivia : TriviaSpan) (end : ℕ) → Headed bytes at class kind trivia → leaf_number (get_or bytes at 0) ≡ true
         → 2 ≤ get_or bytes (at + 1) 0 → TextHeld bytes trivia.end end
         → FormedOwn (own_of kind (get_or bytes (at + 1) 0) trivia (trivia.end + 2) end 0)
     unfolding WellFormed rest_of
-    text-own kind trivia end headed leaf high held own passed texts =
+    text_own kind trivia end headed leaf high held own passed texts =
         let number : ℕ = get_or bytes at 0 in
         let flags : ℕ = get_or bytes (at + 1) 0 in
         let rest = rw (leaf_other number leaf, leaf, le-leb 2 flags high) at (sym (own_read levels headed) ∙ own) in
         let is : text_end bytes trivia.end (rule class).text ≡ Behind end = leaf_end at kind flags trivia end (text_end bytes trivia.end (rule class).text) rest in
-        leaf-formed kind trivia (slice (trivia.end + 2) end bytes) _ headed leaf texts.trivia (text-formed bytes small (rule class).text trivia.end end is texts.text)
+        leaf_formed kind trivia (slice (trivia.end + 2) end bytes) _ headed leaf texts.trivia (text_formed bytes small (rule class).text trivia.end end is texts.text)
 
     -- a record with fields
-    fielded-own : (kind : Kind) (trivia : TriviaSpan) → Headed bytes at class kind trivia → eqb (get_or bytes at 0) 24 ≡ false → leaf_number (get_or bytes at 0) ≡ false
+    fielded_own : (kind : Kind) (trivia : TriviaSpan) → Headed bytes at class kind trivia → eqb (get_or bytes at 0) 24 ≡ false → leaf_number (get_or bytes at 0) ≡ false
         → FormedOwn (own_of kind (get_or bytes (at + 1) 0) trivia trivia.end trivia.end 0)
     unfolding WellFormed
-    fielded-own kind trivia headed list leaf own passed texts =
+    fielded_own kind trivia headed list leaf own passed texts =
         let number : ℕ = get_or bytes at 0 in
         let flags : ℕ = get_or bytes (at + 1) 0 in
         let slots : List Slot = fields kind (rule class).value in
@@ -455,38 +455,38 @@ module _ (bytes : List ℕ) (small : AllBytes bytes) (levels : ℕ) (below : (cl
         let fits = told.2 leaf in
         let only = only_fields class (own_of kind flags trivia trivia.end trivia.end 0) refl in
         let passed-fields : (read_parts (read levels bytes) (fields_due slots (flags / 2)) trivia.end).checked ≡ Passed = rw only at passed in
-        let trivia-fit = trivia-formed bytes small (at + 2) (flags % 2) (rule class).located
+        let trivia-fit = trivia_formed bytes small (at + 2) (flags % 2) (rule class).located
         (λ some. or_left (rule class).located (eqb number 26) (trivia_told (rule class) number flags told.0 some) (leaf_told number leaf).1) trivia headed.trivia_is texts.trivia in
         let trees : List Tree = (read_parts (read levels bytes) (fields_due slots (flags / 2)) trivia.end).trees in
         let parts-fit : FieldsFit (WellFormed levels) slots (at + 2 + length (stored_trivia (trivia_from bytes trivia.first trivia.count))) trees =
-        rw trivia-fit.1 (fields-formed slots (flags / 2) trivia.end fits.1 passed-fields (rw only at texts.parts)) in
+        rw trivia-fit.1 (fields_formed slots (flags / 2) trivia.end fits.1 passed-fields (rw only at texts.parts)) in
         rw (only, slice_empty trivia.end bytes)
         (well.fielded headed.kind_is (other_told number list leaf) (within_told class number headed.standing list) trivia-fit.0 parts-fit
-        (else-formed number kind (rule class).value (flags / 2) trivia.end headed.kind_is fits.0 passed-fields))
+        (else_formed number kind (rule class).value (flags / 2) trivia.end headed.kind_is fits.0 passed-fields))
 
     -- any other record
-    other-own : (kind : Kind) (trivia : TriviaSpan) → Headed bytes at class kind trivia → eqb (get_or bytes at 0) 24 ≡ false
+    other_own : (kind : Kind) (trivia : TriviaSpan) → Headed bytes at class kind trivia → eqb (get_or bytes at 0) 24 ≡ false
         → (leaf_number (get_or bytes at 0) && leb 2 (get_or bytes (at + 1) 0)) ≡ false
         → FormedOwn (own_of kind (get_or bytes (at + 1) 0) trivia trivia.end trivia.end 0)
     unfolding WellFormed
-    other-own kind trivia headed list no_text =
+    other_own kind trivia headed list no_text =
         by_test (leaf_number (get_or bytes at 0))
         (λ leaf own passed texts.
         let flags : ℕ = get_or bytes (at + 1) 0 in
         let bit = (map_told (rule class) (get_or bytes at 0) kind flags headed.fits list).1 leaf in
         let none : flags / 2 ≡ 0 = omega (arith, leb-false 2 flags (rw leaf at no_text)) in
-        leaf-formed kind trivia (slice trivia.end trivia.end bytes) _ headed leaf texts.trivia
+        leaf_formed kind trivia (slice trivia.end trivia.end bytes) _ headed leaf texts.trivia
         (rw (slice_empty trivia.end bytes) (no_text_fits (rule class).text (rw none at bit))))
-        (λ leaf. fielded-own kind trivia headed list leaf)
+        (λ leaf. fielded_own kind trivia headed list leaf)
 
 -- a tree that was read without refusal, whose texts are accepted, is well formed
 pub read_formed : (levels : ℕ) (bytes : List ℕ) → AllBytes bytes → (class : Class) (at : ℕ) → (read levels bytes class at).checked ≡ Passed
     → texts_checked (read levels bytes class at).texts ≡ Passed → WellFormed levels class at (read levels bytes class at).tree
 read_formed levels bytes small =
-    every-reading bytes FormedRead
+    every_reading bytes FormedRead
     (λ levels class at reader why passed. failed_passed passed)
     (λ levels class at own is below passed accepted.
-    own-cases bytes at class (FormedOwn bytes small levels below class at) (list-own bytes small levels below class at) (text-own bytes small levels below class at)
-    (other-own bytes small levels below class at) (suc levels) own is is passed
+    own_cases bytes at class (FormedOwn bytes small levels below class at) (list_own bytes small levels below class at) (text_own bytes small levels below class at)
+    (other_own bytes small levels below class at) (suc levels) own is is passed
     (own_texts bytes own (read_parts (read levels bytes) (parts_due class own) own.end).texts accepted))
     levels

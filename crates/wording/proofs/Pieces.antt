@@ -89,29 +89,29 @@ digits_more (suc most) n line some large is front back =
 
 module _ (bytes : List ℕ) (i : ℕ) (line : Line) where
   -- a byte, and what stands behind it
-  pub shown-next : i < length bytes → {next : Line} → next ≡ puts (shown (get_or bytes i 0) ∷ []) line
+  pub shown_next : i < length bytes → {next : Line} → next ≡ puts (shown (get_or bytes i 0) ∷ []) line
       → puts (map shown (drop i bytes)) line ≡ puts (map shown (drop (i + 1) bytes)) next
   unfolding puts
-  shown-next within done = rw (drop_step bytes i within, done)
+  shown_next within done = rw (drop_step bytes i within, done)
 
   -- none is left
-  pub shown-last : length bytes ≤ i → puts (map shown (drop i bytes)) line ≡ line
+  pub shown_last : length bytes ≤ i → puts (map shown (drop i bytes)) line ≡ line
   unfolding puts
-  shown-last past = rw (drop_of_length-le bytes past)
+  shown_last past = rw (drop_of_length-le bytes past)
 
 -- ---- trivia
 
 module _ (bytes : List ℕ) (at left : ℕ) (line : Line) where
   -- where no item is left nothing is put
-  pub trivia-left : left ≤ 0 → puts (trivia (items_at bytes at left)) line ≡ line
+  pub trivia_left : left ≤ 0 → puts (trivia (items_at bytes at left)) line ≡ line
   unfolding puts trivia
-  trivia-left none = rw (items_none bytes at left none)
+  trivia_left none = rw (items_none bytes at left none)
 
   module _ (some : 0 < left) {found : TriviumRead} (same : found ≡ trivium_at bytes at) where
     -- nor before an item that breaks the layout
-    pub trivia-broken : found ≡ BrokenItem → puts (trivia (items_at bytes at left)) line ≡ line
+    pub trivia_broken : found ≡ BrokenItem → puts (trivia (items_at bytes at left)) line ≡ line
     unfolding puts trivia
-    trivia-broken told = rw (items_next bytes at left some same BrokenItem told)
+    trivia_broken told = rw (items_next bytes at left some same BrokenItem told)
 
     -- an item is put, and those behind it go on from there
     pub trivia_next : (item : TriviumSpan) → found ≡ Item item → {next : Line} → next ≡ puts (trivium (item_of bytes item)) line
@@ -123,21 +123,21 @@ module _ (bytes : List ℕ) (at left : ℕ) (line : Line) where
 
 module _ (bytes : List ℕ) (at left : ℕ) (line : Line) where
   -- where no item is left nothing is put
-  pub comments-left : left ≤ 0 → puts (comments (items_at bytes at left)) line ≡ line
+  pub comments_left : left ≤ 0 → puts (comments (items_at bytes at left)) line ≡ line
   unfolding puts comments
-  comments-left none = rw (items_none bytes at left none)
+  comments_left none = rw (items_none bytes at left none)
 
   module _ (some : 0 < left) {found : TriviumRead} (same : found ≡ trivium_at bytes at) where
     -- nor before an item that breaks the layout
-    pub comments-broken : found ≡ BrokenItem → puts (comments (items_at bytes at left)) line ≡ line
+    pub comments_broken : found ≡ BrokenItem → puts (comments (items_at bytes at left)) line ≡ line
     unfolding puts comments
-    comments-broken told = rw (items_next bytes at left some same BrokenItem told)
+    comments_broken told = rw (items_next bytes at left some same BrokenItem told)
 
     -- an item's comment is put, and those behind it go on from there
-    pub comments-next : (item : TriviumSpan) → found ≡ Item item → {next : Line} → next ≡ puts (comment (item_of bytes item)) line
+    pub comments_next : (item : TriviumSpan) → found ≡ Item item → {next : Line} → next ≡ puts (comment (item_of bytes item)) line
         → puts (comments (items_at bytes at left)) line ≡ puts (comments (items_at bytes item.end (left - 1))) next
     unfolding comments
-    comments-next item told done = rw (items_next bytes at left some same (Item item) told, done) (puts_append _ _ line)
+    comments_next item told done = rw (items_next bytes at left some same (Item item) told, done) (puts_append _ _ line)
 
 -- ---- letters
 

@@ -77,26 +77,26 @@ size_named reason =
     )
 
 module _ (place : ℕ) (tree options : List ℕ) (work text : ℕ) where
-  in-options : size (in_options options place) ≤ 123
+  in_options_lem : size (in_options options place) ≤ 123
   unfolding flat ascii
-  in-options = omega (arith, size_append (say " of the options") (standing options place), size_standing options place)
+  in_options_lem = omega (arith, size_append (say " of the options") (standing options place), size_standing options place)
 
-  in-tree : size (in_tree tree place) ≤ 123
+  in_tree_lem : size (in_tree tree place) ≤ 123
   unfolding flat ascii
-  in-tree = omega (arith, size_append (say " of the tree") (standing tree place), size_standing tree place)
+  in_tree_lem = omega (arith, size_append (say " of the tree") (standing tree place), size_standing tree place)
 
   -- what a place means
-  size-meaning : (reason : Reason) → size (meaning reason place tree options work text) ≤ 123
+  size_meaning : (reason : Reason) → size (meaning reason place tree options work text) ≤ 123
   unfolding flat ascii meaning
-  size-meaning OptionsLength = in-options
-  size-meaning OptionsValue = in-options
-  size-meaning TreeLength = in-tree
-  size-meaning TreeDepth = in-tree
-  size-meaning TreeLayout = in-tree
-  size-meaning ChunkLayout = omega arith
-  size-meaning NotAscii = in-tree
-  size-meaning WorkRoom = omega (arith, size_append at_push (limited work), size_limited work)
-  size-meaning TextRoom = omega (arith, size_append (say " is how many bytes the text needs") (limited text), size_limited text)
+  size_meaning OptionsLength = in_options_lem
+  size_meaning OptionsValue = in_options_lem
+  size_meaning TreeLength = in_tree_lem
+  size_meaning TreeDepth = in_tree_lem
+  size_meaning TreeLayout = in_tree_lem
+  size_meaning ChunkLayout = omega arith
+  size_meaning NotAscii = in_tree_lem
+  size_meaning WorkRoom = omega (arith, size_append at_push (limited work), size_limited work)
+  size_meaning TextRoom = omega (arith, size_append (say " is how many bytes the text needs") (limited text), size_limited text)
 
 -- the whole sentence
 pub size_sentence : (refusal : Refusal) (tree options : List ℕ) (work text : ℕ) → length (flat (sentence refusal tree options work text)) ≤ 200
@@ -113,5 +113,5 @@ size_sentence refusal tree options work text =
       size_append means (say ".\n"),
       size_named refusal.reason,
       size_digits 20 refusal.place,
-      size-meaning refusal.place tree options work text refusal.reason,
+      size_meaning refusal.place tree options work text refusal.reason,
     )

@@ -8,10 +8,10 @@ use Rattle.exports.proofs.felgutrosa_chunks.Goals as goal
 pub packed-requires : goal.packed-requires
 packed-requires c =
     let said = c.chunks.ensures in
-    chunks_answer_lem _ _ _ _ _ said.0 said.1.0
+    chunks_answer_lem _ _ _ _ _ said.answer said.stored
 
 pub returns : goal.returns
 returns c =
     let said = c.chunks.ensures in
-    let told = (c.packed.ensures ∙ ap packed_of said.0, (chunks_answer_lem _ _ _ _ _ refl said.1.0, (said.1.0, said.1.1.0))) in
-    record { answer = told.0; small = told.1; stored = told.2; room = told.3 }
+    let told = (c.packed.ensures ∙ ap packed_of said.answer, (chunks_answer_lem _ _ _ _ _ refl said.stored, (said.stored, said.room))) in
+    record { answer = told.0; small = told.1.0; stored = told.1.1.0; room = told.1.1.1 }

@@ -8,10 +8,10 @@ use Rattle.exports.proofs.felgutrosa_format.Goals as goal
 pub packed-requires : goal.packed-requires
 packed-requires c =
     let said = c.format.ensures in
-    format_answer _ _ _ _ _ said.0 said.1.1.1.0
+    format_answer _ _ _ _ _ said.answer said.demands
 
 pub returns : goal.returns
 returns c =
     let said = c.format.ensures in
-    let told = (c.packed.ensures ∙ ap packed_of said.0, (format_answer _ _ _ _ _ refl said.1.1.1.0, (said.1.0, (said.1.1.0, said.1.1.1.0)))) in
-    record { answer = told.0; small = told.1; buffer = told.2; work = told.3; demands = told.4 }
+    let told = (c.packed.ensures ∙ ap packed_of said.answer, (format_answer _ _ _ _ _ refl said.demands, (said.buffer, (said.work, said.demands)))) in
+    record { answer = told.0; small = told.1.0; buffer = told.1.1.0; work = told.1.1.1.0; demands = told.1.1.1.1 }

@@ -7,15 +7,15 @@ use borrow.Author.Rules.{rules}
 use Rattle.exports.proofs.felgutrosa_lost.Goals as goal
 
 pub loss_answer-requires : goal.loss_answer-requires
-loss_answer-requires c = c.lost-loss.ensures.narrow.0
+loss_answer-requires c = c.lost-loss.ensures.narrow
 
 pub packed-requires : goal.packed-requires
-packed-requires c = let lost = c.lost-loss.ensures in rw c.loss_answer.ensures (lost_answer _ _ _ lost.0 lost.1.0)
+packed-requires c = let lost = c.lost-loss.ensures in rw c.loss_answer.ensures (lost_answer _ _ _ lost.answer lost.narrow)
 
 pub returns : goal.returns
 returns c =
     let lost = c.lost-loss.ensures in
-    let answered = c.loss_answer.ensures ∙ ap loss_answer lost.0 in
-    let narrow = rw lost.0 at lost.1.0 in
+    let answered = c.loss_answer.ensures ∙ ap loss_answer lost.answer in
+    let narrow = rw lost.answer at lost.narrow in
     let told = (c.packed.ensures ∙ ap packed_of answered, (lost_answer _ _ _ refl narrow, narrow)) in
-    record { answer = told.0; small = told.1; narrow = told.2 }
+    record { answer = told.0; small = told.1.0; narrow = told.1.1 }

@@ -2,7 +2,7 @@
 use Rattle.printing.proofs.Running.{refused_before, done_before}
 use Rattle.leads.specs.Leads.{before_of}
 use Rattle.leaves.proofs.Leaves.{own_items, full_refused}
-use Rattle.leads.proofs.Leads.{closing-stopped, closing-shown}
+use Rattle.leads.proofs.Leads.{closing_stopped, closing_shown}
 use borrow.Author.Rules.{rules}
 use Rattle.leads.proofs.format_lead_out.Goals as goal
 
@@ -15,12 +15,12 @@ returns-then-state-ne0 c = done_before c.in-Done.is (full_refused _ c.finish.ens
 pub returns-in_default-found : goal.returns-in_default-found
 returns-in_default-found c =
     done_before c.in-Done.is
-    (closing-stopped _ _ _ c.args.context c.args.drops (before_of c.args.stood) _ _
+    (closing_stopped _ _ _ c.args.context c.args.drops (before_of c.args.stood) _ _
     c.read_own-found.ensures.answer c.in_default-found.is c.refusal_of.ensures c.if-state-ne0.false)
 
 pub returns : goal.returns
 returns c =
     done_before c.in-Done.is
-    (closing-shown _ _ _ c.args.context c.args.drops (before_of c.args.stood) _ _ _ _ _
-    c.read_own-found.ensures.answer c.in-Record.is (own_items _ _ _ c.read_own-found.ensures.fits.0 c.in-Record.is)
+    (closing_shown _ _ _ c.args.context c.args.drops (before_of c.args.stood) _ _ _ _ _
+    c.read_own-found.ensures.answer c.in-Record.is (own_items _ _ _ c.read_own-found.ensures.fits c.in-Record.is)
     c.list_trivia-shown.ensures c.break_before-next.ensures c.finish-2.ensures.answer)

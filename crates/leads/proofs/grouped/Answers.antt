@@ -53,6 +53,6 @@ pub returns-in_default : goal.returns-in_default
 unfolding one_of
 returns-in_default c =
     let previous = c.args.previous in
-    let others = c.in_default.rest in
+    let others = c.in_default.in_default-own.rest in
     rw (ne_eqb _ _ others.1, ne_eqb _ _ others.0.1, ne_eqb _ _ others.0.0.1, ne_eqb _ _ others.0.0.0.1, ne_eqb _ _ others.0.0.0.0.1, ne_eqb _ _ others.0.0.0.0.0.1)
     (sym (only_none (one_of previous (1 ∷ 22 ∷ [])) (one_of previous (5 ∷ 21 ∷ [])) (one_of previous (13 ∷ 17 ∷ []))))

@@ -5,7 +5,7 @@ use lib.ListN.{length}
 use borrow.Author.Rules.{rules}
 use Rattle.tree.specs.Walk.{plan_size}
 use Rattle.tree.proofs.Planning.{rest_less}
-use Rattle.tree.proofs.Records.{level-left}
+use Rattle.tree.proofs.Records.{level_left}
 use Prim.Native.Nat.{ℕ, ◌<◌}
 use borrow.Fn.Kinds.{In}
 use borrow.Fn.PlainCycle.{Measures, is, falls, and}
@@ -280,7 +280,7 @@ show-record-sub-show-record : (t : ℕ) → show-record-lts.Need-overflow-sub-sh
 show-record-sub-show-record t c =
     let turn = c.before.before.before.before in
     let own = turn.before.before.before.before.before.before.before.before.before in
-    omega (arith, level-left _ _ _ _ _ own.before.before.read-own.ensures.0 _ own.read.given.1)
+    omega (arith, level_left _ _ _ _ _ own.before.before.read-own.ensures.0 _ own.read.given.1)
 
 show-record-show-record-requires : (t : ℕ) → show-record-lts.Need-show-record-requires (
   read-own-reads.Asked,
@@ -300,7 +300,7 @@ show-record-show-record-requires t c κs =
     let turn = c.before.before.before.before.before in
     let own = turn.before.before.before.before.before.before.before.before.before in
     let start = own.before.before.before.before.before in
-    let left = level-left _ _ _ _ _ own.before.before.read-own.ensures.0 _ own.read.given.1 in
+    let left = level_left _ _ _ _ _ own.before.before.read-own.ensures.0 _ own.read.given.1 in
     (omega (arith, left, start.requires.0), omega (arith, left, start.requires.1))
 
 show-record-loop-less : (t : ℕ) → show-record-lts.Need-loop-smaller (

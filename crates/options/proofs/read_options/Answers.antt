@@ -10,7 +10,7 @@ pub returns-then-length-eq0 : goal.returns-then-length-eq0
 unfolding read_options
 returns-then-length-eq0 c =
     let told = read_numbers_lem _ (simp (eq-eqb _ _ c.if-length-eq0.true)) tt in
-    record { answer = told.0; narrow = told.1; numbers = told.2 }
+    record { answer = told.0; narrow = told.1.0; numbers = told.1.1 }
 
 pub returns-then-length-place_of : goal.returns-then-length-place_of
 unfolding read_options
@@ -23,7 +23,7 @@ returns-then-length-place_of c =
       ne_eqb _ _ c.if-length-place_of.true,
     ))
     tt in
-    record { answer = told.0; narrow = told.1; numbers = told.2 }
+    record { answer = told.0; narrow = told.1.0; numbers = told.1.1 }
 
 pub returns-in-Failed : goal.returns-in-Failed
 unfolding read_options
@@ -38,7 +38,7 @@ returns-in-Failed c =
       c.in-Failed.is,
     ))
     tt in
-    record { answer = told.0; narrow = told.1; numbers = told.2 }
+    record { answer = told.0; narrow = told.1.0; numbers = told.1.1 }
 
 pub returns : goal.returns
 unfolding read_options stored_options
@@ -47,7 +47,7 @@ returns c =
     let made = c.stored_options.ensures in
     let told = read_numbers_lem _
     (simp (
-      made.0,
+      made.answer,
       ne_eqb _ _ c.if-length-eq0.false,
       ← c.byte_at-map.ensures.0,
       ← c.place_of.ensures.0,
@@ -55,9 +55,9 @@ returns c =
       passed,
     ))
     (record {
-      indent = rw made.0 (indent_small c.args.stored.now passed);
-      label = made.1.0;
-      code = made.1.1;
-      listing = made.1.2;
+      indent = rw made.answer (indent_small c.args.stored.now passed);
+      label = made.narrow.0;
+      code = made.narrow.1;
+      listing = made.narrow.2;
     }) in
-    record { answer = told.0; narrow = told.1; numbers = told.2 }
+    record { answer = told.0; narrow = told.1.0; numbers = told.1.1 }

@@ -7,14 +7,14 @@ use Rattle.tokens.proofs.chunks_in_one_pass.Goals as goal
 
 pub one_pass_with-requires : goal.one_pass_with-requires
 one_pass_with-requires c =
-    rw c.in-Options.is at c.read_options-read.ensures.narrow.0
+    rw c.in-Options.is at c.read_options-read.ensures.narrow
 
 pub returns-in-Options : goal.returns-in-Options
 unfolding chunks_held one_pass_room
 returns-in-Options c =
     let same = sym c.read_options-read.ensures.answer ∙ c.in-Options.is in
     let said = c.one_pass_with.ensures in
-    rw same (said.0, (said.1.0, (said.1.1, held_numbers _ said.0)))
+    rw same (said.answer, (said.stored, (said.room, held_numbers _ said.answer)))
 
 pub returns-in-Refused : goal.returns-in-Refused
 unfolding chunks_held one_pass_room

@@ -1,17 +1,17 @@
 -- A tree that is not accepted is refused before anything is pushed; else the walk showed what is held.
 use mathlib.Core.Path.{sym, ◌∙◌}
-use Rattle.tokens.proofs.Whole.{whole-failed, whole-walked}
+use Rattle.tokens.proofs.Whole.{whole_failed, whole_walked}
 use borrow.Author.Rules.{rules}
 use Rattle.tokens.proofs.chunks_with.Goals as goal
 
 pub returns-in-Failed : goal.returns-in-Failed
 returns-in-Failed c =
-    let whole = whole-failed _ _ _ _ (sym c.check_tree-checked.ensures.answer ∙ c.in-Failed.is) in
+    let whole = whole_failed _ _ _ _ (sym c.check_tree-checked.ensures.answer ∙ c.in-Failed.is) in
     let told = (whole.answered, (whole.holds, whole.whole)) in
-    record { answer = told.0; stored = told.1; room = told.2 }
+    record { answer = told.0; stored = told.1.0; room = told.1.1 }
 
 pub returns : goal.returns
 returns c =
-    let whole = whole-walked _ _ _ c.requires (sym c.check_tree-checked.ensures.answer ∙ c.in_default.is) c.walk_file-printed.ensures in
+    let whole = whole_walked _ _ _ c.requires (sym c.check_tree-checked.ensures.answer ∙ c.in_default.is) c.walk_file-printed.ensures in
     let told = (c.printed_answer.ensures ∙ whole.answered, (whole.holds, whole.whole)) in
-    record { answer = told.0; stored = told.1; room = told.2 }
+    record { answer = told.0; stored = told.1.0; room = told.1.1 }

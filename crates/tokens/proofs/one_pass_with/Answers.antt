@@ -1,35 +1,35 @@
 -- The walk showed the file's events. Where that settles that the tree is accepted, or the check passes it, they are what is held.
 use mathlib.Core.Path.{sym, ◌∙◌}
-use Rattle.tokens.proofs.OnePass.{pass-unsized, pass-failed, pass-passed, pass-settled}
+use Rattle.tokens.proofs.OnePass.{pass_unsized, pass_failed, pass_passed, pass_settled}
 use borrow.Author.Rules.{rules}
 use Rattle.tokens.proofs.one_pass_with.Goals as goal
 
 pub returns-in-Failed : goal.returns-in-Failed
 returns-in-Failed c =
-    let pass = pass-unsized _ _ _ _ (sym c.check_length-sized.ensures.answer ∙ c.in-Failed.is) in
+    let pass = pass_unsized _ _ _ _ (sym c.check_length-sized.ensures.answer ∙ c.in-Failed.is) in
     let told = (pass.answered, (pass.holds, pass.whole)) in
-    record { answer = told.0; stored = told.1; room = told.2 }
+    record { answer = told.0; stored = told.1.0; room = told.1.1 }
 
 pub returns-then-settles : goal.returns-then-settles
 returns-then-settles c =
     let pass =
-    pass-settled _ _ _ c.requires (sym c.check_length-sized.ensures.answer ∙ c.in_default.is) c.walk_file-printed.ensures
+    pass_settled _ _ _ c.requires (sym c.check_length-sized.ensures.answer ∙ c.in_default.is) c.walk_file-printed.ensures
     (sym c.settles.ensures ∙ c.if-settles.true) in
     let told = (c.printed_answer-answer.ensures ∙ pass.answered, (pass.holds, pass.whole)) in
-    record { answer = told.0; stored = told.1; room = told.2 }
+    record { answer = told.0; stored = told.1.0; room = told.1.1 }
 
 pub returns-in-Failed-checked : goal.returns-in-Failed-checked
 returns-in-Failed-checked c =
     let pass =
-    pass-failed _ _ _ c.requires (sym c.check_length-sized.ensures.answer ∙ c.in_default.is) c.walk_file-printed.ensures
+    pass_failed _ _ _ c.requires (sym c.check_length-sized.ensures.answer ∙ c.in_default.is) c.walk_file-printed.ensures
     _ (sym c.check_tree-checked.ensures.answer ∙ c.in-Failed-checked.is) in
     let told = (pass.answered, (pass.holds, pass.whole)) in
-    record { answer = told.0; stored = told.1; room = told.2 }
+    record { answer = told.0; stored = told.1.0; room = told.1.1 }
 
 pub returns : goal.returns
 returns c =
     let pass =
-    pass-passed _ _ _ c.requires (sym c.check_length-sized.ensures.answer ∙ c.in_default.is) c.walk_file-printed.ensures
+    pass_passed _ _ _ c.requires (sym c.check_length-sized.ensures.answer ∙ c.in_default.is) c.walk_file-printed.ensures
     (sym c.check_tree-checked.ensures.answer ∙ c.in_default-checked.is) in
     let told = (c.printed_answer-answer.ensures ∙ pass.answered, (pass.holds, pass.whole)) in
-    record { answer = told.0; stored = told.1; room = told.2 }
+    record { answer = told.0; stored = told.1.0; room = told.1.1 }

@@ -4,7 +4,7 @@ use borrow.Author.Rules.{rules}
 use Rattle.chunks.specs.Stored.{Chunk, WellFormed}
 use Rattle.chunks.specs.Appending.{with_space, with_colon}
 use Rattle.chunks.proofs.Forms.{indent_length, head_length, chunk_length}
-use Rattle.chunks.proofs.Storing.{text-length, chunk_stores, append-deep, append-empty, append-long, append-past, append-no-room, append-stored}
+use Rattle.chunks.proofs.Storing.{text_length, chunk_stores, append_deep, append_empty, append_long, append_past, append_no_room, append_stored}
 use Rattle.chunks.proofs.append.append_chunk.Goals as goal
 
 -- the chunk that is handed over
@@ -17,27 +17,27 @@ passed c = record { indent = omega arith; some = omega arith; short = omega arit
 
 pub returns-then-indent-gt4096 : goal.returns-then-indent-gt4096
 returns-then-indent-gt4096 c =
-    let told = append-deep _ _ (handed (PLACE:Start)) c.if-indent-gt4096.true in
+    let told = append_deep _ _ (handed (PLACE:Start)) c.if-indent-gt4096.true in
     record { answer = told.0; room = told.1 }
 
 pub returns-then-text-gt65535 : goal.returns-then-text-gt65535
 returns-then-text-gt65535 c =
-    let told = append-long _ _ (handed c) (omega (arith, text-length c.args.spaced c.args.text.now c.args.colon)) in
+    let told = append_long _ _ (handed c) (omega (arith, text_length c.args.spaced c.args.text.now c.args.colon)) in
     record { answer = told.0; room = told.1 }
 
 pub returns-then-count-eq0 : goal.returns-then-count-eq0
 returns-then-count-eq0 c =
-    let told = append-empty _ _ (handed (PLACE:Start)) (omega arith) in
+    let told = append_empty _ _ (handed (PLACE:Start)) (omega arith) in
     record { answer = told.0; room = told.1 }
 
 pub returns-then-count-gt65535 : goal.returns-then-count-gt65535
 returns-then-count-gt65535 c =
-    let told = append-long _ _ (handed (PLACE:Start)) (omega arith) in
+    let told = append_long _ _ (handed (PLACE:Start)) (omega arith) in
     record { answer = told.0; room = told.1 }
 
 pub returns-then-limit-used : goal.returns-then-limit-used
 returns-then-limit-used c =
-    let told = append-past _ _ (handed (PLACE:Start)) (passed (PLACE:Else-count-gt65535)) (omega arith) in
+    let told = append_past _ _ (handed (PLACE:Start)) (passed (PLACE:Else-count-gt65535)) (omega arith) in
     record { answer = told.0; room = told.1 }
 
 pub overflow_add-end : goal.overflow_add-end
@@ -48,7 +48,7 @@ overflow_add-end-2 c = omega (arith, indent_length c.args.indent)
 
 pub returns-then-limit-end : goal.returns-then-limit-end
 returns-then-limit-end c =
-    let told = append-no-room _ _ (handed c) (passed (PLACE:Else-count-gt65535)) (omega arith) (omega (arith, chunk_length (handed c))) (omega arith) in
+    let told = append_no_room _ _ (handed c) (passed (PLACE:Else-count-gt65535)) (omega arith) (omega (arith, chunk_length (handed c))) (omega arith) in
     record { answer = told.0; room = told.1 }
 
 pub store_head-behind-requires : goal.store_head-behind-requires
@@ -61,7 +61,7 @@ store_text-requires c =
 
 pub returns : goal.returns
 returns c =
-    let told = append-stored _ _ (handed c) (passed c) (omega (arith, c)) (omega (arith, c, chunk_length (handed c))) (omega (arith, c))
+    let told = append_stored _ _ (handed c) (passed c) (omega (arith, c)) (omega (arith, c, chunk_length (handed c))) (omega (arith, c))
     (chunk_stores c.args.room.now c.args.used (handed c) c.text_length-count.ensures c.store_head-behind.ensures.answer c.store_head-behind.ensures.room
     c.store_text.ensures) in
     record { answer = told.0; room = told.1 }

@@ -7,7 +7,7 @@ use Rattle.answers.proofs.Numbers.{judged_numbers}
 use borrow.Author.Rules.{rules}
 use Rattle.chunks.specs.Reading.{ChunkFits}
 use Rattle.chunks.specs.declared.stored.StoredChunk.{StoredChunk}
-use Rattle.chunks.proofs.Judging.{Going, going_first, going_on, too_long, bad-chunk, bad-byte, all-good}
+use Rattle.chunks.proofs.Judging.{Going, going_first, going_on, too_long, bad_chunk, bad_byte, all_good}
 use Rattle.chunks.proofs.Numbers.{list_numbers_lem}
 use Rattle.chunks.proofs.list.check_chunks.Goals as goal
 
@@ -42,7 +42,7 @@ pub returns-in_default : goal.returns-in_default
 returns-in_default c =
     let turn = c.loop-at in
     let none = sym c.chunk_at-found.ensures.answer ∙ c.in_default.is in
-    let told = judged_numbers (list_numbers_lem _) (sym (bad-chunk c.args.list.now turn.at turn.fault
+    let told = judged_numbers (list_numbers_lem _) (sym (bad_chunk c.args.list.now turn.at turn.fault
     c.if-length-gt1048576.false turn.invariant c.loop-at-test.true none)) in
     record { answer = told.0; numbers = told.1 }
 
@@ -61,13 +61,13 @@ loop-at-preserved c =
 pub returns-then-fault-length : goal.returns-then-fault-length
 returns-then-fault-length c =
     let turn = c.loop-at in
-    let told = judged_numbers (list_numbers_lem _) (sym (bad-byte c.args.list.now turn.at turn.fault
+    let told = judged_numbers (list_numbers_lem _) (sym (bad_byte c.args.list.now turn.at turn.fault
     c.if-length-gt1048576.false turn.invariant c.loop-at-test.false c.if-fault-length.true)) in
     record { answer = told.0; numbers = told.1 }
 
 pub returns : goal.returns
 returns c =
     let turn = c.loop-at in
-    let told = judged_numbers (list_numbers_lem _) (sym (all-good c.args.list.now turn.at turn.fault
+    let told = judged_numbers (list_numbers_lem _) (sym (all_good c.args.list.now turn.at turn.fault
     c.if-length-gt1048576.false turn.invariant c.loop-at-test.false c.if-fault-length.false)) in
     record { answer = told.0; numbers = told.1 }

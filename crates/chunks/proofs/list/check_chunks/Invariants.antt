@@ -7,7 +7,7 @@ use Rattle.answers.proofs.Numbers.{judged_numbers}
 use borrow.Author.Rules.{rules}
 use Rattle.chunks.specs.Reading.{ChunkFits}
 use Rattle.chunks.specs.declared.stored.StoredChunk.{StoredChunk}
-use Rattle.chunks.proofs.Judging.{Going, going_first, going_on, too_long, bad-chunk, bad-byte, all-good}
+use Rattle.chunks.proofs.Judging.{Going, going_first, going_on, too_long, bad_chunk, bad_byte, all_good}
 use Rattle.chunks.proofs.Numbers.{list_numbers_lem}
 use Rattle.chunks.proofs.list.check_chunks.Given as goal
 

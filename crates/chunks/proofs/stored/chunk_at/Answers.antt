@@ -6,7 +6,7 @@ use borrow.Author.Tests.{lt-ltb, le-ltb, le-leb, lt-leb, eq-eqb}
 use borrow.Author.Rules.{rules}
 use Rattle.text.specs.declared.numbers.Number.{Number}
 use Rattle.chunks.specs.Reading.{type_of, indent_on, chunk_at, Fits}
-use Rattle.chunks.proofs.Reading.{chunk-plain, chunk-indented, indent-zero, indent-deep, indent-text, chunk_fits}
+use Rattle.chunks.proofs.Reading.{chunk_plain, chunk_indented, indent_zero, indent_deep, indent_text, chunk_fits}
 use Rattle.chunks.proofs.stored.chunk_at.Goals as goal
 
 -- what is found fits, since every element of the list is a byte
@@ -23,7 +23,7 @@ indented : (c : tie.After-read-number) {number : Number} → c.read_number.resul
     ≡ indent_on (entry c).args.list.now ((entry c).args.at + 1) (type_of (c.before.before.before.before.before.wide.result % 4)) number
 indented c told =
     let tested = c.before.before.before in
-    chunk-indented (entry c).args.list.now (entry c).args.at tested.before.before.before.before.if1.false tested.before.before.wide.ensures.0 tested.before.if2.false
+    chunk_indented (entry c).args.list.now (entry c).args.at tested.before.before.before.before.if1.false tested.before.before.wide.ensures.0 tested.before.if2.false
     tested.if3.false c.before.if4.false (sym c.read_number.ensures ∙ told)
 
 pub returns-then-list-at : goal.returns-then-list-at
@@ -40,7 +40,7 @@ returns-then-bits-eq3 c = record { answer = simp (lt-leb _ _ c.if-list-at.false,
 
 pub returns-then-map-lt4 : goal.returns-then-map-lt4
 returns-then-map-lt4 c =
-    let plain = chunk-plain c.args.list.now c.args.at c.if-list-at.false
+    let plain = chunk_plain c.args.list.now c.args.at c.if-list-at.false
     c.wide-map.ensures.0 c.if-map-gt7.false c.if-bits-eq3.false
     c.if-map-lt4.true in
     let same : c.text_at.result ≡ chunk_at c.args.list.now c.args.at = c.text_at.ensures ∙ rw c.type_of-ty.ensures (sym plain) in
@@ -50,14 +50,14 @@ pub returns-in_default : goal.returns-in_default
 returns-in_default c = record { answer = sym (indented (PLACE:After-read_number-number) c.in_default.is); fits = tt }
 
 pub returns-then-indent-eq0 : goal.returns-then-indent-eq0
-returns-then-indent-eq0 c = record { answer = sym (indented (PLACE:After-read_number-number) c.in-Read.is ∙ indent-zero _ _ _ _ c.if-indent-eq0.true); fits = tt }
+returns-then-indent-eq0 c = record { answer = sym (indented (PLACE:After-read_number-number) c.in-Read.is ∙ indent_zero _ _ _ _ c.if-indent-eq0.true); fits = tt }
 
 pub returns-then-indent-gt4096 : goal.returns-then-indent-gt4096
-returns-then-indent-gt4096 c = record { answer = sym (indented (PLACE:After-read_number-number) c.in-Read.is ∙ indent-deep _ _ _ _ c.if-indent-gt4096.true); fits = tt }
+returns-then-indent-gt4096 c = record { answer = sym (indented (PLACE:After-read_number-number) c.in-Read.is ∙ indent_deep _ _ _ _ c.if-indent-gt4096.true); fits = tt }
 
 pub returns : goal.returns
 returns c =
     let next : c.args.at + 3 ≡ c.args.at + 1 + 2 = omega arith in
-    let text = indented c c.in-Read.is ∙ indent-text _ _ _ _ c.if-indent-eq0.false c.if-indent-gt4096.false in
+    let text = indented c c.in-Read.is ∙ indent_text _ _ _ _ c.if-indent-eq0.false c.if-indent-gt4096.false in
     let same : c.text_at-2.result ≡ chunk_at c.args.list.now c.args.at = c.text_at-2.ensures ∙ rw (next, c.type_of-ty.ensures) (sym text) in
     record { answer = same; fits = rw same (found_fits (PLACE:After-shared_slice_known-1)) }

@@ -15,16 +15,16 @@ use Rattle.tree.specs.declared.grammar.Kind.TheVariants as variant
 use Rattle.tree.proofs.KindLayout.{kind_number}
 use Rattle.printing.specs.Running.{place_of, outcome, Shown}
 use Rattle.printing.specs.declared.Printed.{Printed}
-use Rattle.printing.proofs.Running.{◌then◌, ◌thence◌, ran-printer, place-behind, refused_before, done_before, handed_on, stays_refused}
+use Rattle.printing.proofs.Running.{◌then◌, ◌thence◌, ran_printer, place_behind, refused_before, done_before, handed_on, stays_refused}
 use Rattle.events.specs.Printed.{plain}
 use Rattle.events.specs.Views.{bit_at}
 use Rattle.events.specs.Trees.{leaf, events_in}
 use Rattle.leaves.specs.Lists.{item_trees, items_end}
 use Rattle.leaves.specs.Records.{field_trees, fields_end}
-use Rattle.leaves.proofs.Fielded.{opened-levels, opened_one, opened-kind, opened-list, shown-closed}
+use Rattle.leaves.proofs.Fielded.{opened_levels, opened_one, opened-kind, opened-list, shown_closed}
 use Rattle.expressions.specs.Expressions.{item_class, list_place}
-use Rattle.expressions.proofs.Cycle.{item_rule, factor-is, counter-is, list-is, list_items}
-use Rattle.expressions.proofs.Cycle.{or_first, or_second, unsigned-shown, signed-shown, binary-shown, none_left, one_left}
+use Rattle.expressions.proofs.Cycle.{item_rule, factor_is, counter_is, list_is, list_items}
+use Rattle.expressions.proofs.Cycle.{or_first, or_second, unsigned_shown, signed_shown, binary_shown, none_left, one_left}
 use Prim.Native.Nat.{ℕ, ◌<◌, ◌+◌, ◌*◌}
 use Rattle.expressions.proofs.expression.+format_argument_format_arguments_format_binary_expression_format_call_format_each_argument_format_expression_format_expression_factor_format_factor_format_parens_format_value.Goals as goal
 
@@ -156,15 +156,15 @@ returns-in_default-opened t c =
     let of = c.args.of in
     let done = c.in-Done.is in
     rw done
-    (rw (← c.item_class-class.ensures) (shown-closed c.open-opened.ensures.opens (list_place of) c.in_default-opened.is c.closed.ensures.answer))
+    (rw (← c.item_class-class.ensures) (shown_closed c.open-opened.ensures.opens (list_place of) c.in_default-opened.is c.closed.ensures.answer))
 
 pub overflow_sub-inner : goal.overflow_sub-inner
 overflow_sub-inner t c =
-    opened-levels c.open-opened.ensures.opens c.in-Record.is
+    opened_levels c.open-opened.ensures.opens c.in-Record.is
 
 pub format_value-value-requires : goal.format_value-value-requires
 format_value-value-requires t c =
-    let levels-left = opened-levels c.open-opened.ensures.opens c.in-Record.is in
+    let levels-left = opened_levels c.open-opened.ensures.opens c.in-Record.is in
     let measured = c.requires.0 in
     (omega (arith, levels-left, measured), tt)
 
@@ -196,19 +196,19 @@ returns-in_default-opened t c =
     let of = c.args.of in
     let done = c.in-Done.is in
     rw done
-    (rw (← c.list_class-class.ensures) (shown-closed c.open-opened.ensures.opens (list_place of) c.in_default-opened.is c.closed.ensures.answer))
+    (rw (← c.list_class-class.ensures) (shown_closed c.open-opened.ensures.opens (list_place of) c.in_default-opened.is c.closed.ensures.answer))
 
 pub overflow_sub-levels : goal.overflow_sub-levels
 overflow_sub-levels t c =
-    opened-levels c.open-opened.ensures.opens c.in-Record.is
+    opened_levels c.open-opened.ensures.opens c.in-Record.is
 
 pub overflow_sub-levels-in_default-kind : goal.overflow_sub-levels-in_default-kind
 overflow_sub-levels-in_default-kind t c =
-    opened-levels c.open-opened.ensures.opens c.in-Record.is
+    opened_levels c.open-opened.ensures.opens c.in-Record.is
 
 pub format_each_argument-requires : goal.format_each_argument-requires
 format_each_argument-requires t c =
-    let levels-left = opened-levels c.open-opened.ensures.opens c.in-Record.is in
+    let levels-left = opened_levels c.open-opened.ensures.opens c.in-Record.is in
     let measured = c.requires.0 in
     (omega (arith, levels-left, measured), tt)
 
@@ -230,7 +230,7 @@ returns-in_default-kind t c =
     let is = c.in-Record.is in
     let done = c.in-Done.is in
     rw done
-    (opened-list opens is (list_place of) (item_class of) (list-is of opens is c.in_default-kind.keys2) (list_items of) c.format_each_argument.ensures)
+    (opened-list opens is (list_place of) (item_class of) (list_is of opens is c.in_default-kind.in_default-kind-own.keys2) (list_items of) c.format_each_argument.ensures)
 
 -- ---- format_binary_expression: the operator is skipped, and printed where it stands once the left side is; then the walk goes on behind the left side
 
@@ -272,7 +272,7 @@ returns t c =
     let onward = (c.moved_to-2.ensures _).from _ gap2.next in
     let rhs = c.format_expression.ensures.from _ onward.next in
     done_before c.in-Done.is
-    (binary-shown _ _ _ _ _ (place-behind lhs done) (skipped thence ran-printer lhs done then gap thence back thence operator thence gap2 thence onward thence rhs))
+    (binary_shown _ _ _ _ _ (place_behind lhs done) (skipped thence ran_printer lhs done then gap thence back thence operator thence gap2 thence onward thence rhs))
 
 -- ---- format_call: the fields are printed in their order
 
@@ -356,25 +356,25 @@ pub returns-in_default-opened : goal.returns-in_default-opened
 returns-in_default-opened t c =
     let done = c.in-Done.is in
     rw done
-    (rw (← c.expression_class-class.ensures) (shown-closed c.open-opened.ensures.opens (leaf plain) c.in_default-opened.is c.closed.ensures.answer))
+    (rw (← c.expression_class-class.ensures) (shown_closed c.open-opened.ensures.opens (leaf plain) c.in_default-opened.is c.closed.ensures.answer))
 
 pub overflow_sub-levels : goal.overflow_sub-levels
 overflow_sub-levels t c =
-    opened-levels c.open-opened.ensures.opens c.in-Record.is
+    opened_levels c.open-opened.ensures.opens c.in-Record.is
 
 pub format_binary_expression-requires : goal.format_binary_expression-requires
 format_binary_expression-requires t c =
-    let levels-left = opened-levels c.open-opened.ensures.opens c.in-Record.is in
+    let levels-left = opened_levels c.open-opened.ensures.opens c.in-Record.is in
     let measured = c.requires.0 in
     (omega (arith, levels-left, measured), tt)
 
 pub overflow_sub-levels-in_default-kind : goal.overflow_sub-levels-in_default-kind
 overflow_sub-levels-in_default-kind t c =
-    opened-levels c.open-opened.ensures.opens c.in-Record.is
+    opened_levels c.open-opened.ensures.opens c.in-Record.is
 
 pub format_factor-requires : goal.format_factor-requires
 format_factor-requires t c =
-    let levels-left = opened-levels c.open-opened.ensures.opens c.in-Record.is in
+    let levels-left = opened_levels c.open-opened.ensures.opens c.in-Record.is in
     let measured = c.requires.0 in
     (omega (arith, levels-left, measured), tt)
 
@@ -396,7 +396,7 @@ returns-in_default-kind t c =
     let is = c.in-Record.is in
     let done = c.in-Done.is in
     rw done
-    (opened-kind opens is (leaf plain) variant.Factor (factor-is located opens is c.in_default-kind.keys2) refl c.format_factor.ensures)
+    (opened-kind opens is (leaf plain) variant.Factor (factor_is located opens is c.in_default-kind.in_default-kind-own.keys2) refl c.format_factor.ensures)
 
 -- ---- format_expression_factor: each case has its printer; what has no arm is the program counter
 
@@ -407,21 +407,21 @@ pub returns-in_default-opened : goal.returns-in_default-opened
 returns-in_default-opened t c =
     let done = c.in-Done.is in
     rw done
-    (shown-closed c.open-opened.ensures.opens (leaf plain) c.in_default-opened.is c.closed.ensures.answer)
+    (shown_closed c.open-opened.ensures.opens (leaf plain) c.in_default-opened.is c.closed.ensures.answer)
 
 pub overflow_sub-inner : goal.overflow_sub-inner
 overflow_sub-inner t c =
-    opened-levels c.open-opened.ensures.opens c.in-Record.is
+    opened_levels c.open-opened.ensures.opens c.in-Record.is
 
 pub format_parens-requires : goal.format_parens-requires
 format_parens-requires t c =
-    let levels-left = opened-levels c.open-opened.ensures.opens c.in-Record.is in
+    let levels-left = opened_levels c.open-opened.ensures.opens c.in-Record.is in
     let measured = c.requires.0 in
     (omega (arith, levels-left, measured), tt)
 
 pub format_call-requires : goal.format_call-requires
 format_call-requires t c =
-    let levels-left = opened-levels c.open-opened.ensures.opens c.in-Record.is in
+    let levels-left = opened_levels c.open-opened.ensures.opens c.in-Record.is in
     let measured = c.requires.0 in
     (omega (arith, levels-left, measured), tt)
 
@@ -482,7 +482,7 @@ returns-in_default-kind t c =
     let is = c.in-Record.is in
     let done = c.in-Done.is in
     rw done
-    (opened-kind opens is (leaf plain) variant.CurrentProgramCounter (counter-is opens is c.in_default-kind.keys6) refl
+    (opened-kind opens is (leaf plain) variant.CurrentProgramCounter (counter_is opens is c.in_default-kind.in_default-kind-own.keys6) refl
     (record { from = λ at here. c.character.ensures.from at here }))
 
 -- ---- format_factor: the signs are printed behind the factor that was skipped, and the walk goes back to it; without signs nothing is skipped
@@ -502,7 +502,7 @@ returns-then-not-tag_neg t c =
     let joined : c.if-tag_not.t-16 ≡ (first || second) =
     ⊎_elim (λ way. way.1 ∙ or_first first second way.0.taken) (λ way. way.1 ∙ or_second first second way.0.left) c.if-tag_not.branch in
     let signs = rw (c.stands-tag_not.ensures, c.stands-tag_neg.ensures) at (sym joined ∙ not-true _ c.if-not-tag_neg.true-raw) in
-    done_before c.in-Done.is (unsigned-shown _ _ _ _ _ signs (c.format_expression_factor.ensures.from _ refl))
+    done_before c.in-Done.is (unsigned_shown _ _ _ _ _ signs (c.format_expression_factor.ensures.from _ refl))
 
 pub returns-in_default-tags : goal.returns-in_default-tags
 returns-in_default-tags t c =
@@ -512,7 +512,7 @@ returns-in_default-tags t c =
     ⊎_elim (λ way. way.1 ∙ or_first first second way.0.taken) (λ way. way.1 ∙ or_second first second way.0.left) c.if-tag_not.branch in
     let signs = rw (c.stands-tag_not.ensures, c.stands-tag_neg.ensures) at (sym joined ∙ not-false _ c.if-not-tag_neg.false-raw) in
     done_before c.in-Done.is
-    (signed-shown _ _ _ _ _ refl signs (handed_on (c.format_tags-tags.ensures.from _ refl) c.in_default-tags.is))
+    (signed_shown _ _ _ _ _ refl signs (handed_on (c.format_tags-tags.ensures.from _ refl) c.in_default-tags.is))
 
 pub format_expression_factor-printed-requires : goal.format_expression_factor-printed-requires
 format_expression_factor-printed-requires t c =
@@ -532,7 +532,7 @@ returns t c =
     let factor = c.format_expression_factor-printed.ensures.from _ back.next in
     let onward = (c.moved_to-2.ensures _).from _ factor.next in
     done_before c.in-Done.is
-    (signed-shown _ _ _ _ _ (place-behind tags done) signs (ran-printer tags done then back thence factor thence onward))
+    (signed_shown _ _ _ _ _ (place_behind tags done) signs (ran_printer tags done then back thence factor thence onward))
 
 -- ---- format_parens: the fields are printed in their order
 

@@ -15,18 +15,48 @@ use Rattle.tree.specs.declared.grammar.Kind.TheVariants as variant
 use Rattle.tree.proofs.KindLayout.{kind_number}
 use Rattle.printing.specs.Running.{place_of, outcome, Shown}
 use Rattle.printing.specs.declared.Printed.{Printed}
-use Rattle.printing.proofs.Running.{◌then◌, ◌thence◌, ran-printer, place-behind, refused_before, done_before, handed_on, stays_refused}
+use Rattle.printing.proofs.Running.{◌then◌, ◌thence◌, ran_printer, place_behind, refused_before, done_before, handed_on, stays_refused}
 use Rattle.events.specs.Printed.{plain}
 use Rattle.events.specs.Views.{bit_at}
 use Rattle.events.specs.Trees.{leaf, events_in}
 use Rattle.leaves.specs.Lists.{item_trees, items_end}
 use Rattle.leaves.specs.Records.{field_trees, fields_end}
-use Rattle.leaves.proofs.Fielded.{opened-levels, opened_one, opened-kind, opened-list, shown-closed}
+use Rattle.leaves.proofs.Fielded.{opened_levels, opened_one, opened-kind, opened-list, shown_closed}
 use Rattle.expressions.specs.Expressions.{item_class, list_place}
-use Rattle.expressions.proofs.Cycle.{item_rule, factor-is, counter-is, list-is, list_items}
-use Rattle.expressions.proofs.Cycle.{or_first, or_second, unsigned-shown, signed-shown, binary-shown, none_left, one_left}
+use Rattle.expressions.proofs.Cycle.{item_rule, factor_is, counter_is, list_is, list_items}
+use Rattle.expressions.proofs.Cycle.{or_first, or_second, unsigned_shown, signed_shown, binary_shown, none_left, one_left}
 use Prim.Native.Nat.{ℕ, ◌<◌, ◌+◌, ◌*◌}
 use Rattle.expressions.proofs.expression.+format_argument_format_arguments_format_binary_expression_format_call_format_each_argument_format_expression_format_expression_factor_format_factor_format_parens_format_value.Given as goal
+
+abbrev pub decreases-format_value : goal.decreases-format_value
+decreases-format_value l = 2 * l.levels + 1
+
+abbrev pub decreases-format_parens : goal.decreases-format_parens
+decreases-format_parens l = 2 * l.levels + 1
+
+abbrev pub decreases-format_factor : goal.decreases-format_factor
+decreases-format_factor l = 2 * l.levels + 1
+
+abbrev pub decreases-format_expression_factor : goal.decreases-format_expression_factor
+decreases-format_expression_factor l = 2 * l.levels
+
+abbrev pub decreases-format_expression : goal.decreases-format_expression
+decreases-format_expression l = 2 * l.levels
+
+abbrev pub decreases-format_each_argument : goal.decreases-format_each_argument
+decreases-format_each_argument l = 2 * l.levels + 1
+
+abbrev pub decreases-format_call : goal.decreases-format_call
+decreases-format_call l = 2 * l.levels + 1
+
+abbrev pub decreases-format_binary_expression : goal.decreases-format_binary_expression
+decreases-format_binary_expression l = 2 * l.levels + 1
+
+abbrev pub decreases-format_arguments : goal.decreases-format_arguments
+decreases-format_arguments l = 2 * l.levels
+
+abbrev pub decreases-format_argument : goal.decreases-format_argument
+decreases-format_argument l = 2 * l.levels
 
 abbrev pub invariant-format_each_argument-loop-left : goal.invariant-format_each_argument-loop-left
 invariant-format_each_argument-loop-left l =

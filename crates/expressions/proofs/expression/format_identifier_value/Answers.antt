@@ -1,8 +1,8 @@
 -- Without a modifier the path is a leaf; with one, the path is skipped on the way to it and printed behind it.
 use mathlib.Core.Path.{refl}
 use borrow.Author.Tests.{not-true, not-false}
-use Rattle.printing.proofs.Running.{◌thence◌, ◌then◌, ran-printer, handed_on, place-behind, refused_before, done_before}
-use Rattle.expressions.proofs.Operands.{moved_back, path-bare, path-modified}
+use Rattle.printing.proofs.Running.{◌thence◌, ◌then◌, ran_printer, handed_on, place_behind, refused_before, done_before}
+use Rattle.expressions.proofs.Operands.{moved_back, path_bare, path_modified}
 use borrow.Author.Rules.{rules}
 use Rattle.expressions.proofs.expression.format_identifier_value.Goals as goal
 
@@ -12,14 +12,14 @@ returns-in_default c = refused_before c.in_default.is
 pub returns-then-not-stands : goal.returns-then-not-stands
 returns-then-not-stands c =
     done_before c.in-Done.is
-    (path-bare _ _ _ _ _ c.stands.ensures (not-true _ c.if-not-stands.true-raw) (c.word.ensures.from _ refl))
+    (path_bare _ _ _ _ _ c.stands.ensures (not-true _ c.if-not-stands.true-raw) (c.word.ensures.from _ refl))
 
 pub returns-in_default-modifier : goal.returns-in_default-modifier
 returns-in_default-modifier c =
     let skipped = (c.skip-skipped.ensures.from _).from _ refl in
     let printed = c.modifier-modifier.ensures.from _ skipped.next in
     done_before c.in-Done.is
-    (path-modified _ _ _ _ _ c.stands.ensures (not-false _ c.if-not-stands.false-raw) refl (skipped thence handed_on printed c.in_default-modifier.is))
+    (path_modified _ _ _ _ _ c.stands.ensures (not-false _ c.if-not-stands.false-raw) refl (skipped thence handed_on printed c.in_default-modifier.is))
 
 pub returns : goal.returns
 returns c =
@@ -31,4 +31,4 @@ returns c =
     let is = c.in-Done-modifier.is in
     let some = not-false _ c.if-not-stands.false-raw in
     done_before c.in-Done.is
-    (path-modified _ _ _ _ _ c.stands.ensures some (place-behind printed is) (moved_back (skipped thence ran-printer printed is then back thence path thence behind)))
+    (path_modified _ _ _ _ _ c.stands.ensures some (place_behind printed is) (moved_back (skipped thence ran_printer printed is then back thence path thence behind)))

@@ -6,7 +6,7 @@ use Rattle.events.specs.Views.{bit_at}
 use Rattle.events.specs.Trees.{leaf, events_in}
 use Rattle.leaves.specs.Records.{field_trees, fields_end}
 use Rattle.events.specs.Printed.{plain}
-use Rattle.leaves.proofs.Fielded.{opened-levels, opened_one, opened-kind, shown-closed}
+use Rattle.leaves.proofs.Fielded.{opened_levels, opened_one, opened-kind, shown_closed}
 use Rattle.tree.specs.Stored.{stored_with}
 use Rattle.tree.specs.declared.grammar.Kind.TheVariants as variant
 use Rattle.tree.proofs.KindLayout.{kind_number}
@@ -15,11 +15,11 @@ use Rattle.expressions.proofs.imports.format_import_as.Goals as goal
 
 pub returns-in_default : goal.returns-in_default
 returns-in_default c =
-    shown-closed c.open-opened.ensures.opens (leaf plain) c.in_default.is c.closed.ensures.answer
+    shown_closed c.open-opened.ensures.opens (leaf plain) c.in_default.is c.closed.ensures.answer
 
 pub overflow_sub-inner : goal.overflow_sub-inner
 overflow_sub-inner c =
-    opened-levels c.open-opened.ensures.opens c.in-Record.is
+    opened_levels c.open-opened.ensures.opens c.in-Record.is
 
 pub returns : goal.returns
 unfolding built field_trees fields_end events_in bit_at kind_number stored_with

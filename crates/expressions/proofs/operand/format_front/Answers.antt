@@ -1,8 +1,8 @@
 -- Without an opening character the expression is all; with one, the expression is skipped on the way to it and printed behind it.
 use mathlib.Core.Path.{refl}
 use borrow.Author.Tests.{not-true, not-false}
-use Rattle.printing.proofs.Running.{◌thence◌, ◌then◌, ran-printer, handed_on, place-behind, refused_before, done_before}
-use Rattle.expressions.proofs.Operands.{moved_back, front-bare, front-opened}
+use Rattle.printing.proofs.Running.{◌thence◌, ◌then◌, ran_printer, handed_on, place_behind, refused_before, done_before}
+use Rattle.expressions.proofs.Operands.{moved_back, front_bare, front_opened}
 use borrow.Author.Rules.{rules}
 use Rattle.expressions.proofs.operand.format_front.Goals as goal
 
@@ -12,14 +12,14 @@ returns-in_default c = refused_before c.in_default.is
 pub returns-then-not-lchar : goal.returns-then-not-lchar
 returns-then-not-lchar c =
     let given = c.args in
-    done_before c.in-Done.is (front-bare _ _ _ _ given.lchar (not-true _ c.if-not-lchar.true-raw) (c.format_expression.ensures.from _ refl))
+    done_before c.in-Done.is (front_bare _ _ _ _ given.lchar (not-true _ c.if-not-lchar.true-raw) (c.format_expression.ensures.from _ refl))
 
 pub returns-in_default-opening : goal.returns-in_default-opening
 returns-in_default-opening c =
     let given = c.args in
     let skipped = (c.skip-skipped.ensures.from _).from _ refl in
     let printed = c.character-opening.ensures.from _ skipped.next in
-    done_before c.in-Done.is (front-opened _ _ _ _ given.lchar (not-false _ c.if-not-lchar.false-raw) refl (skipped thence handed_on printed c.in_default-opening.is))
+    done_before c.in-Done.is (front_opened _ _ _ _ given.lchar (not-false _ c.if-not-lchar.false-raw) refl (skipped thence handed_on printed c.in_default-opening.is))
 
 pub returns : goal.returns
 returns c =
@@ -32,4 +32,4 @@ returns c =
     let is = c.in-Done-opening.is in
     let some = not-false _ c.if-not-lchar.false-raw in
     done_before c.in-Done.is
-    (front-opened _ _ _ _ given.lchar some (place-behind printed is) (moved_back (skipped thence ran-printer printed is then back thence inner thence behind)))
+    (front_opened _ _ _ _ given.lchar some (place_behind printed is) (moved_back (skipped thence ran_printer printed is then back thence inner thence behind)))

@@ -7,22 +7,22 @@ use Rattle.tree.proofs.KindLayout.{kind_number}
 use Rattle.printing.proofs.Running.{◌thence◌}
 use Rattle.events.specs.Printed.{plain}
 use Rattle.events.specs.Trees.{leaf}
-use Rattle.leaves.proofs.Fielded.{opened-levels, opened_one, opened-kind, shown-closed}
+use Rattle.leaves.proofs.Fielded.{opened_levels, opened_one, opened-kind, shown_closed}
 use Rattle.expressions.proofs.Operands.{operand_shown}
 use borrow.Author.Rules.{rules}
 use Rattle.expressions.proofs.operand.format_operand.Goals as goal
 
 pub returns-in_default : goal.returns-in_default
 returns-in_default c =
-    shown-closed c.open-opened.ensures.opens (leaf plain) c.in_default.is c.closed.ensures.answer
+    shown_closed c.open-opened.ensures.opens (leaf plain) c.in_default.is c.closed.ensures.answer
 
 pub overflow_sub-levels : goal.overflow_sub-levels
 overflow_sub-levels c =
-    opened-levels c.open-opened.ensures.opens c.in-Record.is
+    opened_levels c.open-opened.ensures.opens c.in-Record.is
 
 pub overflow_sub-levels-2 : goal.overflow_sub-levels-2
 overflow_sub-levels-2 c =
-    opened-levels c.open-opened.ensures.opens c.in-Record.is
+    opened_levels c.open-opened.ensures.opens c.in-Record.is
 
 pub returns : goal.returns
 unfolding built kind_number stored_with

@@ -1,8 +1,8 @@
 -- The closing character is skipped, and the mode that is read behind it says the order of the rest; where none can be read the walk ends.
 use mathlib.Core.Path.{refl}
-use Rattle.printing.proofs.Running.{◌then◌, ran-printer, room-left, handed_on, place-behind, refused_before, done_before}
+use Rattle.printing.proofs.Running.{◌then◌, ran_printer, room_left, handed_on, place_behind, refused_before, done_before}
 use Rattle.leaves.proofs.Leaves.{own_text}
-use Rattle.expressions.proofs.Operands.{tail-shown, tail-refused}
+use Rattle.expressions.proofs.Operands.{tail_shown, tail_refused}
 use borrow.Author.Rules.{rules}
 use Rattle.expressions.proofs.operand.format_tail.Goals as goal
 
@@ -19,11 +19,11 @@ returns-in_default-found c =
     let closing = (c.skip-at_mode.ensures.from _).from _ refl in
     let is = c.in-Done-at_mode.is in
     done_before c.in-Done.is
-    (tail-refused given.context given.levels given.tree.now _ given.rchar given.suffix (place-behind closing is) c.read_own-found.ensures.answer
-    c.in_default-found.is c.refusal_of.ensures (ran-printer closing is) (room-left closing is))
+    (tail_refused given.context given.levels given.tree.now _ given.rchar given.suffix (place_behind closing is) c.read_own-found.ensures.answer
+    c.in_default-found.is c.refusal_of.ensures (ran_printer closing is) (room_left closing is))
 
 pub mode_of-mode-requires : goal.mode_of-mode-requires
-mode_of-mode-requires c = own_text _ _ _ c.read_own-found.ensures.fits.0 c.in-Record.is
+mode_of-mode-requires c = own_text _ _ _ c.read_own-found.ensures.fits c.in-Record.is
 
 pub returns : goal.returns
 returns c =
@@ -31,5 +31,5 @@ returns c =
     let closing = (c.skip-at_mode.ensures.from _).from _ refl in
     let is = c.in-Done-at_mode.is in
     done_before c.in-Done.is
-    (tail-shown given.context given.levels given.tree.now _ given.rchar given.suffix (place-behind closing is) c.read_own-found.ensures.answer
-    c.in-Record.is at-mode-of.Mode-of.ensures (ran-printer closing is then c.format_end.ensures.from _ refl))
+    (tail_shown given.context given.levels given.tree.now _ given.rchar given.suffix (place_behind closing is) c.read_own-found.ensures.answer
+    c.in-Record.is at-mode-of.Mode-of.ensures (ran_printer closing is then c.format_end.ensures.from _ refl))

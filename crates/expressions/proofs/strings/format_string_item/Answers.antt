@@ -5,23 +5,23 @@ use Rattle.text.proofs.Parts.{part_slice}
 use Rattle.printing.proofs.Running.{◌then◌, ran_push, finish}
 use Rattle.events.specs.Printed.{plain, printed}
 use Rattle.events.specs.Trees.{leaf, events_in}
-use Rattle.leaves.proofs.Fielded.{opened-fits, opened-as, shown-closed}
-use Rattle.expressions.proofs.StringItems.{text-item, text_read, path-read}
+use Rattle.leaves.proofs.Fielded.{opened_fits, opened-as, shown_closed}
+use Rattle.expressions.proofs.StringItems.{text_item, text_read, path_read}
 use borrow.Author.Rules.{rules}
 use Rattle.expressions.proofs.strings.format_string_item.Goals as goal
 
 pub returns-in_default : goal.returns-in_default
 returns-in_default c =
-    shown-closed c.open-opened.ensures.opens (leaf plain) c.in_default.is c.closed.ensures.answer
+    shown_closed c.open-opened.ensures.opens (leaf plain) c.in_default.is c.closed.ensures.answer
 
 pub slice_bounds-push-count : goal.slice_bounds-push-count
 slice_bounds-push-count c =
-    let inside = opened-fits c.open-opened.ensures.opens c.in-Record.is in
+    let inside = opened_fits c.open-opened.ensures.opens c.in-Record.is in
     omega (arith, inside.0, inside.1)
 
 pub slice_bounds-push-count-in_default-kind : goal.slice_bounds-push-count-in_default-kind
 slice_bounds-push-count-in_default-kind c =
-    let inside = opened-fits c.open-opened.ensures.opens c.in-Record.is in
+    let inside = opened_fits c.open-opened.ensures.opens c.in-Record.is in
     omega (arith, inside.0, inside.1)
 
 pub shape_of-room-in-PathItem : goal.shape_of-room-in-PathItem
@@ -33,7 +33,7 @@ unfolding events_in
 returns-in-PathItem c =
     let opens = c.open-opened.ensures.opens in
     let is = c.in-Record.is in
-    opened-as opens is (leaf plain) _ _ (path-read _ _ _ c.in-PathItem.is)
+    opened-as opens is (leaf plain) _ _ (path_read _ _ _ c.in-PathItem.is)
     (ran_push c.push-open.ensures
     then ran_push (rw part_slice at c.push-path.ensures)
     then finish (ran_push c.push-close.ensures) c.finish.ensures.answer refl)
@@ -43,5 +43,5 @@ unfolding events_in printed
 returns-in_default-kind c =
     let opens = c.open-opened.ensures.opens in
     let is = c.in-Record.is in
-    opened-as opens is (leaf plain) _ _ (text_read _ _ _ (text-item opens is c.in_default-kind.keys2))
+    opened-as opens is (leaf plain) _ _ (text_read _ _ _ (text_item opens is c.in_default-kind.in_default-kind-own.keys2))
     (finish (ran_push (rw part_slice at c.push-text.ensures)) c.finish-in_default-kind.ensures.answer refl)

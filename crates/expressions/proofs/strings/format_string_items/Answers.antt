@@ -2,18 +2,18 @@
 use mathlib.Core.Path.{refl}
 use Rattle.tree.specs.declared.grammar.Class.TheVariants.{StringItem}
 use Rattle.events.specs.Trees.{in_string}
-use Rattle.leaves.proofs.Fielded.{opened-levels, opened-list, shown-closed}
+use Rattle.leaves.proofs.Fielded.{opened_levels, opened-list, shown_closed}
 use Rattle.expressions.proofs.StringItems.{opened_items}
 use borrow.Author.Rules.{rules}
 use Rattle.expressions.proofs.strings.format_string_items.Goals as goal
 
 pub returns-in_default : goal.returns-in_default
 returns-in_default c =
-    shown-closed c.open-opened.ensures.opens in_string c.in_default.is c.closed.ensures.answer
+    shown_closed c.open-opened.ensures.opens in_string c.in_default.is c.closed.ensures.answer
 
 pub overflow_sub-levels : goal.overflow_sub-levels
 overflow_sub-levels c =
-    opened-levels c.open-opened.ensures.opens c.in-Record.is
+    opened_levels c.open-opened.ensures.opens c.in-Record.is
 
 pub returns : goal.returns
 returns c =

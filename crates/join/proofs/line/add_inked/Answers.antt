@@ -8,7 +8,7 @@ use lib.Seq.{slice, length-slice}
 use Rattle.text.specs.Ink.{ink_end}
 use Rattle.text.proofs.Ink.{ink_end_le}
 use Rattle.text.proofs.Parts.{part_slice}
-use Rattle.join.proofs.Measures.{between-blank, between-ink}
+use Rattle.join.proofs.Measures.{between_blank, between_ink}
 use Rattle.join.proofs.line.add_inked.Goals as goal
 
 pub returns-then-ink-eq0 : goal.returns-then-ink-eq0
@@ -18,7 +18,7 @@ returns-then-ink-eq0 c =
     let part = slice step.from step.to args.list.now in
     let size : length part ≡ step.to - step.from = length-slice step.from step.to args.list.now c.requires.from_le_to.1 in
     let ink : c.ink_end-ink.result ≡ ink_end part = c.ink_end-ink.ensures ∙ ap ink_end (part_slice step.from step.to args.list.now) in
-    record { measured = λ line known. rw size at (between-blank known c.requires.from_le_to.2 step.before part step.behind (sym ink ∙ c.if-ink-eq0.true)); length = (omega arith, omega (arith, c.requires.fits.leading)) }
+    record { measured = λ line known. rw size at (between_blank known c.requires.from_le_to.2 step.before part step.behind (sym ink ∙ c.if-ink-eq0.true)); length = (omega arith, omega (arith, c.requires.fits.leading)) }
 
 pub overflow_add-result-4 : goal.overflow_add-result-4
 overflow_add-result-4 c =
@@ -36,4 +36,4 @@ returns c =
     let part = slice step.from step.to args.list.now in
     let size : length part ≡ step.to - step.from = length-slice step.from step.to args.list.now c.requires.from_le_to.1 in
     let ink : c.ink_end-ink.result ≡ ink_end part = c.ink_end-ink.ensures ∙ ap ink_end (part_slice step.from step.to args.list.now) in
-    record { measured = λ line known. rw size at (between-ink known c.requires.from_le_to.2 step.before part step.behind ink c.if-ink-eq0.false); length = (omega arith, omega (arith, c.requires.fits.leading)) }
+    record { measured = λ line known. rw size at (between_ink known c.requires.from_le_to.2 step.before part step.behind ink c.if-ink-eq0.false); length = (omega arith, omega (arith, c.requires.fits.leading)) }

@@ -9,7 +9,7 @@ use borrow.Author.Rules.{rules}
 use borrow.Author.Tests.{not-true, not-false}
 use Rattle.text.specs.Ink.{all_blank, spaces}
 use Rattle.text.proofs.Ink.{spaces_blank, ink_end_le, leading_lt}
-use Rattle.join.proofs.Measures.{ink-behind-blanks, ink-behind-ink, blanks_alike}
+use Rattle.join.proofs.Measures.{ink_behind_blanks, ink_behind_ink, blanks_alike}
 use Rattle.join.proofs.line.add_text.Goals as goal
 
 pub returns-then-not-has_ink : goal.returns-then-not-has_ink
@@ -33,7 +33,7 @@ overflow_add-result-then-measure-eq0-2 c =
 pub returns-then-measure-eq0 : goal.returns-then-measure-eq0
 returns-then-measure-eq0 c =
     let bytes = c.args.bytes.now in
-    let ink = found bytes c.has_ink.ensures c.if-not-has_ink.false-raw in record { measured = λ line known. ink-behind-blanks known bytes c.if-measure-eq0.true ink c.leading_blanks.ensures c.ink_end-ink_end.ensures; length = (refl, omega (arith, c.leading_blanks.ensures, leading_lt bytes ink)) }
+    let ink = found bytes c.has_ink.ensures c.if-not-has_ink.false-raw in record { measured = λ line known. ink_behind_blanks known bytes c.if-measure-eq0.true ink c.leading_blanks.ensures c.ink_end-ink_end.ensures; length = (refl, omega (arith, c.leading_blanks.ensures, leading_lt bytes ink)) }
 
 pub overflow_add-result-3 : goal.overflow_add-result-3
 overflow_add-result-3 c =
@@ -43,4 +43,4 @@ pub returns : goal.returns
 returns c =
     let bytes = c.args.bytes.now in
     let ink = found bytes c.has_ink.ensures c.if-not-has_ink.false-raw in
-    record { measured = λ line known. ink-behind-ink known bytes c.if-measure-eq0.false ink c.ink_end-ink_end.ensures; length = (refl, omega arith) }
+    record { measured = λ line known. ink_behind_ink known bytes c.if-measure-eq0.false ink c.ink_end-ink_end.ensures; length = (refl, omega arith) }

@@ -45,7 +45,7 @@ loop-ended-preserved c =
     let going = not-true turn.ended c.loop-ended-test.true-raw in
     let pausing = pausing_start (rw going at turn.invariant) c.takes-indent.ensures in
     let counted = c.add_some-measure.ensures in
-    pausing_on (pausing_run pausing c.measure_on-run.ensures) c.step_over-step.ensures counted.0 counted.1.1
+    pausing_on (pausing_run pausing c.measure_on-run.ensures) c.step_over-step.ensures counted.measured counted.length.1
 
 pub returns : goal.returns
 returns c = measuring_end c.loop-ended.invariant (not-false _ c.loop-ended-test.false-raw) c.indent_of.ensures

@@ -35,7 +35,7 @@ pub loop-margins-preserved : goal.loop-margins-preserved
 loop-margins-preserved c =
     let counted = c.add_step-reached.ensures in
     let stepped = c.step_whole-step.ensures in
-    λ n. ran_on n (c.loop-margins.invariant n) stepped.0 stepped.1 counted.0 counted.1.0 counted.1.1
+    λ n. ran_on n (c.loop-margins.invariant n) stepped.0 stepped.1 counted.measured counted.length.0 counted.length.1
 
 pub returns : goal.returns
 returns c = c.loop-margins.invariant

@@ -1,6 +1,6 @@
 -- The bytes that the window shows are stored as one run, and where it shows none nothing is.
 use mathlib.Core.Path.{◌∙◌}
-use Rattle.join.proofs.Windows.{puts-hidden, puts-shown, part_room}
+use Rattle.join.proofs.Windows.{puts_hidden, puts_shown, part_room}
 use borrow.Author.Rules.{rules}
 use Rattle.join.proofs.line.put_bytes.Goals as goal
 
@@ -11,9 +11,9 @@ store_bytes-requires c =
 
 pub returns-then-from-to : goal.returns-then-from-to
 returns-then-from-to c =
-    c.before.before.store_Bytes.ensures ∙ puts-shown c.args.text.now c.args.window c.args.at c.args.bytes.now
+    c.before.before.store_Bytes.ensures ∙ puts_shown c.args.text.now c.args.window c.args.at c.args.bytes.now
     c.larger-from.ensures c.smaller-to.ensures
 
 pub returns-else-from-to : goal.returns-else-from-to
 returns-else-from-to c =
-    puts-hidden c.args.text.now c.args.window c.args.at c.args.bytes.now c.larger-from.ensures c.smaller-to.ensures c.if-from-to.left
+    puts_hidden c.args.text.now c.args.window c.args.at c.args.bytes.now c.larger-from.ensures c.smaller-to.ensures c.if-from-to.left

@@ -5,7 +5,7 @@ use lib.ListN.{length-replicate}
 use borrow.Author.Rules.{rules}
 use Rattle.text.specs.Ink.{spaces}
 use Rattle.join.specs.Walk.{puts}
-use Rattle.join.proofs.Windows.{puts-hidden, spaces_shown}
+use Rattle.join.proofs.Windows.{puts_hidden, spaces_shown}
 use Rattle.join.proofs.line.put_spaces.Goals as goal
 
 pub returns-then-count-eq0 : goal.returns-then-count-eq0
@@ -20,5 +20,5 @@ returns-then-from-to c =
 pub returns-else-from-to : goal.returns-else-from-to
 returns-else-from-to c =
     let count = c.args.count in
-    puts-hidden c.args.text.now c.args.window c.args.at (spaces count) c.larger-from.ensures (rw
+    puts_hidden c.args.text.now c.args.window c.args.at (spaces count) c.larger-from.ensures (rw
     (length-replicate {A = ℕ} count 32) c.smaller-to.ensures) c.if-from-to.left

@@ -19,7 +19,7 @@ write_on-run-requires c =
     let going = not-true turn.ended c.loop-ended-test.true-raw in
     let pausing = (placing_turn (rw going at turn.invariant.0) c.takes-indent.ensures).pausing in
     let told = ((given.0.0, pausing.walking.standing, pausing.walking.more refl, given.0.3), ((pausing.fits, pausing_short pausing), rw turn.invariant.1 given.1)) in
-    record { narrow = told.0; leading_le_length = told.1; room = told.2 }
+    record { narrow = told.0; leading_le_length = told.1.0; room = told.1.1 }
 
 pub step_over-step-requires : goal.step_over-step-requires
 step_over-step-requires c =
@@ -62,7 +62,7 @@ loop-ended-preserved c =
     let stepped = c.step_over-step.ensures in
     let put = c.put_some in
     let counted = c.add_some-measure.ensures in
-    (placing_on (placing_run placing on.ensures) stepped put.ensures counted.0 counted.1.1, put.auto.0 ∙ on.auto.0 ∙ turn.invariant.1)
+    (placing_on (placing_run placing on.ensures) stepped put.ensures counted.measured counted.length.1, put.auto.0 ∙ on.auto.0 ∙ turn.invariant.1)
 
 pub shape_of-text : goal.shape_of-text
 shape_of-text c = c.loop-ended.invariant.1

@@ -9,7 +9,7 @@ use Rattle.join.proofs.Walking.{run_fits, shown_start, shown_on}
 use Rattle.join.proofs.line.write_run.Goals as goal
 
 pub loop-window-init : goal.loop-window-init
-loop-window-init c = (λ n. shown_start _ _ _ _ _ _ (Set n) c.requires.narrow.1 c.requires.narrow.2 c.requires.leading_le_length.0.0, refl)
+loop-window-init c = (λ n. shown_start _ _ _ _ _ _ (Set n) c.requires.narrow.1 c.requires.narrow.2 c.requires.leading_le_length.0, refl)
 
 pub is_whole-requires : goal.is_whole-requires
 is_whole-requires c = (c.loop-window.invariant.0 0).ran.standing
@@ -43,7 +43,7 @@ loop-window-preserved c =
     let counted = c.add_step-reached.ensures in
     let put = c.put_shown in
     let stepped = c.step_whole-step.ensures in
-    (λ n. shown_on n (turn.0 n) stepped.0 stepped.1 put.ensures counted.0 counted.1.0 counted.1.1, put.auto.0 ∙ turn.1)
+    (λ n. shown_on n (turn.0 n) stepped.0 stepped.1 put.ensures counted.measured counted.length.0 counted.length.1, put.auto.0 ∙ turn.1)
 
 pub shape_of-text : goal.shape_of-text
 shape_of-text c = c.loop-window.invariant.1

@@ -4,7 +4,7 @@ use native.Mathlib.Omega.{arith}
 use lib.ListN.{length}
 use Rattle.chunks.specs.Reading.{chunks_of}
 use Rattle.columns.specs.Setting.{text_of}
-use Rattle.join.proofs.Running.{Running, running_start, running_length, line_small, running-on}
+use Rattle.join.proofs.Running.{Running, running_start, running_length, line_small, running_on}
 use Rattle.join.proofs.lines.measure_lines.Goals as goal
 
 pub spot_at-spot-requires : goal.spot_at-spot-requires
@@ -35,7 +35,7 @@ loop-spot-preserved c =
     let turn = c.loop-spot.invariant in
     let narrow = c.requires.0 in
     let found = c.measure_line-walked.ensures in
-    rw c.grown-past.ensures (running-on turn narrow found c.cut_of-cut.ensures)
+    rw c.grown-past.ensures (running_on turn narrow found c.cut_of-cut.ensures)
 
 pub returns : goal.returns
 returns c = running_length c.loop-spot.invariant c.loop-spot-test.false c.requires.2

@@ -4,7 +4,7 @@ use native.Mathlib.Omega.{arith}
 use lib.ListN.{length}
 use Rattle.chunks.specs.Reading.{chunks_of}
 use Rattle.columns.specs.Setting.{text_of}
-use Rattle.join.proofs.Running.{Running, running_start, running_length, line_small, running-on}
+use Rattle.join.proofs.Running.{Running, running_start, running_length, line_small, running_on}
 use Rattle.join.proofs.lines.measure_lines.Given as goal
 
 abbrev pub invariant-loop-spot : goal.invariant-loop-spot

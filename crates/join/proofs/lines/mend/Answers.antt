@@ -7,7 +7,7 @@ pub write_cut-requires : goal.write_cut-requires
 write_cut-requires c =
     let given = c.requires in
     let told = (given.0, (given.1.0, given.1.1 (sym c.is_astray.ensures ∙ c.if-is_astray.true))) in
-    record { narrow = told.0; cut_fits = told.1; line_in_bounds = told.2 }
+    record { narrow = told.0; cut_fits = told.1.0; line_in_bounds = told.1.1 }
 
 pub returns-then-is_astray : goal.returns-then-is_astray
 returns-then-is_astray c = rw (sym c.is_astray.ensures ∙ c.if-is_astray.true) c.write_cut.ensures

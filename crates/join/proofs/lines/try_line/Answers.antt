@@ -19,4 +19,4 @@ returns c =
     let window = c.window_of-window.ensures.answer in
     let walked = c.walk_line.ensures in
     let size = led.auto.0 ∙ newlined.auto.0 in
-    record { walked = walked.0; tried = line_tried c.args.past c.args.guess _ _ _ _ _ started newlined.ensures led.ensures.1 (rw (window, size) at walked.1) }
+    record { walked = walked.walked; tried = line_tried c.args.past c.args.guess _ _ _ _ _ started newlined.ensures led.ensures.1 (rw (window, size) at walked.showing) }

@@ -2,7 +2,7 @@
 use borrow.Author.Rules.{rules}
 use native.Mathlib.Omega.{arith}
 use Rattle.join.specs.Walk.{line_at}
-use Rattle.join.proofs.Running.{start_near, cut-end, cut_shown}
+use Rattle.join.proofs.Running.{start_near, cut_end, cut_shown}
 use Rattle.join.proofs.lines.write_cut.Goals as goal
 
 pub overflow_add-base : goal.overflow_add-base
@@ -11,11 +11,11 @@ overflow_add-base c = omega (arith, start_near c.args.past)
 pub write_line-requires : goal.write_line-requires
 write_line-requires c =
     let args = c.args in
-    let end = cut-end args.past args.cut (line_at args.margins args.list.now args.spot).line.bytes c.requires.cut_fits.0 in record { narrow = c.requires.narrow; room = omega (arith, c.line_start-start.ensures, c.put_newline.auto.0, c.fill.auto.0) }
+    let end = cut_end args.past args.cut (line_at args.margins args.list.now args.spot).line.bytes c.requires.cut_fits in record { narrow = c.requires.narrow; room = omega (arith, c.line_start-start.ensures, c.put_newline.auto.0, c.fill.auto.0) }
 
 pub returns : goal.returns
 returns c =
     let started = c.line_start-start.ensures in
     let newlined = c.put_newline.ensures in
     let led = c.fill.ensures.buffer in
-    cut_shown c.args.past c.args.cut _ _ _ _ _ c.requires.cut_fits.0 started c.requires.cut_fits.1 newlined led c.write_line.ensures
+    cut_shown c.args.past c.args.cut _ _ _ _ _ c.requires.cut_fits started c.requires.line_in_bounds newlined led c.write_line.ensures

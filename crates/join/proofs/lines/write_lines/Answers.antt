@@ -5,7 +5,7 @@ use native.Mathlib.Omega.{arith}
 use lib.ListN.{length}
 use Rattle.chunks.specs.Reading.{chunks_of}
 use Rattle.columns.specs.Setting.{text_of}
-use Rattle.join.proofs.Running.{Holding, holding_start, holding_done, line-fits, line_small, astray-room, holding-on}
+use Rattle.join.proofs.Running.{Holding, holding_start, holding_done, line_fits, line_small, astray_room, holding_on}
 use Rattle.join.proofs.lines.write_lines.Goals as goal
 
 pub spot_at-spot-requires : goal.spot_at-spot-requires
@@ -38,9 +38,9 @@ mend-requires c =
     let made = c.cut_of-cut.ensures in
     let told = (
       (given.0.0, running.standing, c.loop-spot-test.true, given.0.2),
-      (line-fits running given.0.0 found made, λ e. omega (arith, astray-room running given.0.0 found made guess e, turn.1, given.1.0, tried.auto.0)),
+      (line_fits running given.0.0 found made, λ e. omega (arith, astray_room running given.0.0 found made guess e, turn.1, given.1.0, tried.auto.0)),
     ) in
-    record { narrow = told.0; cut_fits = told.1; fact = told.2 }
+    record { narrow = told.0; cut_fits = told.1.0; fact = told.1.1 }
 
 pub grown-past-requires : goal.grown-past-requires
 grown-past-requires c =
@@ -60,7 +60,7 @@ loop-spot-preserved c =
     let tried = c.try_line-walked in
     let made = c.cut_of-cut.ensures in
     let mended = c.mend in (
-      rw c.grown-past.ensures (holding-on turn.0.running given.0.0 tried.ensures.0 made turn.0.held (turn.1 ∙ given.1.0)
+      rw c.grown-past.ensures (holding_on turn.0.running given.0.0 tried.ensures.0 made turn.0.held (turn.1 ∙ given.1.0)
           tried.ensures.1 mended.ensures tried.auto.0),
       mended.auto.0 ∙ tried.auto.0 ∙ turn.1,
     )

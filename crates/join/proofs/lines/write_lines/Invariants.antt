@@ -5,7 +5,7 @@ use native.Mathlib.Omega.{arith}
 use lib.ListN.{length}
 use Rattle.chunks.specs.Reading.{chunks_of}
 use Rattle.columns.specs.Setting.{text_of}
-use Rattle.join.proofs.Running.{Holding, holding_start, holding_done, line-fits, line_small, astray-room, holding-on}
+use Rattle.join.proofs.Running.{Holding, holding_start, holding_done, line_fits, line_small, astray_room, holding_on}
 use Rattle.join.proofs.lines.write_lines.Given as goal
 
 abbrev pub invariant-loop-spot : goal.invariant-loop-spot

@@ -2,8 +2,8 @@
 use borrow.Author.Rules.{rules}
 use mathlib.Core.Path.{refl}
 use native.Mathlib.Omega.{arith}
-use Rattle.join.proofs.Pieces.{piece-some, piece-within}
-use Rattle.join.proofs.Steps.{stepped-ignored, stepped_kept, stepped-newline}
+use Rattle.join.proofs.Pieces.{piece_some, piece_within}
+use Rattle.join.proofs.Steps.{stepped_ignored, stepped_kept, stepped_newline}
 use Rattle.join.proofs.piece.step_over.Goals as goal
 
 pub spot_after-requires : goal.spot_after-requires
@@ -14,24 +14,24 @@ spot_after-requires c =
 pub returns-then-is_newline : goal.returns-then-is_newline
 returns-then-is_newline c =
     let lone = c.is_newline.ensures c.if-is_newline.true in
-    stepped-newline _ _ _ _ _ c.requires.0 c.requires.1 c.requires.2 lone c.spot_after.ensures c.keeps_newline.ensures
+    stepped_newline _ _ _ _ _ c.requires.0 c.requires.1 c.requires.2 lone c.spot_after.ensures c.keeps_newline.ensures
 
 pub lay_piece-lay-requires : goal.lay_piece-lay-requires
 lay_piece-lay-requires c =
-    let some = piece-some _ _ c.requires.1 c.requires.2 in
-    let within = piece-within _ _ c.requires.1 c.requires.2 in
+    let some = piece_some _ _ c.requires.1 c.requires.2 in
+    let within = piece_within _ _ c.requires.1 c.requires.2 in
     (c.requires.0, c.requires.1, omega (arith, some, c.piece_end-piece.ensures.0), omega (arith, within, c.piece_end-piece.ensures.0), c.requires.3)
 
 pub spot_after-behind-requires : goal.spot_after-behind-requires
 spot_after-behind-requires c =
-    let some = piece-some _ _ c.requires.1 c.requires.2 in
-    let within = piece-within _ _ c.requires.1 c.requires.2 in
+    let some = piece_some _ _ c.requires.1 c.requires.2 in
+    let within = piece_within _ _ c.requires.1 c.requires.2 in
     (c.requires.1, omega (arith, some, c.piece_end-piece.ensures.0), omega (arith, within, c.piece_end-piece.ensures.0))
 
 pub returns-then-lay : goal.returns-then-lay
 returns-then-lay c =
     let piece = c.piece_end-piece in
-    stepped-ignored _ _ _ _ piece.result _ _ c.requires.0 c.requires.1 c.requires.2 piece.ensures.0 piece.ensures.1
+    stepped_ignored _ _ _ _ piece.result _ _ c.requires.0 c.requires.1 c.requires.2 piece.ensures.0 piece.ensures.1
     c.lay_piece-lay.ensures c.spot_after-behind.ensures c.if-lay.true refl
 
 pub returns-then-last : goal.returns-then-last

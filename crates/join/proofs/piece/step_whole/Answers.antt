@@ -1,7 +1,7 @@
 -- The piece is the rest of its chunk, laid as the definition adds it, and the next chunk stands behind it.
 use mathlib.Core.Path.{refl}
 use native.Mathlib.Omega.{arith}
-use Rattle.join.proofs.Steps.{stepped-whole}
+use Rattle.join.proofs.Steps.{stepped_whole}
 use Rattle.join.proofs.piece.step_whole.Goals as goal
 
 pub lay_piece-lay-requires : goal.lay_piece-lay-requires
@@ -16,4 +16,4 @@ spot_after-behind-requires c =
 
 pub returns : goal.returns
 returns c =
-    (stepped-whole _ _ _ _ _ _ c.requires.narrow.0 c.requires.narrow.1 c.requires.narrow.2 c.requires.whole c.lay_piece-lay.ensures c.spot_after-behind.ensures, refl)
+    (stepped_whole _ _ _ _ _ _ c.requires.narrow.0 c.requires.narrow.1 c.requires.narrow.2 c.requires.whole c.lay_piece-lay.ensures c.spot_after-behind.ensures, refl)

@@ -7,7 +7,7 @@ use Rattle.join.proofs.setter.join_chunks.Goals as goal
 
 pub join_with-requires : goal.join_with-requires
 join_with-requires c =
-    let narrow = rw c.in-Options.is at c.read_options-read.ensures.narrow.0 in
+    let narrow = rw c.in-Options.is at c.read_options-read.ensures.narrow in
     rw c.margins_of.ensures (record { label = narrow.label; code = narrow.code })
 
 pub returns-in-Options : goal.returns-in-Options
@@ -15,7 +15,7 @@ unfolding join_outcome
 returns-in-Options c =
     let read = sym c.read_options-read.ensures.answer ∙ c.in-Options.is in
     let said = c.join_with.ensures in
-    rw (read, ← c.margins_of.ensures) (said.0, (said.1.0, (said.1.1, numbers_in_lem _ _ said.0)))
+    rw (read, ← c.margins_of.ensures) (said.answer, (said.buffer, (said.demands, numbers_in_lem _ _ said.answer)))
 
 pub returns-in-Refused : goal.returns-in-Refused
 unfolding join_outcome

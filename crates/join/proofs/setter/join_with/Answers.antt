@@ -5,7 +5,7 @@ use native.Mathlib.Omega.{arith}
 use lib.ListN.{length-take}
 use lib.Seq.{length-take-le}
 use Rattle.chunks.specs.Reading.{chunks_of}
-use Rattle.chunks.proofs.Judging.{passed-end, passed-short}
+use Rattle.chunks.proofs.Judging.{passed_end, passed_short}
 use Rattle.columns.specs.Setting.{text_of}
 use Rattle.columns.proofs.Promises.{text_faithful, text_long, text_fits_lem}
 use Rattle.join.proofs.setter.join_with.Goals as goal
@@ -18,7 +18,7 @@ returns-in-Failed c =
 pub measure_lines-length-requires : goal.measure_lines-length-requires
 measure_lines-length-requires c =
     let passed = sym c.check_chunks-checked.ensures.answer ∙ c.in_default.is in
-    (c.requires, passed-end _ passed, passed-short _ passed)
+    (c.requires, passed_end _ passed, passed_short _ passed)
 
 pub returns-then-text-length : goal.returns-then-text-length
 returns-then-text-length c =
@@ -37,7 +37,7 @@ write_lines-requires c =
     let passed = sym c.check_chunks-checked.ensures.answer ∙ c.in_default.is in
     let measured = c.measure_lines-length.ensures in
     let size = length-take-le _ _ c.if-text-length.false in
-    record { narrow = (c.requires, passed-end _ passed, passed-short _ passed); text_len = (size ∙ measured.0, omega (arith, size, measured.1)) }
+    record { narrow = (c.requires, passed_end _ passed, passed_short _ passed); text_len = (size ∙ measured.0, omega (arith, size, measured.1)) }
 
 pub returns : goal.returns
 returns c =

@@ -1,7 +1,7 @@
 -- The three letters are the name of the index, and past the last there is none.
 use Rattle.text.specs.Literals.{ascii}
 use Rattle.events.specs.Printed.{printed, mnemonics}
-use Rattle.leaves.proofs.Tables.{run_past, run-cased, threes_at, mnemonic_names}
+use Rattle.leaves.proofs.Tables.{run_past, run_cased, threes_at, mnemonic_names}
 use borrow.Author.Rules.{rules}
 use native.Mathlib.Omega.{arith}
 use Rattle.leaves.proofs.texts.mnemonic.Goals as goal
@@ -12,4 +12,4 @@ returns-then-index-gt55 c = run_past _ _ _ c.args.index mnemonics _ (omega arith
 
 pub returns : goal.returns
 unfolding ascii printed
-returns c = run-cased _ _ _ _ _ _ mnemonics _ _ mnemonic_names (threes_at _ _ (omega arith)) c.format.ensures c.push.ensures
+returns c = run_cased _ _ _ _ _ _ mnemonics _ _ mnemonic_names (threes_at _ _ (omega arith)) c.format.ensures c.push.ensures

@@ -2,15 +2,15 @@
 use mathlib.Core.Path.{refl}
 use Rattle.text.specs.Literals.{ascii}
 use Rattle.events.specs.Printed.{modifiers, printed}
-use Rattle.leaves.specs.Texts.{in_order}
-use Rattle.leaves.proofs.Tables.{run-table, modifier_texts}
+use Rattle.leaves.specs.Texts.{in_order_lem}
+use Rattle.leaves.proofs.Tables.{run_table, modifier_texts}
 use borrow.Author.Rules.{rules}
 use Rattle.leaves.proofs.texts.modifier.Goals as goal
 
 pub push_entry-requires : goal.push_entry-requires
-unfolding in_order
+unfolding in_order_lem
 push_entry-requires c = refl
 
 pub returns : goal.returns
 unfolding ascii printed
-returns c = run-table _ _ _ _ _ _ modifiers _ _ modifier_texts c.push_entry.ensures
+returns c = run_table _ _ _ _ _ _ modifiers _ _ modifier_texts c.push_entry.ensures

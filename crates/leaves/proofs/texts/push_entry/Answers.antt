@@ -1,5 +1,5 @@
 -- The places are in order, so the part that is lent is the text of the index; past the last there is none.
-use Rattle.leaves.proofs.Tables.{run_none, cut_past, in-order-next, run-cut}
+use Rattle.leaves.proofs.Tables.{run_none, cut_past, in_order_next, run_cut}
 use borrow.Author.Rules.{rules}
 use native.Mathlib.Omega.{arith}
 use Rattle.leaves.proofs.texts.push_entry.Goals as goal
@@ -12,8 +12,8 @@ returns-then-places-index c = run_none _ _ _ _ (cut_past _ _ _ (omega arith))
 
 pub slice_bounds-push-count : goal.slice_bounds-push-count
 slice_bounds-push-count c =
-    omega (arith, in-order-next c.args.texts.now c.args.places.now c.args.index (omega arith) c.requires)
+    omega (arith, in_order_next c.args.texts.now c.args.places.now c.args.index (omega arith) c.requires)
 
 pub returns : goal.returns
 returns c =
-    run-cut _ _ _ (omega arith) _ _ _ _ _ _ _ c.wide-from.ensures.0 c.wide-to.ensures.0 c.push.ensures
+    run_cut _ _ _ (omega arith) _ _ _ _ _ _ _ c.wide-from.ensures.0 c.wide-to.ensures.0 c.push.ensures

@@ -2,17 +2,17 @@
 use mathlib.Core.Path.{refl, ap}
 use Rattle.events.specs.Printed.{mnemonic, register, operator, data_size, encoding, variable_type, number_type, modifier}
 use Rattle.leaves.specs.Texts.{style_of}
-use Rattle.leaves.proofs.Tables.{run-no-text, run-plain, run_index}
+use Rattle.leaves.proofs.Tables.{run_no_text, run_plain, run_index}
 use borrow.Author.Rules.{rules}
 use Rattle.leaves.proofs.texts.push_text.Goals as goal
 
 pub returns-then-start-end : goal.returns-then-start-end
-returns-then-start-end c = run-no-text _ _ _ _ _ _ _ c.if-start-end.true
+returns-then-start-end c = run_no_text _ _ _ _ _ _ _ c.if-start-end.true
 
 pub returns-in-Plain : goal.returns-in-Plain
 returns-in-Plain c =
     let given = c.args in
-    run-plain _ _ given.tree.now given.start given.end _ _ _ _ (ap style_of c.in-Plain.is) c.push.ensures
+    run_plain _ _ given.tree.now given.start given.end _ _ _ _ (ap style_of c.in-Plain.is) c.push.ensures
 
 pub returns-in-Mnemonic : goal.returns-in-Mnemonic
 returns-in-Mnemonic c =

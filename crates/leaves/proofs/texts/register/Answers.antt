@@ -1,7 +1,7 @@
 -- The letter is the name of the index, and past the last there is none.
 use Rattle.text.specs.Literals.{ascii}
 use Rattle.events.specs.Printed.{printed, registers}
-use Rattle.leaves.proofs.Tables.{run_past, run-cased, ones_at, register_names}
+use Rattle.leaves.proofs.Tables.{run_past, run_cased, ones_at, register_names}
 use borrow.Author.Rules.{rules}
 use native.Mathlib.Omega.{arith}
 use Rattle.leaves.proofs.texts.register.Goals as goal
@@ -13,4 +13,4 @@ returns-then-index-gt1 c = run_past _ _ _ c.args.index registers _ (omega arith)
 pub returns : goal.returns
 unfolding ascii printed
 returns c =
-    run-cased _ _ _ _ _ _ registers _ _ register_names (ones_at (ascii "XY") c.args.index (omega arith)) c.format.ensures c.push.ensures
+    run_cased _ _ _ _ _ _ registers _ _ register_names (ones_at (ascii "XY") c.args.index (omega arith)) c.format.ensures c.push.ensures

@@ -5,7 +5,7 @@ use borrow.Author.Tests.{not-true, not-false}
 use Rattle.printing.specs.Running.{going, run}
 use Rattle.events.specs.Trees.{lead_events}
 use Rattle.leaves.specs.Items.{items_at}
-use Rattle.leaves.proofs.Items.{item_lies, lead-left, lead-broken, lead-on, lead-stops}
+use Rattle.leaves.proofs.Items.{item_lies, lead_left, lead_broken, lead-on, lead-stops}
 use borrow.Author.Rules.{rules}
 use native.Mathlib.Omega.{arith}
 use Rattle.leaves.proofs.trivia.format_lead.Goals as goal
@@ -18,7 +18,7 @@ shape_of-room-in_default c = c.loop-left.invariant.0
 
 pub returns-in_default : goal.returns-in_default
 returns-in_default c =
-    c.loop-left.invariant.1 ∙ lead-broken _ _ _ _ c.loop-left-test.true c.trivium_at-read.ensures c.in_default.is _
+    c.loop-left.invariant.1 ∙ lead_broken _ _ _ _ c.loop-left-test.true c.trivium_at-read.ensures c.in_default.is _
 
 pub only_newline-requires : goal.only_newline-requires
 only_newline-requires c = item_lies _ _ _ c.trivium_at-read.ensures c.in-Item.is
@@ -45,4 +45,4 @@ pub shape_of-room : goal.shape_of-room
 shape_of-room c = c.loop-left.invariant.0
 
 pub returns : goal.returns
-returns c = c.loop-left.invariant.1 ∙ lead-left _ _ _ _ c.loop-left-test.false _
+returns c = c.loop-left.invariant.1 ∙ lead_left _ _ _ _ c.loop-left-test.false _

@@ -5,7 +5,7 @@ use borrow.Author.Tests.{not-true, not-false}
 use Rattle.printing.specs.Running.{going, run}
 use Rattle.events.specs.Trees.{lead_events}
 use Rattle.leaves.specs.Items.{items_at}
-use Rattle.leaves.proofs.Items.{item_lies, lead-left, lead-broken, lead-on, lead-stops}
+use Rattle.leaves.proofs.Items.{item_lies, lead_left, lead_broken, lead-on, lead-stops}
 use borrow.Author.Rules.{rules}
 use native.Mathlib.Omega.{arith}
 use Rattle.leaves.proofs.trivia.format_lead.Given as goal

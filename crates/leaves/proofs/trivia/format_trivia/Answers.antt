@@ -4,7 +4,7 @@ use lib.ListN.{length}
 use Rattle.printing.specs.Running.{going, run}
 use Rattle.events.specs.Trees.{trivia_events}
 use Rattle.leaves.specs.Items.{items_at}
-use Rattle.leaves.proofs.Items.{item_lies, run-left, run-next, run-broken}
+use Rattle.leaves.proofs.Items.{item_lies, run_left, run_next, run_broken}
 use borrow.Author.Rules.{rules}
 use native.Mathlib.Omega.{arith}
 use Rattle.leaves.proofs.trivia.format_trivia.Goals as goal
@@ -17,7 +17,7 @@ shape_of-room-in_default c = c.loop-left.invariant.0
 
 pub returns-in_default : goal.returns-in_default
 returns-in_default c =
-    c.loop-left.invariant.1 ∙ run-broken _ _ _ _ c.loop-left-test.true c.trivium_at-read.ensures c.in_default.is _
+    c.loop-left.invariant.1 ∙ run_broken _ _ _ _ c.loop-left-test.true c.trivium_at-read.ensures c.in_default.is _
 
 pub format_trivium-next-requires : goal.format_trivium-next-requires
 format_trivium-next-requires c = item_lies _ _ _ c.trivium_at-read.ensures c.in-Item.is
@@ -26,11 +26,11 @@ pub loop-left-preserved : goal.loop-left-preserved
 loop-left-preserved c = (
   c.format_trivium-next.auto.1.1.1.0 ∙ c.loop-left.invariant.0,
   c.loop-left.invariant.1
-      ∙ run-next _ _ _ _ c.loop-left-test.true c.trivium_at-read.ensures _ c.in-Item.is _ c.format_trivium-next.ensures,
+      ∙ run_next _ _ _ _ c.loop-left-test.true c.trivium_at-read.ensures _ c.in-Item.is _ c.format_trivium-next.ensures,
 )
 
 pub shape_of-room : goal.shape_of-room
 shape_of-room c = c.loop-left.invariant.0
 
 pub returns : goal.returns
-returns c = c.loop-left.invariant.1 ∙ run-left _ _ _ _ c.loop-left-test.false _
+returns c = c.loop-left.invariant.1 ∙ run_left _ _ _ _ c.loop-left-test.false _

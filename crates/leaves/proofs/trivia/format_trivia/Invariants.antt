@@ -4,7 +4,7 @@ use lib.ListN.{length}
 use Rattle.printing.specs.Running.{going, run}
 use Rattle.events.specs.Trees.{trivia_events}
 use Rattle.leaves.specs.Items.{items_at}
-use Rattle.leaves.proofs.Items.{item_lies, run-left, run-next, run-broken}
+use Rattle.leaves.proofs.Items.{item_lies, run_left, run_next, run_broken}
 use borrow.Author.Rules.{rules}
 use native.Mathlib.Omega.{arith}
 use Rattle.leaves.proofs.trivia.format_trivia.Given as goal

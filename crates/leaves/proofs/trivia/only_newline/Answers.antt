@@ -1,6 +1,6 @@
 -- By the code, and then by the length of the text.
 use borrow.Author.Tests.{eq-eqb, ne_eqb}
-use Rattle.leaves.proofs.Items.{only-empty, only_one, only-longer}
+use Rattle.leaves.proofs.Items.{only_empty, only_one, only_longer}
 use borrow.Author.Rules.{rules}
 use Rattle.leaves.proofs.trivia.only_newline.Goals as goal
 
@@ -11,7 +11,7 @@ pub returns-then-item-eq-NEWLINE : goal.returns-then-item-eq-NEWLINE
 returns-then-item-eq-NEWLINE c = rw (ne_eqb _ _ c.if-item-eq-WHITESPACE.false, eq-eqb _ _ c.if-item-eq-NEWLINE.true)
 
 pub returns-then-count-eq0 : goal.returns-then-count-eq0
-returns-then-count-eq0 c = only-empty _ _ c.if-item-eq-WHITESPACE.false c.if-item-eq-NEWLINE.false c.requires c.if-count-eq0.true
+returns-then-count-eq0 c = only_empty _ _ c.if-item-eq-WHITESPACE.false c.if-item-eq-NEWLINE.false c.requires c.if-count-eq0.true
 
 pub returns-then-count-eq1 : goal.returns-then-count-eq1
 returns-then-count-eq1 c =
@@ -19,4 +19,4 @@ returns-then-count-eq1 c =
 
 pub returns : goal.returns
 returns c =
-    only-longer _ _ c.if-item-eq-WHITESPACE.false c.if-item-eq-NEWLINE.false c.requires c.if-count-eq0.false c.if-count-eq1.false
+    only_longer _ _ c.if-item-eq-WHITESPACE.false c.if-item-eq-NEWLINE.false c.requires c.if-count-eq0.false c.if-count-eq1.false

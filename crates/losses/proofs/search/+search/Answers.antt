@@ -5,9 +5,9 @@ use borrow.Author.Rules.{rules}
 use Rattle.tree.specs.Reading.{read}
 use Rattle.tree.specs.Walk.{plan_size}
 use Rattle.tree.proofs.Planning.{next_of, rest_less, plan_due}
-use Rattle.tree.proofs.Records.{level-left}
-use Rattle.losses.proofs.Searching.{PartsLeft, parts_start, search-done, search-on, part-unread}
-use Rattle.losses.proofs.Searching.{search-refused, use-refused, part-refused, record-searched}
+use Rattle.tree.proofs.Records.{level_left}
+use Rattle.losses.proofs.Searching.{PartsLeft, parts_start, search_done, search_on, part_unread}
+use Rattle.losses.proofs.Searching.{search_refused, use_refused, part_refused, record_searched}
 use Prim.Native.Nat.{ℕ, ◌<◌, ◌-◌}
 use Rattle.losses.proofs.search.+search.Goals as goal
 
@@ -34,68 +34,68 @@ search-claims t = (
 )
 
 pub read_own-read-requires : goal.read_own-read-requires
-read_own-read-requires c = tt
+read_own-read-requires t c = tt
 
 pub refusal_of-requires : goal.refusal_of-requires
-refusal_of-requires c = tt
+refusal_of-requires t c = tt
 
 pub returns-in_default : goal.returns-in_default
-returns-in_default c =
-    search-refused _ _ _ _ c.args.listed c.read_own-read.ensures.answer c.in_default.is
+returns-in_default t c =
+    search_refused _ _ _ _ c.args.listed c.read_own-read.ensures.answer c.in_default.is
 
 pub record_uses-used-requires : goal.record_uses-used-requires
-record_uses-used-requires c =
-    level-left _ _ _ _ _ c.read_own-read.ensures.answer _ c.in-Record.is
+record_uses-used-requires t c =
+    level_left _ _ _ _ _ c.read_own-read.ensures.answer _ c.in-Record.is
 
 pub refused_use-requires : goal.refused_use-requires
-refused_use-requires c = tt
+refused_use-requires t c = tt
 
 pub returns-in_default-used : goal.returns-in_default-used
-returns-in_default-used c =
-    use-refused _ _ _ _ c.args.listed c.read_own-read.ensures.answer _ c.in-Record.is
+returns-in_default-used t c =
+    use_refused _ _ _ _ c.args.listed c.read_own-read.ensures.answer _ c.in-Record.is
     c.record_uses-used.ensures c.in_default-used.is
 
 pub byte_at-requires : goal.byte_at-requires
-byte_at-requires c = tt
+byte_at-requires t c = tt
 
 pub listed_below-below-requires : goal.listed_below-below-requires
-listed_below-below-requires c = tt
+listed_below-below-requires t c = tt
 
 pub plan_of-plan-requires : goal.plan_of-plan-requires
-plan_of-plan-requires c = tt
+plan_of-plan-requires t c = tt
 
 pub loop-field-init : goal.loop-field-init
-loop-field-init c = parts_start _ _ _ _ _ _
+loop-field-init t c = parts_start _ _ _ _ _ _
 
 pub next_part-part-requires : goal.next_part-part-requires
-next_part-part-requires c = tt
+next_part-part-requires t c = tt
 
 pub returns-in_default-part : goal.returns-in_default-part
-returns-in_default-part c =
-    record-searched _ _ _ _ c.args.listed c.read_own-read.ensures.answer _ c.in-Record.is
+returns-in_default-part t c =
+    record_searched _ _ _ _ c.args.listed c.read_own-read.ensures.answer _ c.in-Record.is
     c.record_uses-used.ensures c.in-Shown.is c.byte_at.ensures below.Listed-Below.ensures
-    (search-done _ _ _ _ _ _ _ _ _ c.loop-field.invariant _ (next_of _ c.next_part-part.ensures) c.in_default-part.is _ (plan_due _ _ c.plan_of-plan.ensures))
+    (search_done _ _ _ _ _ _ _ _ _ c.loop-field.invariant _ (next_of _ c.next_part-part.ensures) c.in_default-part.is _ (plan_due _ _ c.plan_of-plan.ensures))
 
 pub overflow_sub-levels : goal.overflow_sub-levels
-overflow_sub-levels c =
-    omega (arith, level-left _ _ _ _ _ c.read_own-read.ensures.answer _ c.in-Record.is)
+overflow_sub-levels t c =
+    omega (arith, level_left _ _ _ _ _ c.read_own-read.ensures.answer _ c.in-Record.is)
 
 pub search-searched-requires : goal.search-searched-requires
-search-searched-requires c =
-    omega (arith, level-left _ _ _ _ _ c.read_own-read.ensures.answer _ c.in-Record.is, c.requires.0)
+search-searched-requires t c =
+    omega (arith, level_left _ _ _ _ _ c.read_own-read.ensures.answer _ c.in-Record.is, c.requires.0)
 
 pub returns-in_default-searched : goal.returns-in_default-searched
-returns-in_default-searched c =
-    part-refused _ _ _ _ c.args.listed c.read_own-read.ensures.answer _ c.in-Record.is
+returns-in_default-searched t c =
+    part_refused _ _ _ _ c.args.listed c.read_own-read.ensures.answer _ c.in-Record.is
     c.record_uses-used.ensures
-    (part-unread _ _ _ _ _ _ _ _ _ c.loop-field.invariant _ (next_of _ c.next_part-part.ensures) _ _ c.in-Next.is _ c.search-searched.ensures
+    (part_unread _ _ _ _ _ _ _ _ _ c.loop-field.invariant _ (next_of _ c.next_part-part.ensures) _ _ c.in-Next.is _ c.search-searched.ensures
     c.in_default-searched.is _ (plan_due _ _ c.plan_of-plan.ensures))
 
 pub loop-field-smaller : goal.loop-field-smaller
-loop-field-smaller c =
+loop-field-smaller t c =
     rest_less c.loop-field.plan _ _ _ c.in-Next.is c.next_part-part.ensures
 
 pub loop-field-preserved : goal.loop-field-preserved
-loop-field-preserved c =
-    search-on _ _ _ _ _ _ _ _ _ c.loop-field.invariant _ (next_of _ c.next_part-part.ensures) _ _ c.in-Next.is _ c.search-searched.ensures
+loop-field-preserved t c =
+    search_on _ _ _ _ _ _ _ _ _ c.loop-field.invariant _ (next_of _ c.next_part-part.ensures) _ _ c.in-Next.is _ c.search-searched.ensures
     _ _ c.in-Whole.is

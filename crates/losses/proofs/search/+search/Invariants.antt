@@ -5,11 +5,14 @@ use borrow.Author.Rules.{rules}
 use Rattle.tree.specs.Reading.{read}
 use Rattle.tree.specs.Walk.{plan_size}
 use Rattle.tree.proofs.Planning.{next_of, rest_less, plan_due}
-use Rattle.tree.proofs.Records.{level-left}
-use Rattle.losses.proofs.Searching.{PartsLeft, parts_start, search-done, search-on, part-unread}
-use Rattle.losses.proofs.Searching.{search-refused, use-refused, part-refused, record-searched}
+use Rattle.tree.proofs.Records.{level_left}
+use Rattle.losses.proofs.Searching.{PartsLeft, parts_start, search_done, search_on, part_unread}
+use Rattle.losses.proofs.Searching.{search_refused, use_refused, part_refused, record_searched}
 use Prim.Native.Nat.{ℕ, ◌<◌, ◌-◌}
 use Rattle.losses.proofs.search.+search.Given as goal
+
+abbrev pub decreases-search : goal.decreases-search
+decreases-search l = l.levels
 
 abbrev pub invariant-loop-field : goal.invariant-loop-field
 invariant-loop-field l =

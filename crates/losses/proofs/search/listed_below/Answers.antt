@@ -17,5 +17,5 @@ returns-in-27 c = rw c.in-27.is refl
 
 pub returns-in_default : goal.returns-in_default
 returns-in_default c =
-    let others = c.in_default.rest in
+    let others = c.in_default.in_default-own.rest in
     rw (ne_eqb _ _ others.1, ne_eqb _ _ others.0.1, ne_eqb _ _ others.0.0.1, ne_eqb _ _ others.0.0.0.1) refl

@@ -1,17 +1,17 @@
 -- A refusal of the check; one of the search, which cannot be where the check passed; no use; and the first record that has one.
-use Rattle.losses.proofs.Answered.{lost-refused, search-unrefused, lost-none, lost-used}
+use Rattle.losses.proofs.Answered.{lost_refused, search_unrefused, lost-none, lost-used}
 use Rattle.losses.proofs.Inside.{narrow_lost}
 use borrow.Author.Rules.{rules}
 use Rattle.losses.proofs.search.lost.Goals as goal
 
 pub returns-in_default : goal.returns-in_default
 returns-in_default c =
-    let told = narrow_lost _ _ _ (lost-refused _ _ c.check_tree-checked.ensures.answer c.refused_check.ensures c.in_default.is) in
-    record { answer = told.0; narrow = told.1; numbers = told.2 }
+    let told = narrow_lost _ _ _ (lost_refused _ _ c.check_tree-checked.ensures.answer c.refused_check.ensures c.in_default.is) in
+    record { answer = told.0; narrow = told.1.0; numbers = told.1.1 }
 
 pub returns-in_default-searched : goal.returns-in_default-searched
 returns-in_default-searched c =
-    search-unrefused _ _ c.check_tree-checked.ensures.answer c.in-Passed.is c.no_firsts.ensures c.search-searched.ensures
+    search_unrefused _ _ c.check_tree-checked.ensures.answer c.in-Passed.is c.no_firsts.ensures c.search-searched.ensures
     c.in_default-searched.is
 
 pub returns-in-Never : goal.returns-in-Never
@@ -19,11 +19,11 @@ returns-in-Never c =
     let told = narrow_lost _ _ _
     (lost-none _ _ c.check_tree-checked.ensures.answer c.in-Passed.is c.no_firsts.ensures c.search-searched.ensures
     c.in-Whole.is c.least-least.ensures c.in-Never.is) in
-    record { answer = told.0; narrow = told.1; numbers = told.2 }
+    record { answer = told.0; narrow = told.1.0; numbers = told.1.1 }
 
 pub returns-in-At : goal.returns-in-At
 returns-in-At c =
     let told = narrow_lost _ _ _
     (lost-used _ _ c.check_tree-checked.ensures.answer c.in-Passed.is c.no_firsts.ensures c.search-searched.ensures
     c.in-Whole.is c.least-least.ensures c.in-At.is c.letters_at.ensures) in
-    record { answer = told.0; narrow = told.1; numbers = told.2 }
+    record { answer = told.0; narrow = told.1.0; numbers = told.1.1 }

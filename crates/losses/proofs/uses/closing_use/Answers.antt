@@ -2,21 +2,21 @@
 -- prints, and one that it does not.
 use mathlib.Core.Logic.{⊎_elim}
 use borrow.Author.Tests.{not-true, not-false, eq-eqb, ne_eqb}
-use Rattle.losses.proofs.Operands.{takes-no-closing, no-expression, no-opening, no-closing, no_mode, takes-printed, takes-closing}
+use Rattle.losses.proofs.Operands.{takes_no_closing, no_expression, no_opening, no-closing, no_mode, takes-printed, takes-closing}
 use borrow.Author.Rules.{rules}
 use Rattle.losses.proofs.uses.closing_use.Goals as goal
 
 pub returns-then-not-stands : goal.returns-then-not-stands
-returns-then-not-stands c = takes-no-closing _ _ _ c.stands.ensures (not-true _ c.if-not-stands.true-raw)
+returns-then-not-stands c = takes_no_closing _ _ _ c.stands.ensures (not-true _ c.if-not-stands.true-raw)
 
 pub returns-in_default : goal.returns-in_default
 returns-in_default c =
-    no-expression _ _ _ c.stands.ensures (not-false _ c.if-not-stands.false-raw) c.skip-expression.ensures.answer
+    no_expression _ _ _ c.stands.ensures (not-false _ c.if-not-stands.false-raw) c.skip-expression.ensures.answer
     c.in_default.is
 
 pub returns-in_default-opening : goal.returns-in_default-opening
 returns-in_default-opening c =
-    no-opening _ _ _ c.stands.ensures (not-false _ c.if-not-stands.false-raw) c.skip-expression.ensures.answer
+    no_opening _ _ _ c.stands.ensures (not-false _ c.if-not-stands.false-raw) c.skip-expression.ensures.answer
     c.in-Next.is c.stands-2.ensures c.behind-opening.ensures
     c.in_default-opening.is
 

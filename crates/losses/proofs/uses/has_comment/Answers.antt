@@ -2,7 +2,7 @@
 use mathlib.Core.Path.{◌≡◌, refl, sym, ◌∙◌}
 use Rattle.leaves.specs.Items.{items_at}
 use Rattle.reading.specs.Places.{has_comment}
-use Rattle.losses.proofs.Comments.{comment-none, comment-broken, comment-here, comment-later}
+use Rattle.losses.proofs.Comments.{comment_none, comment_broken, comment_here, comment_later}
 use borrow.Author.Rules.{rules}
 use native.Mathlib.Omega.{arith}
 use Rattle.losses.proofs.uses.has_comment.Goals as goal
@@ -12,17 +12,17 @@ loop-left-init c = refl
 
 pub returns-in_default : goal.returns-in_default
 returns-in_default c =
-    sym (c.loop-left.invariant ∙ comment-broken _ _ _ c.loop-left-test.true c.trivium_at-read.ensures c.in_default.is)
+    sym (c.loop-left.invariant ∙ comment_broken _ _ _ c.loop-left-test.true c.trivium_at-read.ensures c.in_default.is)
 
 pub returns-then-item-ge-C_STYLE : goal.returns-then-item-ge-C_STYLE
 returns-then-item-ge-C_STYLE c =
     sym (c.loop-left.invariant
-    ∙ comment-here _ _ _ c.loop-left-test.true c.trivium_at-read.ensures _ c.in-Item.is c.if-item-ge-C_STYLE.true)
+    ∙ comment_here _ _ _ c.loop-left-test.true c.trivium_at-read.ensures _ c.in-Item.is c.if-item-ge-C_STYLE.true)
 
 pub loop-left-preserved : goal.loop-left-preserved
 loop-left-preserved c =
     c.loop-left.invariant
-    ∙ comment-later _ _ _ c.loop-left-test.true c.trivium_at-read.ensures _ c.in-Item.is c.if-item-ge-C_STYLE.false
+    ∙ comment_later _ _ _ c.loop-left-test.true c.trivium_at-read.ensures _ c.in-Item.is c.if-item-ge-C_STYLE.false
 
 pub returns : goal.returns
-returns c = sym (c.loop-left.invariant ∙ comment-none _ _ _ c.loop-left-test.false)
+returns c = sym (c.loop-left.invariant ∙ comment_none _ _ _ c.loop-left-test.false)

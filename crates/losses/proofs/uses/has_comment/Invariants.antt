@@ -2,7 +2,7 @@
 use mathlib.Core.Path.{◌≡◌, refl, sym, ◌∙◌}
 use Rattle.leaves.specs.Items.{items_at}
 use Rattle.reading.specs.Places.{has_comment}
-use Rattle.losses.proofs.Comments.{comment-none, comment-broken, comment-here, comment-later}
+use Rattle.losses.proofs.Comments.{comment_none, comment_broken, comment_here, comment_later}
 use borrow.Author.Rules.{rules}
 use native.Mathlib.Omega.{arith}
 use Rattle.losses.proofs.uses.has_comment.Given as goal

@@ -13,5 +13,5 @@ returns-in-LocatedToken c = rw c.in-LocatedToken.is c.token_spot-in-LocatedToken
 
 pub returns-in_default : goal.returns-in_default
 returns-in_default c =
-    let other = not_class (tags_but (20 ∷ 21 ∷ []) 0 35) c.args.class c.in_default.keys3 in
+    let other = not_class (tags_but (20 ∷ 21 ∷ []) 0 35) c.args.class c.in_default.in_default-own.keys3 in
     rw (other 20 tt, other 21 tt) refl

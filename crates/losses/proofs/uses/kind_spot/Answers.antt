@@ -10,4 +10,4 @@ pub returns-in-26 : goal.returns-in-26
 returns-in-26 c = rw c.in-26.is refl
 
 pub returns-in_default : goal.returns-in_default
-returns-in_default c = rw (ne_eqb _ _ c.in_default.rest.1, ne_eqb _ _ c.in_default.rest.0.1) refl
+returns-in_default c = rw (ne_eqb _ _ c.in_default.in_default-own.rest.1, ne_eqb _ _ c.in_default.in_default-own.rest.0.1) refl

@@ -19,5 +19,5 @@ returns-in-IndexRegister c = rw c.in-IndexRegister.is refl
 
 pub returns-in_default : goal.returns-in_default
 returns-in_default c =
-    let other = not_class (tags_but (3 ∷ 5 ∷ 8 ∷ []) 0 35) c.args.class c.in_default.keys4 in
+    let other = not_class (tags_but (3 ∷ 5 ∷ 8 ∷ []) 0 35) c.args.class c.in_default.in_default-own.keys4 in
     rw (other 3 tt, other 5 tt, other 8 tt) c.kind_spot.ensures

@@ -7,7 +7,7 @@ use lib.Seq.{take-length, length-take-le}
 use borrow.Author.Rules.{rules}
 use borrow.Author.Tests.{not-true, not-false}
 use Rattle.text.specs.Ink.{trim_end}
-use Rattle.text.proofs.Ink.{trim-last-ink, trim-last-blank}
+use Rattle.text.proofs.Ink.{trim_last_ink, trim_last_blank}
 use Rattle.text.proofs.scans.ink_end.Goals as goal
 
 pub loop-end-init : goal.loop-end-init
@@ -17,14 +17,14 @@ pub returns-then-not-is_blank : goal.returns-then-not-is_blank
 returns-then-not-is_blank c =
     let turn = c.loop-end in
     let bytes = c.args.bytes.now in
-    let kept = trim-last-ink bytes turn.end c.loop-end-test.true turn.invariant.0 (sym c.is_blank.ensures ∙ not-true _ c.if-not-is_blank.true-raw) in
+    let kept = trim_last_ink bytes turn.end c.loop-end-test.true turn.invariant.0 (sym c.is_blank.ensures ∙ not-true _ c.if-not-is_blank.true-raw) in
     sym (length-take-le turn.end bytes turn.invariant.0) ∙ ap length (sym kept ∙ turn.invariant.1)
 
 pub loop-end-preserved : goal.loop-end-preserved
 loop-end-preserved c =
     let turn = c.loop-end in
     let bytes = c.args.bytes.now in
-    let cut = trim-last-blank bytes turn.end c.loop-end-test.true turn.invariant.0 (sym c.is_blank.ensures ∙ not-false _ c.if-not-is_blank.false-raw) in
+    let cut = trim_last_blank bytes turn.end c.loop-end-test.true turn.invariant.0 (sym c.is_blank.ensures ∙ not-false _ c.if-not-is_blank.false-raw) in
     (omega arith, sym cut ∙ turn.invariant.1)
 
 pub returns : goal.returns

@@ -7,7 +7,7 @@ use lib.Seq.{take-length, length-take-le}
 use borrow.Author.Rules.{rules}
 use borrow.Author.Tests.{not-true, not-false}
 use Rattle.text.specs.Ink.{trim_end}
-use Rattle.text.proofs.Ink.{trim-last-ink, trim-last-blank}
+use Rattle.text.proofs.Ink.{trim_last_ink, trim_last_blank}
 use Rattle.text.proofs.scans.ink_end.Given as goal
 
 abbrev pub invariant-loop-end : goal.invariant-loop-end

@@ -1,17 +1,17 @@
 -- A label that was opened is printed from its own bytes on.
 use Rattle.events.specs.Trees.{labelled}
-use Rattle.leaves.proofs.Fielded.{opened-fits, shown-closed}
+use Rattle.leaves.proofs.Fielded.{opened_fits, shown_closed}
 use Rattle.tokens.proofs.FrontParts.{id_opened}
 use borrow.Author.Rules.{rules}
 use Rattle.tokens.proofs.fronts.format_label.Goals as goal
 
 pub returns-in_default : goal.returns-in_default
 returns-in_default c =
-    shown-closed c.open-opened.ensures.opens labelled c.in_default.is c.closed.ensures.answer
+    shown_closed c.open-opened.ensures.opens labelled c.in_default.is c.closed.ensures.answer
 
 pub push_label-requires : goal.push_label-requires
 push_label-requires c =
-    opened-fits c.open-opened.ensures.opens c.in-Record.is
+    opened_fits c.open-opened.ensures.opens c.in-Record.is
 
 pub returns : goal.returns
 returns c =

@@ -8,7 +8,7 @@ use Rattle.events.specs.Views.{bit_at}
 use Rattle.events.specs.Trees.{events_in}
 use Rattle.leaves.specs.Records.{field_trees, fields_end}
 use Rattle.leaves.proofs.Classes.{mnemonic_leaf}
-use Rattle.leaves.proofs.Leaves.{text-shown}
+use Rattle.leaves.proofs.Leaves.{text_shown}
 use borrow.Author.Rules.{rules}
 use Rattle.tokens.proofs.plain.format_listed_instruction.Goals as goal
 
@@ -16,5 +16,5 @@ pub returns : goal.returns
 unfolding built field_trees fields_end events_in bit_at
 returns c =
     let pushed = rw part_slice at c.push_mnemonic-pushed.ensures in
-    let named = text-shown _ _ mnemonic_leaf at _ mnemonic _ _ is (finish (record { ran = pushed }) c.finish.ensures.answer refl) in
+    let named = text_shown _ _ mnemonic_leaf at _ mnemonic _ _ is (finish (record { ran = pushed }) c.finish.ensures.answer refl) in
     done_before refl (named thence c.format_behind_mnemonic.ensures.from _ named.next)

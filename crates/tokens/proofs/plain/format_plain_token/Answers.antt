@@ -66,7 +66,7 @@ returns-in-23 c =
 pub returns-in_default : goal.returns-in_default
 unfolding built field_trees fields_end events_in
 returns-in_default c =
-    let others = c.in_default.rest in
+    let others = c.in_default.in_default-own.rest in
     λ among kind known.
     let is =
     end_left among others.0.0.0.0.0.0.0.0.0.0.0.1 others.0.0.0.0.0.0.0.0.0.0.1 others.0.0.0.0.0.0.0.0.0.1

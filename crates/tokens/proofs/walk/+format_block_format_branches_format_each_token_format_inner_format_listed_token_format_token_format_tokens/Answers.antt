@@ -22,11 +22,11 @@ use Rattle.events.specs.Views.{bit_at}
 use Rattle.events.specs.Trees.{leaf, events_in}
 use Rattle.leaves.specs.Lists.{items_end}
 use Rattle.leaves.specs.Records.{field_trees, fields_end}
-use Rattle.leaves.proofs.Fielded.{opened-levels, opened_one, opened-kind, shown-closed}
+use Rattle.leaves.proofs.Fielded.{opened_levels, opened_one, opened-kind, shown_closed}
 use Rattle.tokens.specs.Tokens.{each_events}
-use Rattle.tokens.proofs.Cycle.{inside-shown, label-alone, label-block, not_nothing, plain_number, one-branch, both-branches, token_rule, token-opened, tokens-shown}
-use Rattle.tokens.proofs.Cycle.{only_in, not_in, rest_events, all_left, block-left, file-left, one_left, rest_from}
-use Rattle.tokens.proofs.Listed.{listed_number, listed-over, listed-opens, head-text, listed-shown, listed-instruction, listed-label, listed-data}
+use Rattle.tokens.proofs.Cycle.{inside_shown, label_alone, label_block, not_nothing, plain_number, one_branch, both_branches, token_rule, token_opened, tokens_shown}
+use Rattle.tokens.proofs.Cycle.{only_in, not_in, rest_events, all_left, block_left, file_left, one_left, rest_from}
+use Rattle.tokens.proofs.Listed.{listed_number, listed_over, listed_opens, head_text, listed-shown, listed-instruction, listed-label, listed-data}
 use Prim.Native.Nat.{ℕ, ◌<◌, ◌+◌, ◌*◌, ◌-◌}
 use Rattle.leads.specs.Leads.{over_by}
 use Rattle.tokens.proofs.walk.+format_block_format_branches_format_each_token_format_inner_format_listed_token_format_token_format_tokens.Goals as goal
@@ -134,32 +134,32 @@ format-tokens-claims t = (
 
 pub returns-in_default : goal.returns-in_default
 returns-in_default t c =
-    shown-closed c.open-opened.ensures.opens (leaf plain) c.in_default.is c.closed.ensures.answer
+    shown_closed c.open-opened.ensures.opens (leaf plain) c.in_default.is c.closed.ensures.answer
 
 pub overflow_sub-levels : goal.overflow_sub-levels
 overflow_sub-levels t c =
-    opened-levels c.open-opened.ensures.opens c.in-Record.is
+    opened_levels c.open-opened.ensures.opens c.in-Record.is
 
 pub deeper-requires : goal.deeper-requires
 deeper-requires t c =
-    let levels-left = opened-levels c.open-opened.ensures.opens c.in-Record.is in
+    let levels-left = opened_levels c.open-opened.ensures.opens c.in-Record.is in
     let narrow = c.requires.1 in
     (narrow.0, omega (arith, levels-left, narrow.1))
 
 pub overflow_sub-levels-2 : goal.overflow_sub-levels-2
 overflow_sub-levels-2 t c =
-    opened-levels c.open-opened.ensures.opens c.in-Record.is
+    opened_levels c.open-opened.ensures.opens c.in-Record.is
 
 pub format_tokens-inner-requires : goal.format_tokens-inner-requires
 format_tokens-inner-requires t c =
-    let levels-left = opened-levels c.open-opened.ensures.opens c.in-Record.is in
+    let levels-left = opened_levels c.open-opened.ensures.opens c.in-Record.is in
     let measured = c.requires.0 in
     let narrow = c.requires.1 in
     (omega (arith, levels-left, measured), (rw c.deeper.ensures (narrow.0, omega (arith, levels-left, narrow.0, narrow.1))))
 
 pub overflow_sub-levels-3 : goal.overflow_sub-levels-3
 overflow_sub-levels-3 t c =
-    opened-levels c.open-opened.ensures.opens c.in-Record.is
+    opened_levels c.open-opened.ensures.opens c.in-Record.is
 
 pub shape_of-room : goal.shape_of-room
 shape_of-room t c =
@@ -193,7 +193,7 @@ format_block-then-requires t c =
 pub returns-then-not-other : goal.returns-then-not-other
 returns-then-not-other t c =
     let other = c.args.other in
-    rw (not-true other c.if-not-other.true-raw) (record { from = λ at here. one-branch _ _ _ at (c.format_block-then.ensures.from at here) })
+    rw (not-true other c.if-not-other.true-raw) (record { from = λ at here. one_branch _ _ _ at (c.format_block-then.ensures.from at here) })
 
 pub format_block-requires : goal.format_block-requires
 format_block-requires t c =
@@ -208,7 +208,7 @@ returns t c =
           let then = c.format_block-then.ensures.from at here in
           let tag = c.format_else-tag.ensures.from _ then.next in
           let block = c.format_block.ensures.from _ tag.next in
-          both-branches _ _ _ at (then thence tag thence block);
+          both_branches _ _ _ at (then thence tag thence block);
     })
 
 -- ---- format_each_token: at the head of the loop, whoever shows the tokens that are left has shown them all
@@ -276,7 +276,7 @@ returns-then-block-2 t c =
       from = λ start here.
           let now = c.loop-left.invariant.1 start here in
           let out = c.format_lead_out.ensures.from now.0 now.1 in
-          now.2 _ _ (block-left _ _ _ _ _ c.loop-left.left now.0 c.loop-left-test.false c.if-block-2.true out);
+          now.2 _ _ (block_left _ _ _ _ _ c.loop-left.left now.0 c.loop-left-test.false c.if-block-2.true out);
     }
 
 pub shape_of-room : goal.shape_of-room
@@ -289,7 +289,7 @@ returns t c =
       from = λ start here.
           let now = c.loop-left.invariant.1 start here in
           let over = (c.settled.ensures _).from now.0 now.1 in
-          now.2 _ _ (file-left _ _ _ _ _ c.loop-left.left now.0 c.loop-left-test.false c.if-block-2.false over);
+          now.2 _ _ (file_left _ _ _ _ _ c.loop-left.left now.0 c.loop-left-test.false c.if-block-2.false over);
     }
 
 -- ---- format_inner: what stands before the part inside a token and that part are all its fields
@@ -321,7 +321,7 @@ returns-in-Block t c =
       from = λ at here.
           let front = c.format_token_front-front.ensures.from at here in
           let block = c.format_block.ensures.from _ front.next in
-          inside-shown _ _ _ _ _ _ _ _ _ kind known c.requires.ends.1 block_in (front thence block);
+          inside_shown _ _ _ _ _ _ _ _ _ kind known c.requires.ends.1 block_in (front thence block);
     }
 
 pub returns-in-Token : goal.returns-in-Token
@@ -331,7 +331,7 @@ returns-in-Token t c =
       from = λ at here.
           let front = c.format_token_front-front.ensures.from at here in
           let token = c.format_token.ensures.from _ front.next in
-          inside-shown _ _ _ _ _ _ _ _ _ kind known c.requires.ends.1 token-in (front thence token);
+          inside_shown _ _ _ _ _ _ _ _ _ kind known c.requires.ends.1 token-in (front thence token);
     }
 
 pub returns-in-Branches : goal.returns-in-Branches
@@ -342,12 +342,12 @@ returns-in-Branches t c =
       from = λ at here.
           let front = c.format_token_front-front.ensures.from at here in
           let branches = both.from _ front.next in
-          inside-shown _ _ _ _ _ _ _ _ _ kind known c.requires.ends.1 branches-in (front thence branches);
+          inside_shown _ _ _ _ _ _ _ _ _ kind known c.requires.ends.1 branches-in (front thence branches);
     }
 
 pub returns-in-Nothing-inner : goal.returns-in-Nothing-inner
 returns-in-Nothing-inner t c =
-    not_nothing c.in_default.keys2 c.in-Nothing-inner.is
+    not_nothing c.in_default.in_default-own.keys2 c.in-Nothing-inner.is
 
 -- ---- format_listed_token: the lead-in has opened the record, and the walk goes on behind its own bytes, or from its head on where that was read for it
 
@@ -358,15 +358,15 @@ pub returns-in_default-lead : goal.returns-in_default-lead
 returns-in_default-lead t c =
     let told = c.in_default-lead.is in
     rw (c.over.ensures.answer ∙ ap over_by told)
-    (done_before c.in-Done.is ((listed-over c.format_lead_in-lead.ensures.leads told).from _ refl))
+    (done_before c.in-Done.is ((listed_over c.format_lead_in-lead.ensures.leads told).from _ refl))
 
 pub overflow_sub-below : goal.overflow_sub-below
 overflow_sub-below t c =
-    opened-levels (listed-opens c.format_lead_in-lead.ensures.leads c.in-Ready.is _ refl) refl
+    opened_levels (listed_opens c.format_lead_in-lead.ensures.leads c.in-Ready.is _ refl) refl
 
 pub format_listed_instruction-requires : goal.format_listed_instruction-requires
 format_listed_instruction-requires t c =
-    head-text c.format_lead_in-lead.ensures.leads c.in-Ready.is _ refl
+    head_text c.format_lead_in-lead.ensures.leads c.in-Ready.is _ refl
 
 pub returns-then-number-eq-INSTRUCTION : goal.returns-then-number-eq-INSTRUCTION
 returns-then-number-eq-INSTRUCTION t c =
@@ -376,7 +376,7 @@ returns-then-number-eq-INSTRUCTION t c =
 
 pub format_sized-requires : goal.format_sized-requires
 format_sized-requires t c =
-    head-text c.format_lead_in-lead.ensures.leads c.in-Ready.is _ refl
+    head_text c.format_lead_in-lead.ensures.leads c.in-Ready.is _ refl
 
 pub returns-then-number-eq-DATA : goal.returns-then-number-eq-DATA
 returns-then-number-eq-DATA t c =
@@ -386,19 +386,19 @@ returns-then-number-eq-DATA t c =
 
 pub format_listed_label-front-requires : goal.format_listed_label-front-requires
 format_listed_label-front-requires t c =
-    head-text c.format_lead_in-lead.ensures.leads c.in-Ready.is _ refl
+    head_text c.format_lead_in-lead.ensures.leads c.in-Ready.is _ refl
 
 pub returns-then-not-stands : goal.returns-then-not-stands
 returns-then-not-stands t c =
     let number = sym c.byte_at-number.ensures ∙ c.if-number-eq-LABEL.true in
     let none = sym c.stands.ensures ∙ not-true _ c.if-not-stands.true-raw in
     done_before c.in-Done.is
-    (listed-label c.format_lead_in-lead.ensures.leads c.in-Ready.is _ refl number (λ place read. label-alone _ _ _ _ (c.format_listed_label-front.ensures place read) none))
+    (listed-label c.format_lead_in-lead.ensures.leads c.in-Ready.is _ refl number (λ place read. label_alone _ _ _ _ (c.format_listed_label-front.ensures place read) none))
 
 pub format_block-requires : goal.format_block-requires
 format_block-requires t c =
-    let opens = listed-opens c.format_lead_in-lead.ensures.leads c.in-Ready.is _ refl in
-    let levels-left = opened-levels opens refl in
+    let opens = listed_opens c.format_lead_in-lead.ensures.leads c.in-Ready.is _ refl in
+    let levels-left = opened_levels opens refl in
     let measured = c.requires.0 in
     let narrow = c.requires.1 in
     (omega (arith, levels-left, measured), (narrow.0, omega (arith, narrow.1)))
@@ -409,13 +409,13 @@ returns-then-number-eq-LABEL t c =
     let one = sym c.stands.ensures ∙ not-false _ c.if-not-stands.false-raw in
     done_before c.in-Done.is
     (listed-label c.format_lead_in-lead.ensures.leads c.in-Ready.is _ refl number (λ place read.
-    label-block _ _ _ _ (c.format_listed_label-front.ensures place read) one c.format_block.ensures))
+    label_block _ _ _ _ (c.format_listed_label-front.ensures place read) one c.format_block.ensures))
 
 pub format_inner-requires : goal.format_inner-requires
 format_inner-requires t c =
-    let opens = listed-opens c.format_lead_in-lead.ensures.leads c.in-Ready.is _ refl in
-    let levels-left = opened-levels opens refl in
-    let token = token-opened false _ opens refl refl in
+    let opens = listed_opens c.format_lead_in-lead.ensures.leads c.in-Ready.is _ refl in
+    let levels-left = opened_levels opens refl in
+    let token = token_opened false _ opens refl refl in
     let measured = c.requires.0 in
     let narrow = c.requires.1 in
     (omega (arith, levels-left, measured), ((narrow.0, omega (arith, narrow.1)), rw c.byte_at-number.ensures token.ends))
@@ -424,8 +424,8 @@ pub returns : goal.returns
 returns t c =
     let leads = c.format_lead_in-lead.ensures.leads in
     let is = c.in-Ready.is in
-    let opens = listed-opens leads is _ refl in
-    let token = token-opened false _ opens refl refl in
+    let opens = listed_opens leads is _ refl in
+    let token = token_opened false _ opens refl refl in
     let inner = rw c.byte_at-number.ensures at c.format_inner.ensures in
     done_before c.in-Done.is
     (listed-shown leads is _ refl (opened-kind opens refl (leaf plain) _ refl token.fielded (inner token.small _ token.known)))
@@ -438,19 +438,19 @@ returns-in_default t c = refused_before c.in_default.is
 pub returns-in_default-opened : goal.returns-in_default-opened
 returns-in_default-opened t c =
     rw (← c.token_class-class.ensures) (done_before c.in-Done.is
-    ((shown-closed c.open-opened.ensures.opens (leaf plain) c.in_default-opened.is c.closed.ensures.answer).from _ refl))
+    ((shown_closed c.open-opened.ensures.opens (leaf plain) c.in_default-opened.is c.closed.ensures.answer).from _ refl))
 
 pub overflow_sub-levels : goal.overflow_sub-levels
 overflow_sub-levels t c =
-    opened-levels c.open-opened.ensures.opens c.in-Record.is
+    opened_levels c.open-opened.ensures.opens c.in-Record.is
 
 pub format_inner-requires : goal.format_inner-requires
 format_inner-requires t c =
     let located = c.args.located in
     let opens = rw c.token_class-class.ensures at c.open-opened.ensures.opens in
     let is = c.in-Record.is in
-    let levels-left = opened-levels opens is in
-    let token = token-opened located _ opens is refl in
+    let levels-left = opened_levels opens is in
+    let token = token_opened located _ opens is refl in
     let measured = c.requires.0 in
     let narrow = c.requires.1 in
     (omega (arith, levels-left, measured), ((narrow.0, omega (arith, narrow.1)), rw c.byte_at-number.ensures token.ends))
@@ -460,7 +460,7 @@ returns t c =
     let located = c.args.located in
     let opens = rw c.token_class-class.ensures at c.open-opened.ensures.opens in
     let is = c.in-Record.is in
-    let token = token-opened located _ opens is refl in
+    let token = token_opened located _ opens is refl in
     let inner = rw c.byte_at-number.ensures at c.format_inner.ensures in
     done_before c.in-Done.is
     ((opened-kind opens is (leaf plain) _ refl token.fielded (rw (token_rule located).2 (inner token.small _ token.known))).from _ refl)
@@ -469,15 +469,15 @@ returns t c =
 
 pub returns-in_default : goal.returns-in_default
 returns-in_default t c =
-    record { from = λ at here. (shown-closed c.open-opened.ensures.opens _ c.in_default.is c.closed.ensures.answer).from at here }
+    record { from = λ at here. (shown_closed c.open-opened.ensures.opens _ c.in_default.is c.closed.ensures.answer).from at here }
 
 pub format_each_token-requires : goal.format_each_token-requires
 format_each_token-requires t c =
-    let levels-left = opened-levels c.open-opened.ensures.opens c.in-Record.is in
+    let levels-left = opened_levels c.open-opened.ensures.opens c.in-Record.is in
     let measured = c.requires.0 in
     (omega (arith, levels-left, measured), (c.requires.1, levels-left))
 
 pub returns : goal.returns
 returns t c =
     let block = c.args.block in
-    tokens-shown block c.open-opened.ensures.opens c.in-Record.is c.format_each_token.ensures
+    tokens_shown block c.open-opened.ensures.opens c.in-Record.is c.format_each_token.ensures

@@ -22,14 +22,35 @@ use Rattle.events.specs.Views.{bit_at}
 use Rattle.events.specs.Trees.{leaf, events_in}
 use Rattle.leaves.specs.Lists.{items_end}
 use Rattle.leaves.specs.Records.{field_trees, fields_end}
-use Rattle.leaves.proofs.Fielded.{opened-levels, opened_one, opened-kind, shown-closed}
+use Rattle.leaves.proofs.Fielded.{opened_levels, opened_one, opened-kind, shown_closed}
 use Rattle.tokens.specs.Tokens.{each_events}
-use Rattle.tokens.proofs.Cycle.{inside-shown, label-alone, label-block, not_nothing, plain_number, one-branch, both-branches, token_rule, token-opened, tokens-shown}
-use Rattle.tokens.proofs.Cycle.{only_in, not_in, rest_events, all_left, block-left, file-left, one_left, rest_from}
-use Rattle.tokens.proofs.Listed.{listed_number, listed-over, listed-opens, head-text, listed-shown, listed-instruction, listed-label, listed-data}
+use Rattle.tokens.proofs.Cycle.{inside_shown, label_alone, label_block, not_nothing, plain_number, one_branch, both_branches, token_rule, token_opened, tokens_shown}
+use Rattle.tokens.proofs.Cycle.{only_in, not_in, rest_events, all_left, block_left, file_left, one_left, rest_from}
+use Rattle.tokens.proofs.Listed.{listed_number, listed_over, listed_opens, head_text, listed-shown, listed-instruction, listed-label, listed-data}
 use Prim.Native.Nat.{ℕ, ◌<◌, ◌+◌, ◌*◌, ◌-◌}
 use Rattle.leads.specs.Leads.{over_by}
 use Rattle.tokens.proofs.walk.+format_block_format_branches_format_each_token_format_inner_format_listed_token_format_token_format_tokens.Given as goal
+
+abbrev pub decreases-format_tokens : goal.decreases-format_tokens
+decreases-format_tokens l = 4 * l.levels
+
+abbrev pub decreases-format_token : goal.decreases-format_token
+decreases-format_token l = 4 * l.levels
+
+abbrev pub decreases-format_listed_token : goal.decreases-format_listed_token
+decreases-format_listed_token l = 4 * l.levels
+
+abbrev pub decreases-format_inner : goal.decreases-format_inner
+decreases-format_inner l = 4 * l.levels + 2
+
+abbrev pub decreases-format_each_token : goal.decreases-format_each_token
+decreases-format_each_token l = 4 * l.levels - 1
+
+abbrev pub decreases-format_branches : goal.decreases-format_branches
+decreases-format_branches l = 4 * l.levels + 1
+
+abbrev pub decreases-format_block : goal.decreases-format_block
+decreases-format_block l = 4 * l.levels
 
 abbrev pub invariant-format_each_token-loop-left : goal.invariant-format_each_token-loop-left
 invariant-format_each_token-loop-left l =

@@ -1,6 +1,6 @@
 -- The position of braces says whether the tag stands between spaces or on a new line.
 use Rattle.printing.proofs.Running.{◌thence◌}
-use Rattle.tokens.proofs.FrontParts.{else_same, else-new}
+use Rattle.tokens.proofs.FrontParts.{else_same, else_new}
 use borrow.Author.Rules.{rules}
 use Rattle.tokens.proofs.walk.format_else.Goals as goal
 
@@ -20,5 +20,5 @@ returns-in-NewLine c =
       from = λ at here.
           let line = c.push-line.ensures.from at here in
           let tag = c.word.ensures.from _ line.next in
-          else-new c.in-NewLine.is (line thence tag);
+          else_new c.in-NewLine.is (line thence tag);
     }

@@ -52,7 +52,7 @@ returns-in-20 c = rw c.in-20.is refl
 pub returns-in_default : goal.returns-in_default
 unfolding one_of
 returns-in_default c =
-    let others = c.in_default.rest in
+    let others = c.in_default.in_default-own.rest in
     rw (
       ne_eqb _ _ others.1,
       ne_eqb _ _ others.0.1,

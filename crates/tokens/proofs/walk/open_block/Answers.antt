@@ -1,6 +1,6 @@
 -- The position of braces says whether a newline stands before the brace; behind it there is one.
 use Rattle.printing.proofs.Running.{◌thence◌}
-use Rattle.tokens.proofs.FrontParts.{opens-same, opens-new}
+use Rattle.tokens.proofs.FrontParts.{opens_same, opens_new}
 use borrow.Author.Rules.{rules}
 use Rattle.tokens.proofs.walk.open_block.Goals as goal
 
@@ -10,7 +10,7 @@ returns-in-SameLine c =
       from = λ at here.
           let brace = c.open_brace-lparen.ensures.from at here in
           let line = c.push.ensures.from _ brace.next in
-          opens-same c.in-SameLine.is (brace thence line);
+          opens_same c.in-SameLine.is (brace thence line);
     }
 
 pub returns-in-NewLine : goal.returns-in-NewLine
@@ -20,5 +20,5 @@ returns-in-NewLine c =
           let break = c.push-line.ensures.from at here in
           let brace = c.open_brace-lparen-in-NewLine.ensures.from _ break.next in
           let line = c.push-in-NewLine.ensures.from _ brace.next in
-          opens-new c.in-NewLine.is (break thence brace thence line);
+          opens_new c.in-NewLine.is (break thence brace thence line);
     }

@@ -8,9 +8,12 @@ use Rattle.tree.specs.Reading.{read}
 use Rattle.tree.specs.Walk.{plan_size, walker_of}
 use Rattle.tree.specs.declared.check.RecordRead.TheVariants.{Refused}
 use Rattle.tree.proofs.Planning.{next_of, rest_less, plan_due}
-use Rattle.tree.proofs.Records.{PartsLeft, parts_start, read-refused, read-walked, level-left, walk_none, walk-done, walk_refused, walk-on}
+use Rattle.tree.proofs.Records.{PartsLeft, parts_start, read_refused, read_walked, level_left, walk_none, walk_done, walk_refused, walk_on}
 use Prim.Native.Nat.{ℕ, ◌<◌, ◌-◌}
 use Rattle.tree.proofs.check.+read_parts.Given as goal
+
+abbrev pub decreases-read_parts : goal.decreases-read_parts
+decreases-read_parts l = l.levels
 
 abbrev pub invariant-loop-field : goal.invariant-loop-field
 invariant-loop-field l = PartsLeft (walker_of (read (l.levels - 1) l.tree) l.tree) l.initial.plan l.initial.place l.initial.seen l.plan l.place l.seen

@@ -2,7 +2,7 @@
 use mathlib.Core.Path.{◌≡◌, refl, sym, ◌∙◌}
 use native.Mathlib.Omega.{arith}
 use Rattle.tree.specs.Plans.{next_part}
-use Rattle.tree.proofs.Planning.{next-absent, next_field, next-none, next-item}
+use Rattle.tree.proofs.Planning.{next_absent, next_field, next_none, next_item_lem}
 use Rattle.tree.proofs.check.next_part.Goals as goal
 
 pub loop-row-init : goal.loop-row-init
@@ -16,10 +16,10 @@ returns-then-bit-eq1 c =
     rw c.slot_class.ensures (sym (c.loop-row.invariant ∙ next_field _ c.loop-row-test.true c.if-bit-eq1.true))
 
 pub loop-row-preserved : goal.loop-row-preserved
-loop-row-preserved c = c.loop-row.invariant ∙ next-absent _ c.loop-row-test.true c.if-bit-eq1.false
+loop-row-preserved c = c.loop-row.invariant ∙ next_absent _ c.loop-row-test.true c.if-bit-eq1.false
 
 pub returns-then-plan-eq0 : goal.returns-then-plan-eq0
-returns-then-plan-eq0 c = sym (c.loop-row.invariant ∙ next-none _ c.loop-row-test.false c.if-plan-eq0.true)
+returns-then-plan-eq0 c = sym (c.loop-row.invariant ∙ next_none _ c.loop-row-test.false c.if-plan-eq0.true)
 
 pub returns : goal.returns
-returns c = sym (c.loop-row.invariant ∙ next-item _ c.loop-row-test.false c.if-plan-eq0.false)
+returns c = sym (c.loop-row.invariant ∙ next_item_lem _ c.loop-row-test.false c.if-plan-eq0.false)

@@ -2,11 +2,11 @@
 use mathlib.Core.Path.{◌≡◌, refl, sym, ◌∙◌}
 use native.Mathlib.Omega.{arith}
 use Rattle.tree.specs.Plans.{next_part}
-use Rattle.tree.proofs.Planning.{next-absent, next_field, next-none, next-item}
+use Rattle.tree.proofs.Planning.{next_absent, next_field, next_none, next_item_lem}
 use Rattle.tree.proofs.check.next_part.Given as goal
 
 abbrev pub invariant-loop-row : goal.invariant-loop-row
-invariant-loop-row l = next_part l.plan ≡ next_part (record { l.row = l.row; l.bits = l.bits; l.item = l.plan.item; count = l.plan.count })
+invariant-loop-row l = next_part l.plan ≡ next_part (record { row = l.row; bits = l.bits; item = l.plan.item; count = l.plan.count })
 
 abbrev pub decreases-loop-row : goal.decreases-loop-row
 decreases-loop-row l = l.row

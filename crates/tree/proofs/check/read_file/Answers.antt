@@ -1,7 +1,7 @@
 -- In a plain tree no text changes what was found, so the file's record is the one that is read with a byte found.
 use mathlib.Core.Path.{sym, ◌∙◌}
 use borrow.Author.Tests.{not-false}
-use Rattle.tree.proofs.Plain.{file-plain}
+use Rattle.tree.proofs.Plain.{file_plain}
 use borrow.Author.Rules.{rules}
 use Rattle.tree.proofs.check.read_file.Goals as goal
 
@@ -9,9 +9,9 @@ pub returns-in_default : goal.returns-in_default
 returns-in_default c =
     let plain = sym c.is_plain.ensures ∙ not-false _ c.if-not-is_plain.false-raw in
     let told = c.in_default.is in
-    told ∙ file-plain _ plain _ _ _ c.read_record-read.ensures _ told
+    told ∙ file_plain _ plain _ _ _ c.read_record-read.ensures _ told
 
 pub returns : goal.returns
 returns c =
     let plain = sym c.is_plain.ensures ∙ not-false _ c.if-not-is_plain.false-raw in
-    file-plain _ plain _ _ _ c.read_record-read.ensures _ c.in-Whole.is
+    file_plain _ plain _ _ _ c.read_record-read.ensures _ c.in-Whole.is

@@ -3,27 +3,27 @@ use mathlib.Core.Path.{sym, ap, ◌∙◌}
 use Rattle.answers.specs.declared.Refusal.{Refusal}
 use Rattle.tree.specs.Own.{refusal_of}
 use Rattle.tree.specs.declared.check.RecordRead.TheVariants.{Refused}
-use Rattle.tree.proofs.Records.{read-refused, read-walked, walk_none, level-left}
+use Rattle.tree.proofs.Records.{read_refused, read_walked, walk_none, level_left}
 use borrow.Author.Rules.{rules}
 use Rattle.tree.proofs.check.read_record.Goals as goal
 
 pub returns-in_default : goal.returns-in_default
 returns-in_default c =
     let told = c.in_default.is in
-    ap (λ (why : Refusal). Refused why) (c.refusal_of.ensures ∙ ap refusal_of told) ∙ read-refused _ _ _ _ _ c.read_own-read.ensures.answer _ _ told
+    ap (λ (why : Refusal). Refused why) (c.refusal_of.ensures ∙ ap refusal_of told) ∙ read_refused _ _ _ _ _ c.read_own-read.ensures.answer _ _ told
 
 pub own_fault-seen-requires : goal.own_fault-seen-requires
-own_fault-seen-requires c = (_, rw c.in-Record.is at c.read_own-read.ensures.fits.0)
+own_fault-seen-requires c = (_, rw c.in-Record.is at c.read_own-read.ensures.fits)
 
 pub returns-then-not-has_parts : goal.returns-then-not-has_parts
 returns-then-not-has_parts c =
     walk_none _ _ _ _ _ c.has_parts.ensures c.if-not-has_parts.true-raw
-    ∙ sym (read-walked _ _ _ _ _ c.read_own-read.ensures.answer _ _ _ c.in-Record.is c.own_fault-seen.ensures)
+    ∙ sym (read_walked _ _ _ _ _ c.read_own-read.ensures.answer _ _ _ c.in-Record.is c.own_fault-seen.ensures)
 
 pub read_parts-requires : goal.read_parts-requires
 read_parts-requires c =
-    level-left _ _ _ _ _ c.read_own-read.ensures.answer _ c.in-Record.is
+    level_left _ _ _ _ _ c.read_own-read.ensures.answer _ c.in-Record.is
 
 pub returns : goal.returns
 returns c =
-    c.read_parts.ensures ∙ sym (read-walked _ _ _ _ _ c.read_own-read.ensures.answer _ _ _ c.in-Record.is c.own_fault-seen.ensures)
+    c.read_parts.ensures ∙ sym (read_walked _ _ _ _ _ c.read_own-read.ensures.answer _ _ _ c.in-Record.is c.own_fault-seen.ensures)

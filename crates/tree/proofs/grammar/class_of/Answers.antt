@@ -10,4 +10,4 @@ use borrow.Author.Rules.{rules}
 use Rattle.tree.proofs.grammar.class_of.Goals as goal
 
 pub returns-in_default : goal.returns-in_default
-returns-in_default c = sym (get_or-eq_default (Word ∷ classes) StringItems (none_below _ 36 c.in_default.rest))
+returns-in_default c = sym (get_or-eq_default (Word ∷ classes) StringItems (none_below _ 36 c.in_default.in_default-own.rest))

@@ -137,4 +137,4 @@ pub returns-in-42 : goal.returns-in-42
 returns-in-42 c = rw c.in-42.is refl
 
 pub returns-in_default : goal.returns-in_default
-returns-in_default c = sym (get_or-eq_default (map Known all_kinds) Unknown (none_below _ 43 c.in_default.rest))
+returns-in_default c = sym (get_or-eq_default (map Known all_kinds) Unknown (none_below _ 43 c.in_default.in_default-own.rest))

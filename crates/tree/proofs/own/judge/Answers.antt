@@ -1,17 +1,17 @@
 -- Each answer is the one that the definition has after the same tests.
 use native.Mathlib.Omega.{arith}
-use Rattle.tree.proofs.OwnReading.{first-alien, first-unknown, first_short, first-unfit, first_fits}
+use Rattle.tree.proofs.OwnReading.{first_alien, first_unknown, first_short, first-unfit, first_fits}
 use borrow.Author.Rules.{rules}
 use Rattle.tree.proofs.own.judge.Goals as goal
 
 pub returns-then-not-may_stand : goal.returns-then-not-may_stand
-returns-then-not-may_stand c = first-alien _ _ _ _ c.may_stand.ensures c.if-not-may_stand.true-raw
+returns-then-not-may_stand c = first_alien _ _ _ _ c.may_stand.ensures c.if-not-may_stand.true-raw
 
 pub returns-in_default : goal.returns-in_default
 returns-in_default c =
     let may = c.may_stand.ensures in
     let stands = c.if-not-may_stand.false-raw in
-    first-unknown _ _ _ _ may stands c.kind_of-read.ensures c.in_default.is
+    first_unknown _ _ _ _ may stands c.kind_of-read.ensures c.in_default.is
 
 pub returns-then-tree-at-lt2 : goal.returns-then-tree-at-lt2
 returns-then-tree-at-lt2 c =

@@ -2,7 +2,7 @@
 use mathlib.Core.Path.{sym, ap, ◌∙◌}
 use Rattle.tree.specs.declared.own.Own.{Own}
 use Rattle.tree.specs.declared.own.OwnRead.TheVariants.{Record}
-use Rattle.tree.proofs.OwnReading.{own-judged, own-trivia, own-rest}
+use Rattle.tree.proofs.OwnReading.{own_judged, own_trivia_lem, own_rest}
 use borrow.Author.Rules.{rules}
 use Rattle.tree.proofs.own.own_at.Goals as goal
 
@@ -13,19 +13,19 @@ pub returns-in_default-judged : goal.returns-in_default-judged
 returns-in_default-judged c =
     let byte = c.wide-number.ensures.0 in
     let ruled = c.rule_of-rule.ensures in
-    own-judged _ _ _ byte ruled c.judge-judged.ensures _ c.in_default-judged.is
+    own_judged _ _ _ byte ruled c.judge-judged.ensures _ c.in_default-judged.is
 
 pub returns-in_default-trivia : goal.returns-in_default-trivia
 returns-in_default-trivia c =
     let byte = c.wide-number.ensures.0 in
     let ruled = c.rule_of-rule.ensures in
-    own-trivia _ _ _ byte ruled c.judge-judged.ensures _ _ c.in-Fit.is c.read_trivia-trivia.ensures _ c.in_default-trivia.is
+    own_trivia_lem _ _ _ byte ruled c.judge-judged.ensures _ _ c.in-Fit.is c.read_trivia-trivia.ensures _ c.in_default-trivia.is
 
 pub returns-in_default-rest : goal.returns-in_default-rest
 returns-in_default-rest c =
     let byte = c.wide-number.ensures.0 in
     let ruled = c.rule_of-rule.ensures in
-    own-rest _ _ _ byte ruled c.judge-judged.ensures _ _ c.in-Fit.is c.read_trivia-trivia.ensures _ c.in-Trivia.is
+    own_rest _ _ _ byte ruled c.judge-judged.ensures _ _ c.in-Fit.is c.read_trivia-trivia.ensures _ c.in-Trivia.is
     c.read_rest-rest.ensures _ c.in_default-rest.is
 
 pub returns : goal.returns
@@ -33,5 +33,5 @@ returns c =
     let byte = c.wide-number.ensures.0 in
     let ruled = c.rule_of-rule.ensures in
     ap (λ (own : Own). Record own) c.own_of.ensures
-    ∙ own-rest _ _ _ byte ruled c.judge-judged.ensures _ _ c.in-Fit.is c.read_trivia-trivia.ensures _ c.in-Trivia.is
+    ∙ own_rest _ _ _ byte ruled c.judge-judged.ensures _ _ c.in-Fit.is c.read_trivia-trivia.ensures _ c.in-Trivia.is
     c.read_rest-rest.ensures _ c.in-Rest.is

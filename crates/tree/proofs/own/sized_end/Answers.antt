@@ -1,11 +1,11 @@
 -- Each answer is the one that the definition has for what the length reads as.
 use native.Mathlib.Omega.{arith}
-use Rattle.tree.proofs.Spans.{read_inside, sized-missing, sized-short, sized-whole}
+use Rattle.tree.proofs.Spans.{read_inside, sized_missing, sized_short, sized_whole}
 use borrow.Author.Rules.{rules}
 use Rattle.tree.proofs.own.sized_end.Goals as goal
 
 pub returns-in_default : goal.returns-in_default
-returns-in_default c = sized-missing _ _ c.read_number-number.ensures c.in_default.is
+returns-in_default c = sized_missing _ _ c.read_number-number.ensures c.in_default.is
 
 pub overflow_add-start : goal.overflow_add-start
 overflow_add-start c =
@@ -16,11 +16,11 @@ overflow_sub-tree c =
     read_inside c.args.tree.now c.args.at c.read_number-number.ensures _ c.in-Read.is
 
 pub returns-then-tree-start : goal.returns-then-tree-start
-returns-then-tree-start c = sized-short _ _ c.read_number-number.ensures _ c.in-Read.is c.if-tree-start.true
+returns-then-tree-start c = sized_short _ _ c.read_number-number.ensures _ c.in-Read.is c.if-tree-start.true
 
 pub overflow_add-result : goal.overflow_add-result
 overflow_add-result c =
     omega (arith, read_inside c.args.tree.now c.args.at c.read_number-number.ensures _ c.in-Read.is)
 
 pub returns : goal.returns
-returns c = sized-whole _ _ c.read_number-number.ensures _ c.in-Read.is c.if-tree-start.false
+returns c = sized_whole _ _ c.read_number-number.ensures _ c.in-Read.is c.if-tree-start.false

@@ -2,15 +2,15 @@
 use mathlib.Core.Path.{sym, ◌∙◌}
 use native.Mathlib.Omega.{arith}
 use borrow.Author.Tests.{le-leb, lt-leb, lt-ltb, le-ltb, eq-eqb, ne_eqb}
-use Rattle.tree.proofs.Spans.{read_inside, sized-short, sized-whole, text-missing, text-empty, text-some, text_free, text-byte}
+use Rattle.tree.proofs.Spans.{read_inside, sized_short, sized_whole, text_missing, text_empty, text_some, text_free, text_byte}
 use borrow.Author.Rules.{rules}
 use Rattle.tree.proofs.own.text_end.Goals as goal
 
 pub returns-in_default : goal.returns-in_default
-returns-in_default c = text-missing _ _ c.read_number-number.ensures _ c.in_default.is
+returns-in_default c = text_missing _ _ c.read_number-number.ensures _ c.in_default.is
 
 pub returns-then-count-eq0 : goal.returns-then-count-eq0
-returns-then-count-eq0 c = text-empty _ _ c.read_number-number.ensures _ _ c.in-Read.is c.if-count-eq0.true
+returns-then-count-eq0 c = text_empty _ _ c.read_number-number.ensures _ _ c.in-Read.is c.if-count-eq0.true
 
 pub overflow_add-start : goal.overflow_add-start
 overflow_add-start c =
@@ -24,14 +24,14 @@ pub returns-then-tree-start : goal.returns-then-tree-start
 returns-then-tree-start c =
     let read = c.read_number-number.ensures in
     let told = c.in-Read.is in
-    sized-short _ _ read _ told c.if-tree-start.true ∙ text_free _ _ read _ _ told c.if-count-eq0.false c.in-Free.is
+    sized_short _ _ read _ told c.if-tree-start.true ∙ text_free _ _ read _ _ told c.if-count-eq0.false c.in-Free.is
 
 pub returns-then-count-ne1 : goal.returns-then-count-ne1
 returns-then-count-ne1 c =
     let read = c.read_number-number.ensures in
     let told = c.in-Read.is in
     sym
-    (text-byte _ _ read _ _ told c.if-count-eq0.false _ _ c.in-Byte.is
+    (text_byte _ _ read _ _ told c.if-count-eq0.false _ _ c.in-Byte.is
     ∙ rw (ne_eqb _ _ c.if-count-ne1.true))
 
 pub returns-then-tree-start-2 : goal.returns-then-tree-start-2
@@ -39,7 +39,7 @@ returns-then-tree-start-2 c =
     let read = c.read_number-number.ensures in
     let told = c.in-Read.is in
     sym
-    (text-byte _ _ read _ _ told c.if-count-eq0.false _ _ c.in-Byte.is
+    (text_byte _ _ read _ _ told c.if-count-eq0.false _ _ c.in-Byte.is
     ∙ rw (eq-eqb _ _ c.if-count-ne1.false, le-ltb _ _ c.if-tree-start-2.true))
 
 pub returns-then-byte-low : goal.returns-then-byte-low
@@ -47,7 +47,7 @@ returns-then-byte-low c =
     let read = c.read_number-number.ensures in
     let told = c.in-Read.is in
     sym
-    (text-byte _ _ read _ _ told c.if-count-eq0.false _ _ c.in-Byte.is
+    (text_byte _ _ read _ _ told c.if-count-eq0.false _ _ c.in-Byte.is
     ∙ rw (eq-eqb _ _ c.if-count-ne1.false, lt-ltb _ _ c.if-tree-start-2.false, ← c.wide-byte.ensures.0, lt-leb _ _ c.if-byte-low.true))
 
 pub returns-then-high-byte : goal.returns-then-high-byte
@@ -55,7 +55,7 @@ returns-then-high-byte c =
     let read = c.read_number-number.ensures in
     let told = c.in-Read.is in
     sym
-    (text-byte _ _ read _ _ told c.if-count-eq0.false _ _ c.in-Byte.is
+    (text_byte _ _ read _ _ told c.if-count-eq0.false _ _ c.in-Byte.is
     ∙ rw (
       eq-eqb _ _ c.if-count-ne1.false,
       lt-ltb _ _ c.if-tree-start-2.false,
@@ -68,20 +68,20 @@ pub returns-in-NoText : goal.returns-in-NoText
 returns-in-NoText c =
     let read = c.read_number-number.ensures in
     let told = c.in-Read.is in
-    sym (text-some _ _ read _ _ told c.if-count-eq0.false ∙ rw c.in-NoText.is)
+    sym (text_some _ _ read _ _ told c.if-count-eq0.false ∙ rw c.in-NoText.is)
 
 pub returns-else-tree-start : goal.returns-else-tree-start
 returns-else-tree-start c =
     let read = c.read_number-number.ensures in
     let told = c.in-Read.is in
-    sized-whole _ _ read _ told c.if-tree-start.false ∙ text_free _ _ read _ _ told c.if-count-eq0.false c.in-Free.is
+    sized_whole _ _ read _ told c.if-tree-start.false ∙ text_free _ _ read _ _ told c.if-count-eq0.false c.in-Free.is
 
 pub returns-else-high-byte : goal.returns-else-high-byte
 returns-else-high-byte c =
     let read = c.read_number-number.ensures in
     let told = c.in-Read.is in
     sym
-    (text-byte _ _ read _ _ told c.if-count-eq0.false _ _ c.in-Byte.is
+    (text_byte _ _ read _ _ told c.if-count-eq0.false _ _ c.in-Byte.is
     ∙ rw (
       eq-eqb _ _ c.if-count-ne1.false,
       lt-ltb _ _ c.if-tree-start-2.false,

@@ -2,7 +2,7 @@
 use mathlib.Core.Logic.{⊎_elim}
 use mathlib.Core.Path.{◌∙◌}
 use borrow.Author.Tests.{eq-eqb, ne_eqb}
-use Rattle.tree.proofs.Heads.{head_low, head-past, head-block, head-expression, head-field}
+use Rattle.tree.proofs.Heads.{head_low, head_past, head_block, head_expression, head_field}
 use Rattle.tree.proofs.Numbers.{behind_known}
 use borrow.Author.Rules.{rules}
 use Rattle.tree.proofs.parts.head_behind.Goals as goal
@@ -14,13 +14,13 @@ returns-then-levels-eq0 c =
 
 pub returns-then-tree-at : goal.returns-then-tree-at
 returns-then-tree-at c =
-    let told = behind_known _ _ _ _ _ (c.no_head-then-tree-at.ensures ∙ head-past _ _ _ _ _ c.if-levels-eq0.false c.if-tree-at.true) in
+    let told = behind_known _ _ _ _ _ (c.no_head-then-tree-at.ensures ∙ head_past _ _ _ _ _ c.if-levels-eq0.false c.if-tree-at.true) in
     record { answer = told.0; numbers = told.1 }
 
 pub returns-then-number-eq-BRACES : goal.returns-then-number-eq-BRACES
 returns-then-number-eq-BRACES c =
     let told = behind_known _ _ _ _ _
-    (head-block _ _ _ _ _ c.if-levels-eq0.false c.if-tree-at.false _ c.wide-number.ensures.0 _
+    (head_block _ _ _ _ _ c.if-levels-eq0.false c.if-tree-at.false _ c.wide-number.ensures.0 _
     (⊎_elim (λ way. simp (eq-eqb _ _ way.taken)) (λ way. simp (ne_eqb _ _ way.0.left, way.1.taken)) c.then-number-eq-BRACES.branch)
     c.inner_head.ensures) in
     record { answer = told.0; numbers = told.1 }
@@ -28,7 +28,7 @@ returns-then-number-eq-BRACES c =
 pub returns-then-number-eq-EXPRESSION : goal.returns-then-number-eq-EXPRESSION
 returns-then-number-eq-EXPRESSION c =
     let told = behind_known _ _ _ _ _
-    (head-expression _ _ _ _ _ c.if-levels-eq0.false c.if-tree-at.false _ c.wide-number.ensures.0 _
+    (head_expression _ _ _ _ _ c.if-levels-eq0.false c.if-tree-at.false _ c.wide-number.ensures.0 _
     (simp (ne_eqb _ _ c.if-number-eq-BRACES.false, c.if-number-eq-CONFIG.false-raw))
     c.if-number-eq-EXPRESSION.true
     c.inner_head-then-number-eq-EXPRESSION.ensures) in
@@ -37,7 +37,7 @@ returns-then-number-eq-EXPRESSION c =
 pub returns : goal.returns
 returns c =
     let told = behind_known _ _ _ _ _
-    (head-field _ _ _ _ _ c.if-levels-eq0.false c.if-tree-at.false _ c.wide-number.ensures.0 _
+    (head_field _ _ _ _ _ c.if-levels-eq0.false c.if-tree-at.false _ c.wide-number.ensures.0 _
     (simp (ne_eqb _ _ c.if-number-eq-BRACES.false, c.if-number-eq-CONFIG.false-raw))
     c.if-number-eq-EXPRESSION.false
     c.field_head.ensures) in

@@ -3,7 +3,7 @@ use mathlib.Core.Path.{ap, ◌∙◌}
 use Rattle.answers.specs.declared.Refusal.{Refusal}
 use Rattle.tree.specs.Own.{refusal_of}
 use Rattle.tree.specs.declared.parts.HeadRead.TheVariants.{NoHead}
-use Rattle.tree.proofs.Heads.{head-refused, head-behind-read}
+use Rattle.tree.proofs.Heads.{head_refused, head_behind_read}
 use Rattle.tree.proofs.Numbers.{head_known}
 use borrow.Author.Rules.{rules}
 use Rattle.tree.proofs.parts.head_place.Goals as goal
@@ -13,10 +13,10 @@ returns-in_default c =
     let told = c.in_default.is in
     let told = head_known _ _ _ _
     (ap (λ (why : Refusal). NoHead why) (c.refusal_of.ensures ∙ ap refusal_of told)
-    ∙ head-refused _ _ _ _ _ c.read_own-read.ensures.answer _ told) in
+    ∙ head_refused _ _ _ _ _ c.read_own-read.ensures.answer _ told) in
     record { answer = told.0; numbers = told.1 }
 
 pub returns : goal.returns
 returns c =
-    let told = head_known _ _ _ _ (c.head_behind.ensures.answer ∙ head-behind-read _ _ _ _ _ c.read_own-read.ensures.answer _ c.in-Record.is) in
+    let told = head_known _ _ _ _ (c.head_behind.ensures.answer ∙ head_behind_read _ _ _ _ _ c.read_own-read.ensures.answer _ c.in-Record.is) in
     record { answer = told.0; numbers = told.1 }

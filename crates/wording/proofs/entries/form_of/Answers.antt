@@ -32,4 +32,4 @@ pub returns-in-AddressingMode : goal.returns-in-AddressingMode
 returns-in-AddressingMode c = rw c.in-AddressingMode.is refl
 
 pub returns-in_default : goal.returns-in_default
-returns-in_default c = other_form c.args.class c.in_default.keys10
+returns-in_default c = other_form c.args.class c.in_default.in_default-own.keys10

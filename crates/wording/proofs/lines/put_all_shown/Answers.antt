@@ -6,7 +6,7 @@ use native.Mathlib.Omega.{arith}
 use lib.ListN.{length, drop}
 use borrow.Author.Rules.{rules}
 use Rattle.wording.specs.Lines.{line_in, puts, shown}
-use Rattle.wording.proofs.Pieces.{shown-next, shown-last}
+use Rattle.wording.proofs.Pieces.{shown_next, shown_last}
 use Rattle.wording.proofs.lines.put_all_shown.Goals as goal
 
 pub loop-i-init : goal.loop-i-init
@@ -16,11 +16,11 @@ pub loop-i-preserved : goal.loop-i-preserved
 loop-i-preserved c = (
   c.put_shown-next.auto.0 ∙ c.loop-i.invariant.0,
   omega arith,
-  c.loop-i.invariant.2 ∙ shown-next c.args.bytes.now c.loop-i.i _ (omega arith) c.put_shown-next.ensures,
+  c.loop-i.invariant.2 ∙ shown_next c.args.bytes.now c.loop-i.i _ (omega arith) c.put_shown-next.ensures,
 )
 
 pub shape_of-line : goal.shape_of-line
 shape_of-line c = c.loop-i.invariant.0
 
 pub returns : goal.returns
-returns c = sym (c.loop-i.invariant.2 ∙ shown-last _ _ _ c.loop-i-test.false)
+returns c = sym (c.loop-i.invariant.2 ∙ shown_last _ _ _ c.loop-i-test.false)

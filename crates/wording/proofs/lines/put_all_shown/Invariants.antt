@@ -6,7 +6,7 @@ use native.Mathlib.Omega.{arith}
 use lib.ListN.{length, drop}
 use borrow.Author.Rules.{rules}
 use Rattle.wording.specs.Lines.{line_in, puts, shown}
-use Rattle.wording.proofs.Pieces.{shown-next, shown-last}
+use Rattle.wording.proofs.Pieces.{shown_next, shown_last}
 use Rattle.wording.proofs.lines.put_all_shown.Given as goal
 
 abbrev pub invariant-loop-i : goal.invariant-loop-i

@@ -1,7 +1,7 @@
 -- The places are in order, so the part that is lent is the text of the index; past the last there is none.
 use native.Mathlib.Omega.{arith}
 use borrow.Author.Rules.{rules}
-use Rattle.leaves.proofs.Tables.{cut_past, in-order-next}
+use Rattle.leaves.proofs.Tables.{cut_past, in_order_next}
 use Rattle.wording.proofs.Pieces.{put_empty}
 use Rattle.wording.proofs.Tables.{cut_text}
 use Rattle.wording.proofs.lines.put_entry.Goals as goal
@@ -14,7 +14,7 @@ returns-then-places-index c = put_empty _ _ (cut_past _ _ _ (omega arith))
 
 pub slice_bounds-put-count : goal.slice_bounds-put-count
 slice_bounds-put-count c =
-    omega (arith, in-order-next c.args.texts.now c.args.places.now c.args.index (omega arith) c.requires)
+    omega (arith, in_order_next c.args.texts.now c.args.places.now c.args.index (omega arith) c.requires)
 
 pub returns : goal.returns
 returns c =

@@ -7,7 +7,7 @@ use Rattle.leaves.proofs.Items.{item_lies}
 use Rattle.leaves.specs.Items.{items_at}
 use Rattle.wording.specs.Losses.{comments}
 use Rattle.wording.specs.Lines.{line_in, puts}
-use Rattle.wording.proofs.Pieces.{comments-left, comments-broken, comments-next}
+use Rattle.wording.proofs.Pieces.{comments_left, comments_broken, comments_next}
 use Rattle.wording.proofs.places.put_comments.Goals as goal
 
 pub loop-left-init : goal.loop-left-init
@@ -18,7 +18,7 @@ shape_of-line-in_default c = c.loop-left.invariant.0
 
 pub returns-in_default : goal.returns-in_default
 returns-in_default c =
-    sym (c.loop-left.invariant.1 ∙ comments-broken _ _ _ _ c.loop-left-test.true c.trivium_at-read.ensures c.in_default.is)
+    sym (c.loop-left.invariant.1 ∙ comments_broken _ _ _ _ c.loop-left-test.true c.trivium_at-read.ensures c.in_default.is)
 
 pub put_comment-next-requires : goal.put_comment-next-requires
 put_comment-next-requires c = item_lies _ _ _ c.trivium_at-read.ensures c.in-Item.is
@@ -27,11 +27,11 @@ pub loop-left-preserved : goal.loop-left-preserved
 loop-left-preserved c = (
   c.put_comment-next.auto.0 ∙ c.loop-left.invariant.0,
   c.loop-left.invariant.1
-      ∙ comments-next _ _ _ _ c.loop-left-test.true c.trivium_at-read.ensures _ c.in-Item.is c.put_comment-next.ensures,
+      ∙ comments_next _ _ _ _ c.loop-left-test.true c.trivium_at-read.ensures _ c.in-Item.is c.put_comment-next.ensures,
 )
 
 pub shape_of-line : goal.shape_of-line
 shape_of-line c = c.loop-left.invariant.0
 
 pub returns : goal.returns
-returns c = sym (c.loop-left.invariant.1 ∙ comments-left _ _ _ _ c.loop-left-test.false)
+returns c = sym (c.loop-left.invariant.1 ∙ comments_left _ _ _ _ c.loop-left-test.false)

@@ -7,7 +7,7 @@ use Rattle.leaves.proofs.Items.{item_lies}
 use Rattle.leaves.specs.Items.{items_at}
 use Rattle.wording.specs.Losses.{comments}
 use Rattle.wording.specs.Lines.{line_in, puts}
-use Rattle.wording.proofs.Pieces.{comments-left, comments-broken, comments-next}
+use Rattle.wording.proofs.Pieces.{comments_left, comments_broken, comments_next}
 use Rattle.wording.proofs.places.put_comments.Given as goal
 
 abbrev pub invariant-loop-left : goal.invariant-loop-left

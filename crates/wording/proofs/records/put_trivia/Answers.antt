@@ -7,7 +7,7 @@ use Rattle.leaves.proofs.Items.{item_lies}
 use Rattle.leaves.specs.Items.{items_at}
 use Rattle.wording.specs.Records.{trivia}
 use Rattle.wording.specs.Lines.{line_in, puts}
-use Rattle.wording.proofs.Pieces.{trivia-left, trivia-broken, trivia_next}
+use Rattle.wording.proofs.Pieces.{trivia_left, trivia_broken, trivia_next}
 use Rattle.wording.proofs.records.put_trivia.Goals as goal
 
 pub loop-left-init : goal.loop-left-init
@@ -18,7 +18,7 @@ shape_of-line-in_default c = c.loop-left.invariant.0
 
 pub returns-in_default : goal.returns-in_default
 returns-in_default c =
-    sym (c.loop-left.invariant.1 ∙ trivia-broken _ _ _ _ c.loop-left-test.true c.trivium_at-read.ensures c.in_default.is)
+    sym (c.loop-left.invariant.1 ∙ trivia_broken _ _ _ _ c.loop-left-test.true c.trivium_at-read.ensures c.in_default.is)
 
 pub put_trivium-next-requires : goal.put_trivium-next-requires
 put_trivium-next-requires c = item_lies _ _ _ c.trivium_at-read.ensures c.in-Item.is
@@ -34,4 +34,4 @@ pub shape_of-line : goal.shape_of-line
 shape_of-line c = c.loop-left.invariant.0
 
 pub returns : goal.returns
-returns c = sym (c.loop-left.invariant.1 ∙ trivia-left _ _ _ _ c.loop-left-test.false)
+returns c = sym (c.loop-left.invariant.1 ∙ trivia_left _ _ _ _ c.loop-left-test.false)

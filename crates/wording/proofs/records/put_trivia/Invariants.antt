@@ -7,7 +7,7 @@ use Rattle.leaves.proofs.Items.{item_lies}
 use Rattle.leaves.specs.Items.{items_at}
 use Rattle.wording.specs.Records.{trivia}
 use Rattle.wording.specs.Lines.{line_in, puts}
-use Rattle.wording.proofs.Pieces.{trivia-left, trivia-broken, trivia_next}
+use Rattle.wording.proofs.Pieces.{trivia_left, trivia_broken, trivia_next}
 use Rattle.wording.proofs.records.put_trivia.Given as goal
 
 abbrev pub invariant-loop-left : goal.invariant-loop-left
