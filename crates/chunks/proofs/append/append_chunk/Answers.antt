@@ -8,36 +8,36 @@ use Rattle.chunks.proofs.Storing.{text_length, chunk_stores, append_deep, append
 use Rattle.chunks.proofs.append.append_chunk.Goals as goal
 
 -- the chunk that is handed over
-abbrev handed : tie.Start → Chunk
-handed start = record { ty = start.args.ty; indent = start.args.indent; text = with_space start.args.spaced (with_colon start.args.colon start.args.text.now) }
+abbrev handed : ChunkType → ℕ → Bool → Bool → List ℕ → Chunk
+handed ty indent spaced colon text = record { ty = ty; indent = indent; text = with_space spaced (with_colon colon text) }
 
 -- it is well formed where the tests have let it pass
-passed : (c : tie.Else4) → WellFormed (handed c.before.before.before.before.before.before.before)
-passed c = record { indent = omega arith; some = omega arith; short = omega arith }
+passed : (chunk : Chunk) → chunk.indent ≤ 4096 → length chunk.text ≢ 0 → length chunk.text ≤ 65535 → WellFormed chunk
+passed chunk indent some short = record { indent = indent; some = omega arith; short = short }
 
 pub returns-then-indent-gt4096 : goal.returns-then-indent-gt4096
 returns-then-indent-gt4096 c =
-    let told = append_deep _ _ (handed (PLACE:Start)) c.if-indent-gt4096.true in
+    let told = append_deep _ _ (handed c.args.ty c.args.indent c.args.spaced c.args.colon c.args.text.now) c.if-indent-gt4096.true in
     record { answer = told.0; room = told.1 }
 
 pub returns-then-text-gt65535 : goal.returns-then-text-gt65535
 returns-then-text-gt65535 c =
-    let told = append_long _ _ (handed c) (omega (arith, text_length c.args.spaced c.args.text.now c.args.colon)) in
+    let told = append_long _ _ (handed c.args.ty c.args.indent c.args.spaced c.args.colon c.args.text.now) (omega (arith, text_length c.args.spaced c.args.text.now c.args.colon)) in
     record { answer = told.0; room = told.1 }
 
 pub returns-then-count-eq0 : goal.returns-then-count-eq0
 returns-then-count-eq0 c =
-    let told = append_empty _ _ (handed (PLACE:Start)) (omega arith) in
+    let told = append_empty _ _ (handed c.args.ty c.args.indent c.args.spaced c.args.colon c.args.text.now) (omega arith) in
     record { answer = told.0; room = told.1 }
 
 pub returns-then-count-gt65535 : goal.returns-then-count-gt65535
 returns-then-count-gt65535 c =
-    let told = append_long _ _ (handed (PLACE:Start)) (omega arith) in
+    let told = append_long _ _ (handed c.args.ty c.args.indent c.args.spaced c.args.colon c.args.text.now) (omega arith) in
     record { answer = told.0; room = told.1 }
 
 pub returns-then-limit-used : goal.returns-then-limit-used
 returns-then-limit-used c =
-    let told = append_past _ _ (handed (PLACE:Start)) (passed (PLACE:Else-count-gt65535)) (omega arith) in
+    let told = append_past _ _ (handed c.args.ty c.args.indent c.args.spaced c.args.colon c.args.text.now) (passed _ (omega arith) (omega arith) (omega arith)) (omega arith) in
     record { answer = told.0; room = told.1 }
 
 pub overflow_add-end : goal.overflow_add-end
@@ -48,7 +48,7 @@ overflow_add-end-2 c = omega (arith, indent_length c.args.indent)
 
 pub returns-then-limit-end : goal.returns-then-limit-end
 returns-then-limit-end c =
-    let told = append_no_room _ _ (handed c) (passed (PLACE:Else-count-gt65535)) (omega arith) (omega (arith, chunk_length (handed c))) (omega arith) in
+    let told = append_no_room _ _ (handed c.args.ty c.args.indent c.args.spaced c.args.colon c.args.text.now) (passed _ (omega arith) (omega arith) (omega arith)) (omega arith) (omega (arith, chunk_length (handed c.args.ty c.args.indent c.args.spaced c.args.colon c.args.text.now))) (omega arith) in
     record { answer = told.0; room = told.1 }
 
 pub store_head-behind-requires : goal.store_head-behind-requires
@@ -61,7 +61,7 @@ store_text-requires c =
 
 pub returns : goal.returns
 returns c =
-    let told = append_stored _ _ (handed c) (passed c) (omega (arith, c)) (omega (arith, c, chunk_length (handed c))) (omega (arith, c))
-    (chunk_stores c.args.room.now c.args.used (handed c) c.text_length-count.ensures c.store_head-behind.ensures.answer c.store_head-behind.ensures.room
+    let told = append_stored _ _ (handed c.args.ty c.args.indent c.args.spaced c.args.colon c.args.text.now) (passed _ (omega arith) (omega arith) (omega arith)) (omega arith) (omega (arith, chunk_length (handed c.args.ty c.args.indent c.args.spaced c.args.colon c.args.text.now))) (omega arith)
+    (chunk_stores c.args.room.now c.args.used (handed c.args.ty c.args.indent c.args.spaced c.args.colon c.args.text.now) c.text_length-count.ensures c.store_head-behind.ensures.answer c.store_head-behind.ensures.room
     c.store_text.ensures) in
     record { answer = told.0; room = told.1 }

@@ -21,7 +21,7 @@ overflow_add-result c =
 
 pub shape_of-room : goal.shape_of-room
 shape_of-room c =
-    c.store_number.auto.0 ∙ c.store_indent-behind.auto.0 ∙ simp length-set
+    c.store_number.auto.buffer ∙ c.store_indent-behind.auto.room ∙ simp length-set
 
 pub returns : goal.returns
 returns c =
@@ -29,6 +29,6 @@ returns c =
       answer = omega (arith, head_length c.args.ty c.args.indent c.args.count);
       room = head_stores c.args.room.now c.args.at c.args.ty c.args.indent c.args.count
           c.requires.1 c.requires.2
-          c.map_byte.ensures indented.ensures.1
-          indented.ensures.0 c.store_number.ensures.buffer;
+          c.map_byte.ensures indented.ensures.room
+          indented.ensures.answer c.store_number.ensures.buffer;
     }

@@ -11,17 +11,6 @@ use Rattle.chunks.proofs.Judging.{Going, going_first, going_on, too_long, bad_ch
 use Rattle.chunks.proofs.Numbers.{list_numbers_lem}
 use Rattle.chunks.proofs.list.check_chunks.Goals as goal
 
--- the list, and the chunk that was found in it
-abbrev list : tie.After-known-told invariant-loop decreases-loop → List ℕ
-list c = c.before.before.before.before.before.before.before.before.before.before.args.list.now
-
-abbrev chunk : tie.After-known-told invariant-loop decreases-loop → StoredChunk
-chunk c = c.before.found.given.0.0
-
--- which fits where it was looked for
-fit : (c : tie.After-known-told invariant-loop decreases-loop) → ChunkFits (list c) c.before.before.before.before.before.loop.at (chunk c)
-fit c = rw c.before.found.given.1 at c.before.before.before.chunk-at.ensures.1
-
 pub returns-then-length-gt1048576 : goal.returns-then-length-gt1048576
 returns-then-length-gt1048576 c =
     let told = judged_numbers (list_numbers_lem _) (sym (too_long _ c.if-length-gt1048576.true)) in
@@ -47,16 +36,16 @@ returns-in_default c =
     record { answer = told.0; numbers = told.1 }
 
 pub fault_in-fault-requires : goal.fault_in-fault-requires
-fault_in-fault-requires c = omega (arith, fit c)
+fault_in-fault-requires c = let fits = rw c.in-Found.is at c.chunk_at-found.ensures.fits in omega (arith, fits)
 
 pub loop-at-smaller : goal.loop-at-smaller
-loop-at-smaller c = omega (arith, fit (PLACE:In-Found))
+loop-at-smaller c = let fits = rw c.in-Found.is at c.chunk_at-found.ensures.fits in omega (arith, fits)
 
 pub loop-at-preserved : goal.loop-at-preserved
 loop-at-preserved c =
     let turn = c.loop-at in
     let found = sym c.chunk_at-found.ensures.answer ∙ c.in-Found.is in
-    rw c.fault_in-fault.ensures (going_on (list c) turn.at turn.fault (chunk c) turn.invariant found (fit c))
+    rw c.fault_in-fault.ensures (going_on c.args.list.now turn.at turn.fault c.in-Found.chunk turn.invariant found (rw c.in-Found.is at c.chunk_at-found.ensures.fits))
 
 pub returns-then-fault-length : goal.returns-then-fault-length
 returns-then-fault-length c =

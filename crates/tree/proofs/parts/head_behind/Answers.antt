@@ -1,6 +1,7 @@
 -- The same tests as the definition's: a level, a byte, and the number of the record's kind.
 use mathlib.Core.Logic.{⊎_elim}
-use mathlib.Core.Path.{◌∙◌}
+use mathlib.Core.Path.{◌∙◌, ◌≡◌}
+use Rattle.std.proofs.Common.{◌≢◌}
 use borrow.Author.Tests.{eq-eqb, ne_eqb}
 use Rattle.tree.proofs.Heads.{head_low, head_past, head_block, head_expression, head_field}
 use Rattle.tree.proofs.Numbers.{behind_known}
@@ -21,7 +22,7 @@ pub returns-then-number-eq-BRACES : goal.returns-then-number-eq-BRACES
 returns-then-number-eq-BRACES c =
     let told = behind_known _ _ _ _ _
     (head_block _ _ _ _ _ c.if-levels-eq0.false c.if-tree-at.false _ c.wide-number.ensures.0 _
-    (⊎_elim (λ way. simp (eq-eqb _ _ way.taken)) (λ way. simp (ne_eqb _ _ way.0.left, way.1.taken)) c.then-number-eq-BRACES.branch)
+    (⊎_elim (λ (one : c.wide-number.result ≡ 2). simp (eq-eqb _ _ one)) (λ (other : (c.wide-number.result ≢ 2) × (c.wide-number.result ≡ 3)). simp (ne_eqb _ _ other.0, eq-eqb _ _ other.1)) c.then-number-eq-BRACES.either)
     c.inner_head.ensures) in
     record { answer = told.0; numbers = told.1 }
 
