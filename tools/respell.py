@@ -107,15 +107,20 @@ LEMMAS = [("leaves/proofs", "in_order", "in_order_lem"), ("tokens/proofs", "room
 
 def defined_names(text):
     """The definitions and lemmas of a file, those in sections (`module _ .. where`) too; no fields of records."""
-    inside = "module"
+    inside, below = "module", None
     for line in text.split("\n"):
         if line.lstrip().startswith(("--", "use ", "pub use ")) or not line.strip():
             continue
         indent = len(line) - len(line.lstrip())
         if not indent:
             inside = "module" if line.startswith("module") else "record" if re.match(r"(pub )?(record|data)\b", line) else "body"
+        if below is not None and indent <= below:
+            below = None
+        if line.strip() == "where":
+            below = indent
+            continue
         m = DEFINED.match(line)
-        if m and (not indent or inside == "module" and indent % 2 == 0 and indent <= 6):
+        if m and (not indent or below is not None and indent == below + 2 or inside == "module" and indent % 2 == 0 and indent <= 6):
             yield m.group("name")
 
 

@@ -24,10 +24,10 @@ use Rattle.chunks.proofs.Forms.{type_bits_small, bits_of_type, map_bits, map_typ
 
 -- a number that is read stands within the list
 pub read_inside : (list : List ℕ) (at n : ℕ) → read_number list at ≡ Read n → at + 2 ≤ length list
-read_inside list at n e = by_test (leb (at + 2) (length list)) (λ q. leb-true _ _ q) (λ q. absurd (missing-read n (rw q at e)))
+read_inside list at n e = by_test (leb (at + 2) (length list)) (λ q. leb-true _ _ q) (λ q. absurd (missing_read n (rw q at e)))
   where
-    missing-read : (n : ℕ) → Missing ≡ Read n → ⊥
-    missing-read n e = let z : ◌≡◌ {A = ℕ} 0 1 = cc in omega arith
+    missing_read : (n : ℕ) → Missing ≡ Read n → ⊥
+    missing_read n e = let z : ◌≡◌ {A = ℕ} 0 1 = cc in omega arith
 
 -- a text stands at a place by the number that is read there
 pub text_read : (list : List ℕ) (at : ℕ) (ty : ChunkType) (indent : ℕ) {number result : Number} → result ≡ read_number list at → result ≡ number

@@ -120,11 +120,11 @@ unfolding closes pieces_of cut
 closes_chunk none ty indent follows [] ps some = absurd (omega arith)
 closes_chunk none ty indent follows (b ∷ bs) ps some =
     let P : List (List ℕ) → Type 0 = λ ts. closes none (pieces_of ty indent true follows ts ++ ps) ≡ closes (is_last follows) ps in
-    cond_both P (eqb b 10) ((b ∷ []) ∷ cut bs) (onto b (cut bs)) (λ _. closes_more ty indent false follows (cut bs) ps) (λ _. onto-closes (cut bs))
+    cond_both P (eqb b 10) ((b ∷ []) ∷ cut bs) (onto b (cut bs)) (λ _. closes_more ty indent false follows (cut bs) ps) (λ _. onto_closes (cut bs))
   where
-    onto-closes : (ts : List (List ℕ)) → closes none (pieces_of ty indent true follows (onto b ts) ++ ps) ≡ closes (is_last follows) ps
-    onto-closes [] = refl
-    onto-closes (t ∷ ts) = closes_more ty indent false follows ts ps
+    onto_closes : (ts : List (List ℕ)) → closes none (pieces_of ty indent true follows (onto b ts) ++ ps) ≡ closes (is_last follows) ps
+    onto_closes [] = refl
+    onto_closes (t ∷ ts) = closes_more ty indent false follows ts ps
 
 -- so the last piece of chunks that all have a text is of the last chunk
 pieces_close : (chunks : List Chunk) → AllWellFormed chunks → closes (is_last (following chunks)) (pieces chunks) ≡ true

@@ -63,11 +63,11 @@ pieces_cost (chunk ∷ chunks) (good, rest) =
 -- a piece that starts a chunk may set the indent
 indent_cost : (indent : Indent) (piece : Piece) → indent_of (indent_with indent piece) ≤ indent_of indent + start_cost piece.starts piece.indent
 indent_cost (Set indent) piece = omega arith
-indent_cost Unset piece = at-start piece.starts
+indent_cost Unset piece = at_start_lem piece.starts
   where
-    at-start : (starts : Bool) → indent_of (cond starts (Set piece.indent) Unset) ≤ 0 + start_cost starts piece.indent
-    at-start true = omega arith
-    at-start false = omega arith
+    at_start_lem : (starts : Bool) → indent_of (cond starts (Set piece.indent) Unset) ≤ 0 + start_cost starts piece.indent
+    at_start_lem true = omega arith
+    at_start_lem false = omega arith
 
 -- a standalone line gets no longer
 placed_length : (margins : Margins) (bytes : List ℕ) → length (placed margins bytes) ≤ length bytes

@@ -131,11 +131,11 @@ module _ (margins : Margins) (list : List ℕ) (spot : Spot) (n : ℕ) (piece : 
 
 -- it is not ignored
 lay_plain : (margins : Margins) (ty : ChunkType) (n count : ℕ) (follows : Follows) → (lay_of margins ty n count false follows).ignored ≡ false
-lay_plain margins Label n count follows = by_test (ltb margins.label n) (λ e. rw e) (λ e. rw e (aligned-plain margins.alignment (margins.label - (count + 1))))
+lay_plain margins Label n count follows = by_test (ltb margins.label n) (λ e. rw e) (λ e. rw e (aligned_plain margins.alignment (margins.label - (count + 1))))
   where
-    aligned-plain : (alignment : Alignment) (pad : ℕ) → (lay_aligned alignment pad).ignored ≡ false
-    aligned-plain Left pad = refl
-    aligned-plain Right pad = refl
+    aligned_plain : (alignment : Alignment) (pad : ℕ) → (lay_aligned alignment pad).ignored ≡ false
+    aligned_plain Left pad = refl
+    aligned_plain Right pad = refl
 lay_plain margins Code n count follows = rw (and-false (eqb count 1))
 lay_plain margins Comment n count Nothing = refl
 lay_plain margins Comment n count Newline = refl

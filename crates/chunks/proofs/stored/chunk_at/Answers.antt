@@ -9,23 +9,6 @@ use Rattle.chunks.specs.Reading.{type_of, indent_on, chunk_at, Fits}
 use Rattle.chunks.proofs.Reading.{chunk_plain, chunk_indented, indent_zero, indent_deep, indent_text, chunk_fits}
 use Rattle.chunks.proofs.stored.chunk_at.Goals as goal
 
--- what is found fits, since every element of the list is a byte
-found_fits : (c : tie.After-shared-slice-known) → Fits c.before.args.list.now c.before.args.at (chunk_at c.before.args.list.now c.before.args.at)
-found_fits c = chunk_fits c.before.args.list.now c.before.args.at (λ i. omega (arith, c.shared-slice-known.given i))
-
--- the function's entry, from where the indent was read
-abbrev entry : tie.After-read-number → tie.Start
-entry c = c.before.before.before.before.before.before.before.before.before
-
--- behind a map with the indent's bit the number that is read decides
-indented : (c : tie.After-read-number) {number : Number} → c.read_number.result ≡ number
-    → chunk_at (entry c).args.list.now (entry c).args.at
-    ≡ indent_on (entry c).args.list.now ((entry c).args.at + 1) (type_of (c.before.before.before.before.before.wide.result % 4)) number
-indented c told =
-    let tested = c.before.before.before in
-    chunk_indented (entry c).args.list.now (entry c).args.at tested.before.before.before.before.if1.false tested.before.before.wide.ensures.0 tested.before.if2.false
-    tested.if3.false c.before.if4.false (sym c.read_number.ensures ∙ told)
-
 pub returns-then-list-at : goal.returns-then-list-at
 unfolding chunk_at
 returns-then-list-at c = record { answer = simp (le-leb _ _ c.if-list-at.true); fits = tt }
@@ -44,20 +27,24 @@ returns-then-map-lt4 c =
     c.wide-map.ensures.0 c.if-map-gt7.false c.if-bits-eq3.false
     c.if-map-lt4.true in
     let same : c.text_at.result ≡ chunk_at c.args.list.now c.args.at = c.text_at.ensures ∙ rw c.type_of-ty.ensures (sym plain) in
-    record { answer = same; fits = rw same (found_fits (PLACE:After-shared_slice_known-1)) }
+    record { answer = same; fits = rw same (chunk_fits c.args.list.now c.args.at (λ i. omega (arith, c.type_inv.list i))) }
 
 pub returns-in_default : goal.returns-in_default
-returns-in_default c = record { answer = sym (indented (PLACE:After-read_number-number) c.in_default.is); fits = tt }
+returns-in_default c = record { answer = sym (chunk_indented c.args.list.now c.args.at c.if-list-at.false c.wide-map.ensures.0 c.if-map-gt7.false
+    c.if-bits-eq3.false c.if-map-lt4.false (sym c.read_number-number.ensures ∙ c.in_default.is)); fits = tt }
 
 pub returns-then-indent-eq0 : goal.returns-then-indent-eq0
-returns-then-indent-eq0 c = record { answer = sym (indented (PLACE:After-read_number-number) c.in-Read.is ∙ indent_zero _ _ _ _ c.if-indent-eq0.true); fits = tt }
+returns-then-indent-eq0 c = record { answer = sym (chunk_indented c.args.list.now c.args.at c.if-list-at.false c.wide-map.ensures.0 c.if-map-gt7.false
+    c.if-bits-eq3.false c.if-map-lt4.false (sym c.read_number-number.ensures ∙ c.in-Read.is) ∙ indent_zero _ _ _ _ c.if-indent-eq0.true); fits = tt }
 
 pub returns-then-indent-gt4096 : goal.returns-then-indent-gt4096
-returns-then-indent-gt4096 c = record { answer = sym (indented (PLACE:After-read_number-number) c.in-Read.is ∙ indent_deep _ _ _ _ c.if-indent-gt4096.true); fits = tt }
+returns-then-indent-gt4096 c = record { answer = sym (chunk_indented c.args.list.now c.args.at c.if-list-at.false c.wide-map.ensures.0 c.if-map-gt7.false
+    c.if-bits-eq3.false c.if-map-lt4.false (sym c.read_number-number.ensures ∙ c.in-Read.is) ∙ indent_deep _ _ _ _ c.if-indent-gt4096.true); fits = tt }
 
 pub returns : goal.returns
 returns c =
     let next : c.args.at + 3 ≡ c.args.at + 1 + 2 = omega arith in
-    let text = indented c c.in-Read.is ∙ indent_text _ _ _ _ c.if-indent-eq0.false c.if-indent-gt4096.false in
+    let text = chunk_indented c.args.list.now c.args.at c.if-list-at.false c.wide-map.ensures.0 c.if-map-gt7.false
+    c.if-bits-eq3.false c.if-map-lt4.false (sym c.read_number-number.ensures ∙ c.in-Read.is) ∙ indent_text _ _ _ _ c.if-indent-eq0.false c.if-indent-gt4096.false in
     let same : c.text_at-2.result ≡ chunk_at c.args.list.now c.args.at = c.text_at-2.ensures ∙ rw (next, c.type_of-ty.ensures) (sym text) in
-    record { answer = same; fits = rw same (found_fits (PLACE:After-shared_slice_known-1)) }
+    record { answer = same; fits = rw same (chunk_fits c.args.list.now c.args.at (λ i. omega (arith, c.type_inv.list i))) }
