@@ -4,5 +4,4 @@ use Rattle.printing.proofs.CodeFormatter.push.Goals as goal
 
 pub returns : goal.returns
 returns c =
-    let told = c.push_type.ensures in
-    record { answer = told.0; room = told.1 }
+    record { answer = c.push_type.ensures.answer; room = c.push_type.ensures.room }

@@ -21,5 +21,5 @@ returns c =
     let lone = rw c.is_spaced-pending.ensures at c.lone_newline-newline.ensures in
     let answered = rw c.is_spaced-pending.ensures at c.append_chunk-appended.ensures in
     let told = is_pushed _ _ _ _ (with_colon args.colon args.text.now) c.if-self-ne0.false (sym c.no_text.ensures ∙ c.if-no_text.false)
-    lone answered.0 answered.1 c.behind.ensures in
+    lone answered.answer answered.room c.behind.ensures in
     record { answer = told.0; room = told.1 }

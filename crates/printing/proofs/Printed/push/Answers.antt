@@ -9,4 +9,4 @@ returns-in_default c = refused_before c.in_default.is
 
 pub returns : goal.returns
 returns c =
-    done_before c.in-Done.is (finish (ran_push c.push-next.ensures) c.finish.ensures.answer refl)
+    done_before c.in-Done.is (finish (ran_push (c.push-next.ensures.answer, c.push-next.ensures.room)) c.finish.ensures.answer refl)
