@@ -101,8 +101,9 @@ taken-back taken-more takes-none test-in textOf told-below too-long typeOf value
 walked-on walking-on walking-start writing-start
 """.split()
 
-# Lemmas that the port's script had turned to the very names that definitions get here: file, old, new.
-LEMMAS = [("leaves/proofs", "in_order", "in_order_lem"), ("tokens/proofs", "room_of", "room_of_lem")]
+# Lemmas that the port's script had turned to the very names that definitions get here: the definition, which stands in
+# the lemma's own file, the lemma, its name.
+LEMMAS = [("inOrder", "in_order", "in_order_lem"), ("roomOf", "room_of", "room_of_lem")]
 
 
 def defined_names(text):
@@ -182,8 +183,8 @@ def main():
     documents = ["README.md", "NOTICE"] + glob.glob("docs/**/*.md", recursive=True) + glob.glob("crates/*/*.md") + glob.glob("tools/*.md")
     for p, t in texts.items():
         new = t
-        for folder, old, lemma in LEMMAS:
-            if folder in p:
+        for definition, old, lemma in LEMMAS:
+            if "/proofs/" in p and re.search(rf"(?<![\w-]){definition}(?![\w-])", new):
                 new = re.sub(r"(?<![\w.'-])" + old + r"(?![\w'-])", lemma, new)
         new = respell(new, {n: snake(n) for n in TURNED} | table if p.endswith(".edit") else table, p)
         if new != t:

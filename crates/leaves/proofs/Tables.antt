@@ -24,7 +24,7 @@ use Rattle.text.specs.Literals.{ascii}
 use Rattle.events.specs.Printed.{mnemonics, registers, operators, data_sizes, encodings, variable_types, number_types, modifiers, Style, plain, mnemonic}
 use Rattle.events.specs.Printed.{register, operator, data_size, encoding, variable_type, number_type, modifier, printed}
 use Rattle.events.specs.Trees.{word}
-use Rattle.leaves.specs.Texts.{cuts, in_order_lem}
+use Rattle.leaves.specs.Texts.{cuts, in_order}
 
 -- the push of an empty text does nothing
 run_empty : (context : Context) (room : List ℕ) (state : CodeFormatter) → run (word context []) (going room state) ≡ going room state
@@ -54,22 +54,22 @@ cut_between texts (place ∷ next ∷ places) zero inside = refl
 cut_between texts (place ∷ next ∷ places) (suc index) inside = cut_between texts (next ∷ places) index (omega arith)
 
 -- a place is at most the next, and that at most the end
-in_order_lem : (end : ℕ) (places : List ℕ) → in_order_lem end places ≡ true → (index : ℕ) → suc index < length places
+in_order_lem : (end : ℕ) (places : List ℕ) → in_order end places ≡ true → (index : ℕ) → suc index < length places
     → (get_or places index 0 ≤ get_or places (suc index) 0) × (get_or places (suc index) 0 ≤ end)
-unfolding in_order_lem
+unfolding in_order
 in_order_lem end [] order index inside = absurd (omega arith)
 in_order_lem end (place ∷ []) order index inside = absurd (omega arith)
 in_order_lem end (place ∷ next ∷ []) order zero inside =
     (leb-true _ _ (and_true_left (leb place next) (leb next end) order), leb-true _ _ (and_true_right (leb place next) (leb next end) order))
 in_order_lem end (place ∷ next ∷ later ∷ places) order zero inside =
-    let rest = in_order_lem end (next ∷ later ∷ places) (and_true_right (leb place next) (in_order_lem end (next ∷ later ∷ places)) order) 0 (omega arith) in
-    (leb-true _ _ (and_true_left (leb place next) (in_order_lem end (next ∷ later ∷ places)) order), omega (arith, rest.0, rest.1))
+    let rest = in_order_lem end (next ∷ later ∷ places) (and_true_right (leb place next) (in_order end (next ∷ later ∷ places)) order) 0 (omega arith) in
+    (leb-true _ _ (and_true_left (leb place next) (in_order end (next ∷ later ∷ places)) order), omega (arith, rest.0, rest.1))
 in_order_lem end (place ∷ next ∷ places) order (suc index) inside =
-    in_order_lem end (next ∷ places) (and_true_right (leb place next) (in_order_lem end (next ∷ places)) order) index (omega arith)
+    in_order_lem end (next ∷ places) (and_true_right (leb place next) (in_order end (next ∷ places)) order) index (omega arith)
 
 module _ (texts places : List ℕ) (index : ℕ) (inside : index + 1 < length places) where
   -- so it is of a place by the sum that the code tests
-  pub in_order_next : in_order_lem (length texts) places ≡ true → (get_or places index 0 ≤ get_or places (index + 1) 0) × (get_or places (index + 1) 0 ≤ length texts)
+  pub in_order_next : in_order (length texts) places ≡ true → (get_or places index 0 ≤ get_or places (index + 1) 0) × (get_or places (index + 1) 0 ≤ length texts)
   in_order_next order = rw add-one (in_order_lem (length texts) places order index (omega arith))
 
   -- and a push of the text between two places is a push of the text of the index

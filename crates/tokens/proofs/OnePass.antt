@@ -20,7 +20,7 @@ use Rattle.tree.specs.Checking.{read_file, plain_tree, length_checked, end_check
 use Rattle.tree.specs.declared.grammar.Class.TheVariants.{Tokens}
 use Rattle.tree.proofs.Readings.{passed_file, length_failed}
 use Rattle.tree.proofs.Plain.{plain_passed}
-use Rattle.printing.specs.Running.{at_start, outcome, room_of_lem}
+use Rattle.printing.specs.Running.{at_start, outcome, room_of}
 use Rattle.printing.specs.declared.Printed.{Printed}
 use Rattle.printing.specs.declared.Printed.TheVariants.{Done, Refused}
 use Rattle.printing.proofs.Running.{place_behind}
@@ -38,7 +38,7 @@ pub record OnePass (options : FormattingOptions) (tree room : List ℕ) (said : 
   pub whole : left ≡ one_pass_with (options-are.Options options) tree room
 
 -- the room of an answer
-room_of_lem : (printed : Printed) (left : List ℕ) → left ≡ room_of_lem (outcome printed left)
+room_of_lem : (printed : Printed) (left : List ℕ) → left ≡ room_of (outcome printed left)
 room_of_lem (Done state at) left = refl
 room_of_lem (Refused why) left = refl
 
@@ -58,7 +58,7 @@ module _ (options : FormattingOptions) (tree room : List ℕ) where
   module _ (narrow : Narrow options) (sized : length_checked 65535 tree ≡ Passed) {printed : Printed} {left : List ℕ} (walks : Walks printed left options tree room) where
     -- the room is as the run leaves it
     run_left : left ≡ one_pass_with (options-are.Options options) tree room
-    run_left = rw sized (room_of_lem printed left ∙ ap room_of_lem walks.state)
+    run_left = rw sized (room_of_lem printed left ∙ ap room_of walks.state)
 
     -- the check refuses the tree
     pub pass_failed : (why : Refusal) → batch_checked tree ≡ Failed why → OnePass options tree room (answer.Refused why) left

@@ -11,7 +11,7 @@ returns-then-stood c = rw c.if-stood.true refl
 
 pub returns-then-breaks : goal.returns-then-breaks
 returns-then-breaks c =
-    rw (c.if-stood.false, sym c.breaks.ensures ∙ c.if-breaks.true) (ran_push c.push.ensures).ran
+    rw (c.if-stood.false, sym c.breaks.ensures ∙ c.if-breaks.true) (ran_push (c.push.ensures.answer, c.push.ensures.room)).ran
 
 pub returns : goal.returns
 unfolding run

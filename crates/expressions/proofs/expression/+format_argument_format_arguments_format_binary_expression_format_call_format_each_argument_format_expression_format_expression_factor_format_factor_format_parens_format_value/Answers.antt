@@ -256,9 +256,9 @@ format_expression-requires t c =
 
 pub shape_of-room : goal.shape_of-room
 shape_of-room t c =
-    c.format_expression.auto.1.0 ∙ c.push-right.auto.1.0 ∙ c.operator-operator.auto.1.0
-    ∙ c.push-left.auto.1.0
-    ∙ c.format_expression-lhs.auto.1.0
+    c.format_expression.auto.room ∙ c.push-right.auto.room ∙ c.operator-operator.auto.room
+    ∙ c.push-left.auto.room
+    ∙ c.format_expression-lhs.auto.room
 
 pub returns : goal.returns
 returns t c =
@@ -326,7 +326,7 @@ loop-left-smaller t c =
 pub loop-left-preserved : goal.loop-left-preserved
 loop-left-preserved t c =
     let of = c.args.of in (
-      c.format_argument-answer.auto.1.0 ∙ c.loop-left.invariant.0,
+      c.format_argument-answer.auto.room ∙ c.loop-left.invariant.0,
       λ start here.
           let now = c.loop-left.invariant.1 start here in
           let item = c.format_argument-answer.ensures.from now.0 now.1 in

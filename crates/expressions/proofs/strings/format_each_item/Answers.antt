@@ -31,7 +31,7 @@ returns-in_default c = record {
 pub loop-left-preserved : goal.loop-left-preserved
 loop-left-preserved c =
     let inv = c.loop-left.invariant in (
-      c.format_string_item-answer.auto.1.0 ∙ inv.0,
+      c.format_string_item-answer.auto.room ∙ inv.0,
       λ start here.
           let held = inv.1 start here in
           let shown = c.format_string_item-answer.ensures.from held.0 held.1 in

@@ -19,6 +19,16 @@ slice_bounds-push-count c =
     let inside = opened_fits c.open-opened.ensures.opens c.in-Record.is in
     omega (arith, inside.0, inside.1)
 
+pub slice_bounds-push-open-start : goal.slice_bounds-push-open-start
+slice_bounds-push-open-start c =
+    let inside = opened_fits at_open.«open».ensures.0 at-opened.opened.given.1 in
+    omega (arith, inside.0, inside.1)
+
+pub slice_bounds-push-open-end : goal.slice_bounds-push-open-end
+slice_bounds-push-open-end c =
+    let inside = opened_fits at_open.«open».ensures.0 at-opened.opened.given.1 in
+    omega (arith, inside.0, inside.1)
+
 pub slice_bounds-push-count-in_default-kind : goal.slice_bounds-push-count-in_default-kind
 slice_bounds-push-count-in_default-kind c =
     let inside = opened_fits c.open-opened.ensures.opens c.in-Record.is in
@@ -26,7 +36,7 @@ slice_bounds-push-count-in_default-kind c =
 
 pub shape_of-room-in-PathItem : goal.shape_of-room-in-PathItem
 shape_of-room-in-PathItem c =
-    c.push-close.auto.1.0 ∙ c.push-path.auto.1.0 ∙ c.push-open.auto.1.0 ∙ c.open-opened.auto.1.0
+    c.push-close.auto.room ∙ c.push-path.auto.room ∙ c.push-open.auto.room ∙ c.open-opened.auto.room
 
 pub returns-in-PathItem : goal.returns-in-PathItem
 unfolding events_in
@@ -34,9 +44,9 @@ returns-in-PathItem c =
     let opens = c.open-opened.ensures.opens in
     let is = c.in-Record.is in
     opened-as opens is (leaf plain) _ _ (path_read _ _ _ c.in-PathItem.is)
-    (ran_push c.push-open.ensures
-    then ran_push (rw part_slice at c.push-path.ensures)
-    then finish (ran_push c.push-close.ensures) c.finish.ensures.answer refl)
+    (ran_push (c.push-open.ensures.answer, c.push-open.ensures.room)
+    then ran_push (rw part_slice at (c.push-path.ensures.answer, c.push-path.ensures.room))
+    then finish (ran_push (c.push-close.ensures.answer, c.push-close.ensures.room)) c.finish.ensures.answer refl)
 
 pub returns-in_default-kind : goal.returns-in_default-kind
 unfolding events_in printed
@@ -44,4 +54,4 @@ returns-in_default-kind c =
     let opens = c.open-opened.ensures.opens in
     let is = c.in-Record.is in
     opened-as opens is (leaf plain) _ _ (text_read _ _ _ (text_item opens is c.in_default-kind.in_default-kind-own.keys2))
-    (finish (ran_push (rw part_slice at c.push-text.ensures)) c.finish-in_default-kind.ensures.answer refl)
+    (finish (ran_push (rw part_slice at (c.push-text.ensures.answer, c.push-text.ensures.room))) c.finish-in_default-kind.ensures.answer refl)

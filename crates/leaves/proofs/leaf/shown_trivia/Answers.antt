@@ -11,16 +11,16 @@ use Rattle.leaves.specs.Items.{items_at}
 use borrow.Author.Rules.{rules}
 use Rattle.leaves.proofs.leaf.shown_trivia.Goals as goal
 
-none-there : (shown : Bool) (context : Context) (bytes : List ℕ) (at count : ℕ) (before : Run) → count ≡ 0
+none_there : (shown : Bool) (context : Context) (bytes : List ℕ) (at count : ℕ) (before : Run) → count ≡ 0
     → run (cond shown (trivia_events context (items_at bytes at count)) nothing) before ≡ before
 unfolding run trivia_events items_at
-none-there true context bytes at count before none = rw none
-none-there false context bytes at count before none = refl
+none_there true context bytes at count before none = rw none
+none_there false context bytes at count before none = refl
 
 pub returns-then-count-eq0 : goal.returns-then-count-eq0
 returns-then-count-eq0 c =
     let given = c.args in
-    none-there given.shown given.context given.tree.now given.at _ _ c.if-count-eq0.true
+    none_there given.shown given.context given.tree.now given.at _ _ c.if-count-eq0.true
 
 pub returns-then-shown : goal.returns-then-shown
 returns-then-shown c = rw c.if-shown.true c.format_trivia.ensures

@@ -5,6 +5,7 @@ use Rattle.leaves.specs.Records.{opened_by, opened_room}
 use Rattle.leaves.proofs.Leaves.{own_items}
 use Rattle.leaves.proofs.Opening.{opened_known}
 use borrow.Author.Tests.{not-true, not-false, eq-eqb, ne_eqb}
+use Rattle.leaves.proofs.Records.{closed_stays, closed_absent, closed_full, closed_refused, opened_record}
 use borrow.Author.Rules.{rules}
 use Rattle.leaves.proofs.record.open.Goals as goal
 

@@ -2,13 +2,13 @@
 use mathlib.Core.Path.{refl}
 use Rattle.text.specs.Literals.{ascii}
 use Rattle.events.specs.Printed.{encodings, printed}
-use Rattle.leaves.specs.Texts.{in_order_lem}
+use Rattle.leaves.specs.Texts.{in_order}
 use Rattle.leaves.proofs.Tables.{run_table, encoding_texts}
 use borrow.Author.Rules.{rules}
 use Rattle.leaves.proofs.texts.encoding.Goals as goal
 
 pub push_entry-requires : goal.push_entry-requires
-unfolding in_order_lem
+unfolding in_order
 push_entry-requires c = refl
 
 pub returns : goal.returns

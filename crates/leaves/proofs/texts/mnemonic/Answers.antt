@@ -12,4 +12,4 @@ returns-then-index-gt55 c = run_past _ _ _ c.args.index mnemonics _ (omega arith
 
 pub returns : goal.returns
 unfolding ascii printed
-returns c = run_cased _ _ _ _ _ _ mnemonics _ _ mnemonic_names (threes_at _ _ (omega arith)) c.format.ensures c.push.ensures
+returns c = run_cased _ _ _ _ _ _ mnemonics _ _ mnemonic_names (threes_at _ _ (omega arith)) c.format.ensures (c.push.ensures.answer, c.push.ensures.room)

@@ -14,6 +14,14 @@ pub slice_bounds-push-count : goal.slice_bounds-push-count
 slice_bounds-push-count c =
     omega (arith, in_order_next c.args.texts.now c.args.places.now c.args.index (omega arith) c.requires)
 
+pub slice_bounds-push-start : goal.slice_bounds-push-start
+slice_bounds-push-start c =
+    omega (arith, in_order_next c.args.texts.now c.args.places.now c.args.index (omega arith) c.requires)
+
+pub slice_bounds-push-end : goal.slice_bounds-push-end
+slice_bounds-push-end c =
+    omega (arith, in_order_next c.args.texts.now c.args.places.now c.args.index (omega arith) c.requires)
+
 pub returns : goal.returns
 returns c =
-    run_cut _ _ _ (omega arith) _ _ _ _ _ _ _ c.wide-from.ensures.0 c.wide-to.ensures.0 c.push.ensures
+    run_cut _ _ _ (omega arith) _ _ _ _ _ _ _ c.wide-from.ensures.0 c.wide-to.ensures.0 (c.push.ensures.answer, c.push.ensures.room)

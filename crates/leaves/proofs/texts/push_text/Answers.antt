@@ -12,7 +12,7 @@ returns-then-start-end c = run_no_text _ _ _ _ _ _ _ c.if-start-end.true
 pub returns-in-Plain : goal.returns-in-Plain
 returns-in-Plain c =
     let given = c.args in
-    run_plain _ _ given.tree.now given.start given.end _ _ _ _ (ap style_of c.in-Plain.is) c.push.ensures
+    run_plain _ _ given.tree.now given.start given.end _ _ _ _ (ap style_of c.in-Plain.is) (c.push.ensures.answer, c.push.ensures.room)
 
 pub returns-in-Mnemonic : goal.returns-in-Mnemonic
 returns-in-Mnemonic c =

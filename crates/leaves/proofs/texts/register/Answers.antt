@@ -13,4 +13,4 @@ returns-then-index-gt1 c = run_past _ _ _ c.args.index registers _ (omega arith)
 pub returns : goal.returns
 unfolding ascii printed
 returns c =
-    run_cased _ _ _ _ _ _ registers _ _ register_names (ones_at (ascii "XY") c.args.index (omega arith)) c.format.ensures c.push.ensures
+    run_cased _ _ _ _ _ _ registers _ _ register_names (ones_at (ascii "XY") c.args.index (omega arith)) c.format.ensures (c.push.ensures.answer, c.push.ensures.room)

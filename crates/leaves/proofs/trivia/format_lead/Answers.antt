@@ -24,7 +24,7 @@ pub only_newline-requires : goal.only_newline-requires
 only_newline-requires c = item_lies _ _ _ c.trivium_at-read.ensures c.in-Item.is
 
 pub shape_of-room-then-not-only_newline : goal.shape_of-room-then-not-only_newline
-shape_of-room-then-not-only_newline c = c.format_trivia.auto.1.1.1.1.0 ∙ c.loop-left.invariant.0
+shape_of-room-then-not-only_newline c = c.format_trivia.auto.room ∙ c.loop-left.invariant.0
 
 pub returns-then-not-only_newline : goal.returns-then-not-only_newline
 returns-then-not-only_newline c =

@@ -24,7 +24,7 @@ format_trivium-next-requires c = item_lies _ _ _ c.trivium_at-read.ensures c.in-
 
 pub loop-left-preserved : goal.loop-left-preserved
 loop-left-preserved c = (
-  c.format_trivium-next.auto.1.1.1.0 ∙ c.loop-left.invariant.0,
+  c.format_trivium-next.auto.room ∙ c.loop-left.invariant.0,
   c.loop-left.invariant.1
       ∙ run_next _ _ _ _ c.loop-left-test.true c.trivium_at-read.ensures _ c.in-Item.is _ c.format_trivium-next.ensures,
 )

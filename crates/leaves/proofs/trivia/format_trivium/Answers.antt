@@ -9,8 +9,8 @@ returns-then-item-eq-WHITESPACE c = run_whitespace _ _ c.if-item-eq-WHITESPACE.t
 
 pub returns-then-item-eq-NEWLINE : goal.returns-then-item-eq-NEWLINE
 returns-then-item-eq-NEWLINE c =
-    run_newline _ _ _ _ _ _ c.if-item-eq-WHITESPACE.false c.if-item-eq-NEWLINE.true c.push.ensures
+    run_newline _ _ _ _ _ _ c.if-item-eq-WHITESPACE.false c.if-item-eq-NEWLINE.true (c.push.ensures.answer, c.push.ensures.room)
 
 pub returns : goal.returns
 returns c =
-    run_comment _ _ _ _ _ _ c.if-item-eq-WHITESPACE.false c.if-item-eq-NEWLINE.false (rw part_slice at c.push_type.ensures)
+    run_comment _ _ _ _ _ _ c.if-item-eq-WHITESPACE.false c.if-item-eq-NEWLINE.false (rw part_slice at c.push_type.ensures.answer, rw part_slice at c.push_type.ensures.room)

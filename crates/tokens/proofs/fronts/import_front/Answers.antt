@@ -6,13 +6,13 @@ use Rattle.tokens.proofs.fronts.import_front.Goals as goal
 
 pub shape_of-room : goal.shape_of-room
 shape_of-room c =
-    c.format_string-filename.auto.1.0
-    ∙ c.push-space.auto.1.0
-    ∙ c.word-source.auto.1.0
-    ∙ c.push-gap.auto.1.0
-    ∙ c.format_arguments-args.auto.1.0
-    ∙ c.push-behind.auto.1.0
-    ∙ c.bare_word-tag.auto.1.0
+    c.format_string-filename.auto.room
+    ∙ c.push-space.auto.room
+    ∙ c.word-source.auto.room
+    ∙ c.push-gap.auto.room
+    ∙ c.format_arguments-args.auto.room
+    ∙ c.push-behind.auto.room
+    ∙ c.bare_word-tag.auto.room
 
 pub returns : goal.returns
 returns c =

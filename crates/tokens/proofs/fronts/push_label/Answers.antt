@@ -8,5 +8,5 @@ use Rattle.tokens.proofs.fronts.push_label.Goals as goal
 
 pub returns : goal.returns
 returns c =
-    let pushed = finish (ran_push (rw part_slice at c.push_type-pushed.ensures)) c.finish.ensures.answer refl in
+    let pushed = finish (ran_push (rw part_slice at (c.push_type-pushed.ensures.answer, c.push_type-pushed.ensures.room))) c.finish.ensures.answer refl in
     done_before refl (id_shown _ levels _ _ at is pushed)

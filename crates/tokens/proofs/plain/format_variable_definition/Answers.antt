@@ -9,8 +9,8 @@ use Rattle.tokens.proofs.plain.format_variable_definition.Goals as goal
 
 pub shape_of-room : goal.shape_of-room
 shape_of-room c =
-    c.format_expression.auto.1.0 ∙ c.push-behind.auto.1.0 ∙ c.character-eq.auto.1.0
-    ∙ c.push-space.auto.1.0 ∙ c.word-id.auto.1.0 ∙ c.push-gap.auto.1.0 ∙ c.variable_type-ty.auto.1.0
+    c.format_expression.auto.room ∙ c.push-behind.auto.room ∙ c.character-eq.auto.room
+    ∙ c.push-space.auto.room ∙ c.word-id.auto.room ∙ c.push-gap.auto.room ∙ c.variable_type-ty.auto.room
 
 pub returns : goal.returns
 unfolding built field_trees fields_end events_in

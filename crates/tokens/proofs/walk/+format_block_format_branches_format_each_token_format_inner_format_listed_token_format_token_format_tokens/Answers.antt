@@ -163,8 +163,8 @@ overflow_sub-levels-3 t c =
 
 pub shape_of-room : goal.shape_of-room
 shape_of-room t c =
-    c.close_brace.auto.1.0 ∙ c.push-line.auto.1.0 ∙ c.format_tokens-inner.auto.1.0 ∙ c.open_block-lparen.auto.1.0
-    ∙ c.open-opened.auto.1.0
+    c.close_brace.auto.room ∙ c.push-line.auto.room ∙ c.format_tokens-inner.auto.room ∙ c.open_block-lparen.auto.room
+    ∙ c.open-opened.auto.room
 
 pub returns : goal.returns
 unfolding built field_trees fields_end events_in bit_at kind_number stored_with
@@ -255,7 +255,7 @@ loop-left-preserved t c =
     let drops =
     ⊎_elim (λ way. only_in args.block _ _ (way.0.taken, way.1)) (λ way. not_in args.block _ _ (way.0.left, way.1)) c.if-block.branch in
     let listed = (rw drops at c.format_listed_token-answer.ensures).from _ refl in (
-      c.format_listed_token-answer.auto.1.0 ∙ c.loop-left.invariant.0,
+      c.format_listed_token-answer.auto.room ∙ c.loop-left.invariant.0,
       λ start here.
           let now = c.loop-left.invariant.1 start here in (
             _,
@@ -268,7 +268,7 @@ loop-left-preserved t c =
 
 pub shape_of-room-then-block-2 : goal.shape_of-room-then-block-2
 shape_of-room-then-block-2 t c =
-    c.format_lead_out.auto.1.0 ∙ c.loop-left.invariant.0
+    c.format_lead_out.auto.room ∙ c.loop-left.invariant.0
 
 pub returns-then-block-2 : goal.returns-then-block-2
 returns-then-block-2 t c =

@@ -14,7 +14,7 @@ loop-i-init c = (refl, omega arith, refl)
 
 pub loop-i-preserved : goal.loop-i-preserved
 loop-i-preserved c = (
-  c.put_shown-next.auto.0 ∙ c.loop-i.invariant.0,
+  c.put_shown-next.auto.line ∙ c.loop-i.invariant.0,
   omega arith,
   c.loop-i.invariant.2 ∙ shown_next c.args.bytes.now c.loop-i.i _ (omega arith) c.put_shown-next.ensures,
 )

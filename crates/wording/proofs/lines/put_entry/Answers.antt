@@ -16,6 +16,14 @@ pub slice_bounds-put-count : goal.slice_bounds-put-count
 slice_bounds-put-count c =
     omega (arith, in_order_next c.args.texts.now c.args.places.now c.args.index (omega arith) c.requires)
 
+pub slice_bounds-put-start : goal.slice_bounds-put-start
+slice_bounds-put-start c =
+    omega (arith, in_order_next c.args.texts.now c.args.places.now c.args.index (omega arith) c.requires)
+
+pub slice_bounds-put-end : goal.slice_bounds-put-end
+slice_bounds-put-end c =
+    omega (arith, in_order_next c.args.texts.now c.args.places.now c.args.index (omega arith) c.requires)
+
 pub returns : goal.returns
 returns c =
     rw (cut_text c.args.texts.now c.args.places.now c.args.index (omega arith)) c.put.ensures

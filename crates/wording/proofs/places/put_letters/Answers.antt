@@ -14,7 +14,7 @@ loop-left-init c = (refl, refl, refl)
 
 pub loop-left-preserved : goal.loop-left-preserved
 loop-left-preserved c = (
-  c.put_letter-next.auto.0 ∙ c.loop-left.invariant.0,
+  c.put_letter-next.auto.line ∙ c.loop-left.invariant.0,
   omega arith,
   c.loop-left.invariant.2 ∙ letters_next _ _ _ _ c.loop-left-test.true c.put_letter-next.ensures,
 )

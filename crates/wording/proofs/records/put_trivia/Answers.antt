@@ -25,7 +25,7 @@ put_trivium-next-requires c = item_lies _ _ _ c.trivium_at-read.ensures c.in-Ite
 
 pub loop-left-preserved : goal.loop-left-preserved
 loop-left-preserved c = (
-  c.put_trivium-next.auto.0 ∙ c.loop-left.invariant.0,
+  c.put_trivium-next.auto.line ∙ c.loop-left.invariant.0,
   c.loop-left.invariant.1
       ∙ trivia_next _ _ _ _ c.loop-left-test.true c.trivium_at-read.ensures _ c.in-Item.is c.put_trivium-next.ensures,
 )
