@@ -65,121 +65,11 @@ item_rule Imports = (refl, refl, refl, refl)
 
 -- ---- which kind is left
 
--- the variant of a kind is its number
-variant_number : (kind : Kind) → tag_of kinds.the_type kind ≡ kind_number kind
-unfolding kind_number stored_with built
-variant_number variant.Align = refl
-variant_number variant.Assert = refl
-variant_number variant.Braces = refl
-variant_number variant.Config = refl
-variant_number variant.ConfigPair = refl
-variant_number variant.Data = refl
-variant_number variant.Definition = refl
-variant_number variant.Eof = refl
-variant_number variant.Error = refl
-variant_number variant.Expression = refl
-variant_number variant.If = refl
-variant_number variant.Import = refl
-variant_number variant.File = refl
-variant_number variant.Instruction = refl
-variant_number variant.Label = refl
-variant_number variant.Loop = refl
-variant_number variant.MacroDefinition = refl
-variant_number variant.MacroInvocation = refl
-variant_number variant.ProgramCounterDefinition = refl
-variant_number variant.Segment = refl
-variant_number variant.Test = refl
-variant_number variant.Text = refl
-variant_number variant.Trace = refl
-variant_number variant.VariableDefinition = refl
-variant_number variant.Vec = refl
-variant_number variant.Leaf = refl
-variant_number variant.PathItem = refl
-variant_number variant.Block = refl
-variant_number variant.BinaryExpression = refl
-variant_number variant.Factor = refl
-variant_number variant.CurrentProgramCounter = refl
-variant_number variant.ExprParens = refl
-variant_number variant.FunctionCall = refl
-variant_number variant.IdentifierValue = refl
-variant_number variant.Number = refl
-variant_number variant.StringFactor = refl
-variant_number variant.InterpolatedString = refl
-variant_number variant.Operand = refl
-variant_number variant.RegisterSuffix = refl
-variant_number variant.ImportAs = refl
-variant_number variant.ImportAll = refl
-variant_number variant.SpecificImportArg = refl
-variant_number variant.ArgItem = refl
-
--- what is one of some numbers is listed
-listed : (first : ℕ) (others : List ℕ) (number : ℕ) → OneOf (first ∷ others) number → one_of number (first ∷ others) ≡ true
-unfolding one_of
-listed first [] number same = rw (eq-eqb number first same)
-listed first (next ∷ others) number one =
-    ⊎_elim
-    (λ same. rw (eq-eqb number first same))
-    (λ later.
-    let found = listed next others number later in
-    by_test (eqb number first) (λ same. rw same) (λ other. rw other found))
-    one
-
--- the number of a kind that is in an arm is one of the arm's
-arm_number : (first : ℕ) (others : List ℕ) (kind : Kind) → OneOf (first ∷ others) (tag_of kinds.the_type kind) → one_of (kind_number kind) (first ∷ others) ≡ true
-arm_number first others kind arm = rw (← (variant_number kind)) (listed first others (tag_of kinds.the_type kind) arm)
-
--- the numbers of the kinds without an arm of their own, all behind 0: of an expression
-abbrev not_binary : List ℕ
-not_binary =
-    1 ∷ 2 ∷ 3 ∷ 4 ∷ 5 ∷ 6 ∷ 7 ∷ 8 ∷ 9 ∷ 10 ∷ 11 ∷ 12 ∷ 13 ∷ 14 ∷ 15 ∷ 16 ∷ 17 ∷ 18 ∷ 19 ∷ 20 ∷
-    21 ∷ 22 ∷ 23 ∷ 24 ∷ 25 ∷ 26 ∷ 27 ∷ 29 ∷ 30 ∷ 31 ∷ 32 ∷ 33 ∷ 34 ∷ 35 ∷ 36 ∷ 37 ∷ 38 ∷ 39 ∷ 40 ∷ 41 ∷
-    42 ∷ []
-
--- of a factor's case
-abbrev not_factor_case : List ℕ
-not_factor_case =
-    1 ∷ 2 ∷ 3 ∷ 4 ∷ 5 ∷ 6 ∷ 7 ∷ 8 ∷ 9 ∷ 10 ∷ 11 ∷ 12 ∷ 13 ∷ 14 ∷ 15 ∷ 16 ∷ 17 ∷ 18 ∷ 19 ∷ 20 ∷
-    21 ∷ 22 ∷ 23 ∷ 24 ∷ 25 ∷ 26 ∷ 27 ∷ 28 ∷ 29 ∷ 30 ∷ 36 ∷ 37 ∷ 38 ∷ 39 ∷ 40 ∷ 41 ∷ 42 ∷ []
-
--- of a list of arguments
-abbrev not_star : List ℕ
-not_star =
-    1 ∷ 2 ∷ 3 ∷ 4 ∷ 5 ∷ 6 ∷ 7 ∷ 8 ∷ 9 ∷ 10 ∷ 11 ∷ 12 ∷ 13 ∷ 14 ∷ 15 ∷ 16 ∷ 17 ∷ 18 ∷ 19 ∷ 20 ∷
-    21 ∷ 22 ∷ 23 ∷ 24 ∷ 25 ∷ 26 ∷ 27 ∷ 28 ∷ 29 ∷ 30 ∷ 31 ∷ 32 ∷ 33 ∷ 34 ∷ 35 ∷ 36 ∷ 37 ∷ 38 ∷ 39 ∷ 41 ∷
-    42 ∷ []
-
--- an expression that is not a binary one is a factor
-factor_number : (number : ℕ) → 28 ≤ number → number ≤ 29 → one_of number (0 ∷ not_binary) ≡ true → number ≡ 29
-unfolding one_of
-factor_number number low high found =
-    by_test (eqb number 28)
-    (λ same. true_false (sym (rw (eqb-true number 28 same) at found)))
-    (λ other. let no = eqb-false number 28 other in omega (arith, no))
-
--- with trivia or without
+-- an expression that is not a binary one is a factor, with trivia or without
 factor_left : (located : Bool) (number : ℕ) → ((rule (expression_class located)).first ≤ number) × (number ≤ (rule (expression_class located)).last)
-    → one_of number (0 ∷ not_binary) ≡ true → number ≡ 29
-factor_left true number range found = factor_number number range.0 range.1 found
-factor_left false number range found = factor_number number range.0 range.1 found
-
--- no other case is listed
-other_case : (number : ℕ) → 30 < number → number ≤ 35 → one_of number (0 ∷ not_factor_case) ≡ false
-unfolding one_of
-other_case number low high =
-    by_test (eqb number 31) (λ same. rw (eqb-true number 31 same)) (λ no31.
-    by_test (eqb number 32) (λ same. rw (eqb-true number 32 same)) (λ no32.
-    by_test (eqb number 33) (λ same. rw (eqb-true number 33 same)) (λ no33.
-    by_test (eqb number 34) (λ same. rw (eqb-true number 34 same)) (λ no34.
-    by_test (eqb number 35) (λ same. rw (eqb-true number 35 same)) (λ no35.
-    absurd (omega (arith, eqb-false number 31 no31, eqb-false number 32 no32, eqb-false number 33 no33, eqb-false number 34 no34, eqb-false number 35 no35)))))))
-
--- a factor's case that is none of the others is the program counter
-counter_number : (number : ℕ) → 30 ≤ number → number ≤ 35 → one_of number (0 ∷ not_factor_case) ≡ true → number ≡ 30
-unfolding one_of
-counter_number number low high found =
-    by_test (leb number 30)
-    (λ small. let below = leb-true number 30 small in omega (arith, below))
-    (λ big. let above = leb-false number 30 big in true_false (sym found ∙ other_case number above high))
+    → (number ≡ 28 → ⊥) → number ≡ 29
+factor_left true number range other = omega (arith, range.0, range.1, other)
+factor_left false number range other = omega (arith, range.0, range.1, other)
 
 -- the number of a record that was opened may stand
 opened_standing : {context : Context} {shown : Bool} {levels : ℕ} {bytes : List ℕ} {class : Class} {on : Bool} {left room : List ℕ} {last : Printed} {opened : Opened}
@@ -191,32 +81,30 @@ opened_standing {context} {shown} {levels} {bytes} {class} {on} {left} {room} {l
     let headed = (record_headed bytes there.0 class levels own (open-there.from there.0 there.1).1).1 in
     rw (kind_number_lem (get_or bytes there.0 0) own.kind headed.kind_is) headed.standing
 
--- where it is not named by its number, that of a list, a star would be
+-- where it is not named by its number, that of a list, it would be a star's
 list_other : (of : Arguments) (number : ℕ) → (leb (rule (list_class of)).first number && leb number (rule (list_class of)).last) ≡ true
-    → one_of number (0 ∷ not_star) ≡ true → number ≡ 24
-unfolding one_of
-list_other Expressions number within found =
+    → (number ≡ 40 → ⊥) → number ≡ 24
+list_other Expressions number within other =
     let low = leb-true 24 number (and_true_left (leb 24 number) (leb number 24) within) in
     let high = leb-true number 24 (and_true_right (leb 24 number) (leb number 24) within) in
     omega (arith, low, high)
-list_other Identifiers number within found =
+list_other Identifiers number within other =
     let low = leb-true 24 number (and_true_left (leb 24 number) (leb number 24) within) in
     let high = leb-true number 24 (and_true_right (leb 24 number) (leb number 24) within) in
     omega (arith, low, high)
-list_other Imports number within found =
+list_other Imports number within other =
     let low = leb-true 40 number (and_true_left (leb 40 number) (leb number 40) within) in
     let high = leb-true number 40 (and_true_right (leb 40 number) (leb number 40) within) in
-    let same : number ≡ 40 = omega (arith, low, high) in
-    true_false (sym (rw same at found))
+    absurd (other (omega (arith, low, high)))
 
 -- where no star stands it is the list
-list_number : (of : Arguments) (number : ℕ) → may_stand (rule (list_class of)) number ≡ true → one_of number (0 ∷ not_star) ≡ true → number ≡ 24
-list_number of number standing found =
+list_number : (of : Arguments) (number : ℕ) → may_stand (rule (list_class of)) number ≡ true → (number ≡ 40 → ⊥) → number ≡ 24
+list_number of number standing other =
     by_test (eqb number 24)
     (λ same. eqb-true number 24 same)
-    (λ other.
-    let within : (leb (rule (list_class of)).first number && leb number (rule (list_class of)).last) ≡ true = rw other at standing in
-    list_other of number within found)
+    (λ differs.
+    let within : (leb (rule (list_class of)).first number && leb number (rule (list_class of)).last) ≡ true = rw differs at standing in
+    list_other of number within other)
 
 -- what is left where a record was opened
 module _ {context : Context} {shown : Bool} {levels : ℕ} {bytes : List ℕ} {on : Bool} {left room : List ℕ} {last : Printed} {opened : Opened} {own : Own}
@@ -224,24 +112,35 @@ module _ {context : Context} {shown : Bool} {levels : ℕ} {bytes : List ℕ} {o
   where
     -- of the expressions, where it is no binary one
     pub factor_is : (located : Bool) → Opens opened left last room context shown levels bytes (expression_class located) on → opened ≡ opened-is.Record own state
-        → OneOf (0 ∷ not_binary) (tag_of kinds.the_type own.kind) → own.kind ≡ variant.Factor
-    factor_is located opens is others =
-        let number = factor_left located (kind_number own.kind) (opened_range opens is (expression_rule located)) (arm_number 0 not_binary own.kind others) in
+        → (own.kind ≡ variant.BinaryExpression → ⊥) → own.kind ≡ variant.Factor
+    unfolding kind_number stored_with built
+    factor_is located opens is no_binary =
+        let number = factor_left located (kind_number own.kind) (opened_range opens is (expression_rule located))
+        (λ same. no_binary (opened_by_number opens is 28 variant.BinaryExpression same refl)) in
         opened_by_number opens is 29 variant.Factor number refl
 
     -- of the factor's cases, where it is none of those with an arm
     pub counter_is : Opens opened left last room context shown levels bytes class.LocatedFactor on → opened ≡ opened-is.Record own state
-        → OneOf (0 ∷ not_factor_case) (tag_of kinds.the_type own.kind) → own.kind ≡ variant.CurrentProgramCounter
-    counter_is opens is others =
+        → (own.kind ≡ variant.ExprParens → ⊥) → (own.kind ≡ variant.FunctionCall → ⊥) → (own.kind ≡ variant.IdentifierValue → ⊥)
+        → (own.kind ≡ variant.Number → ⊥) → (own.kind ≡ variant.StringFactor → ⊥) → own.kind ≡ variant.CurrentProgramCounter
+    unfolding kind_number stored_with built
+    counter_is opens is no_parens no_call no_identifier no_number no_string =
         let range = opened_range opens is refl in
-        let number = counter_number (kind_number own.kind) range.0 range.1 (arm_number 0 not_factor_case own.kind others) in
+        let not31 : kind_number own.kind ≡ 31 → ⊥ = λ same. no_parens (opened_by_number opens is 31 variant.ExprParens same refl) in
+        let not32 : kind_number own.kind ≡ 32 → ⊥ = λ same. no_call (opened_by_number opens is 32 variant.FunctionCall same refl) in
+        let not33 : kind_number own.kind ≡ 33 → ⊥ = λ same. no_identifier (opened_by_number opens is 33 variant.IdentifierValue same refl) in
+        let not34 : kind_number own.kind ≡ 34 → ⊥ = λ same. no_number (opened_by_number opens is 34 variant.Number same refl) in
+        let not35 : kind_number own.kind ≡ 35 → ⊥ = λ same. no_string (opened_by_number opens is 35 variant.StringFactor same refl) in
+        let number : kind_number own.kind ≡ 30 = omega (arith, range.0, range.1, not31, not32, not33, not34, not35) in
         opened_by_number opens is 30 variant.CurrentProgramCounter number refl
 
     -- of arguments, where it is no star
     pub list_is : (of : Arguments) → Opens opened left last room context shown levels bytes (list_class of) on → opened ≡ opened-is.Record own state
-        → OneOf (0 ∷ not_star) (tag_of kinds.the_type own.kind) → own.kind ≡ variant.Vec
-    list_is of opens is others =
-        let number = list_number of (kind_number own.kind) (opened_standing opens is) (arm_number 0 not_star own.kind others) in
+        → (own.kind ≡ variant.ImportAll → ⊥) → own.kind ≡ variant.Vec
+    unfolding kind_number stored_with built
+    list_is of opens is no_star =
+        let number = list_number of (kind_number own.kind) (opened_standing opens is)
+        (λ same. no_star (opened_by_number opens is 40 variant.ImportAll same refl)) in
         opened_by_number opens is 24 variant.Vec number refl
 
 -- the items of such a list

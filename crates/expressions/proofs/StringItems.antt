@@ -61,26 +61,16 @@ opened_items {context} {shown} {levels} {bytes} {stands} {left} {room} {last} {o
 
 -- ---- an item
 
--- the kinds but that of a path
-abbrev others : List ℕ
-others =
-    0 ∷ 1 ∷ 2 ∷ 3 ∷ 4 ∷ 5 ∷ 6 ∷ 7 ∷ 8 ∷ 9 ∷ 10 ∷ 11 ∷ 12 ∷ 13 ∷ 14 ∷ 15 ∷ 16 ∷ 17 ∷ 18 ∷ 19 ∷ 20 ∷ 21 ∷ 22 ∷ 23 ∷ 24 ∷ 25 ∷ 27 ∷ 28 ∷ 29 ∷ 30 ∷ 31 ∷ 32 ∷ 33 ∷ 34 ∷ 35 ∷ 36 ∷ 37
-    ∷ 38 ∷ 39 ∷ 40 ∷ 41 ∷ 42 ∷ []
-
--- one of them is no path
-no_path : (kind : Kind) → OneOf others (tag_of the_type kind) → kind ≡ variant.PathItem → ⊥
-no_path kind found is = miss others 26 tt (rw is at found)
-
 module _ {context : Context} {shown : Bool} {levels : ℕ} {bytes : List ℕ} {stands : Bool} {left room : List ℕ} {last : Printed} {opened : Opened}
     (opens : Opens opened left last room context shown levels bytes class.StringItem stands) {own : Own} {state : CodeFormatter} (is : opened ≡ opened-is.Record own state)
   where
     -- so an item that is no path is a text
-    pub text_item : OneOf others (tag_of the_type own.kind) → own.kind ≡ variant.Leaf
+    pub text_item : (own.kind ≡ variant.PathItem → ⊥) → own.kind ≡ variant.Leaf
     unfolding kind_number stored_with
-    text_item found =
+    text_item no_path =
         let range = opened_range opens is refl in
         by_test (eqb (kind_number own.kind) 26)
-        (λ path. absurd (no_path own.kind found (opened_by_number opens is 26 variant.PathItem (eqb-true _ _ path) refl)))
+        (λ path. absurd (no_path (opened_by_number opens is 26 variant.PathItem (eqb-true _ _ path) refl)))
         (λ other.
         let differs : kind_number own.kind ≡ 26 → ⊥ = eqb-false (kind_number own.kind) 26 other in
         let number : kind_number own.kind ≡ 25 = omega (arith, range.0, range.1, differs) in

@@ -56,7 +56,7 @@ fn item_class(of: Arguments) -> Class
 }
 
 // An expression that has trivia of its own, or that of an `Expression` token, which has none.
-#[cycle(format_argument_format_arguments_format_binary_expression_format_call_format_each_argument_format_expression_format_expression_factor_format_factor_format_parens_format_value)]
+#[cycle(expression)]
 pub fn format_expression(
     tree: &[u8],
     room: &mut [u8],
@@ -87,7 +87,7 @@ pub fn format_expression(
 }
 
 // The operator is stored before its left side and printed behind it.
-#[cycle(format_argument_format_arguments_format_binary_expression_format_call_format_each_argument_format_expression_format_expression_factor_format_factor_format_parens_format_value)]
+#[cycle(expression)]
 fn format_binary_expression(
     tree: &[u8],
     room: &mut [u8],
@@ -134,7 +134,7 @@ fn format_tags(
 }
 
 // A factor with its signs; it is skipped only where one stands.
-#[cycle(format_argument_format_arguments_format_binary_expression_format_call_format_each_argument_format_expression_format_expression_factor_format_factor_format_parens_format_value)]
+#[cycle(expression)]
 fn format_factor(
     tree: &[u8],
     room: &mut [u8],
@@ -163,7 +163,7 @@ fn format_factor(
 }
 
 // A factor by its case.
-#[cycle(format_argument_format_arguments_format_binary_expression_format_call_format_each_argument_format_expression_format_expression_factor_format_factor_format_parens_format_value)]
+#[cycle(expression)]
 fn format_expression_factor(
     tree: &[u8],
     room: &mut [u8],
@@ -199,7 +199,7 @@ fn format_expression_factor(
 }
 
 // An expression in parentheses.
-#[cycle(format_argument_format_arguments_format_binary_expression_format_call_format_each_argument_format_expression_format_expression_factor_format_factor_format_parens_format_value)]
+#[cycle(expression)]
 fn format_parens(
     tree: &[u8],
     room: &mut [u8],
@@ -216,7 +216,7 @@ fn format_parens(
 }
 
 // A function's name with its arguments.
-#[cycle(format_argument_format_arguments_format_binary_expression_format_call_format_each_argument_format_expression_format_expression_factor_format_factor_format_parens_format_value)]
+#[cycle(expression)]
 fn format_call(
     tree: &[u8],
     room: &mut [u8],
@@ -275,7 +275,7 @@ fn format_number(
 }
 
 // A list of arguments; those of an import may be a star instead.
-#[cycle(format_argument_format_arguments_format_binary_expression_format_call_format_each_argument_format_expression_format_expression_factor_format_factor_format_parens_format_value)]
+#[cycle(expression)]
 pub fn format_arguments(
     tree: &[u8],
     room: &mut [u8],
@@ -307,7 +307,7 @@ pub fn format_arguments(
 }
 
 // So many arguments; no space is left pending behind the last.
-#[cycle(format_argument_format_arguments_format_binary_expression_format_call_format_each_argument_format_expression_format_expression_factor_format_factor_format_parens_format_value)]
+#[cycle(expression)]
 fn format_each_argument(
     tree: &[u8],
     room: &mut [u8],
@@ -335,7 +335,7 @@ fn format_each_argument(
 }
 
 // An argument with its comma, if it has one, and a space to come.
-#[cycle(format_argument_format_arguments_format_binary_expression_format_call_format_each_argument_format_expression_format_expression_factor_format_factor_format_parens_format_value)]
+#[cycle(expression)]
 fn format_argument(
     tree: &[u8],
     room: &mut [u8],
@@ -365,7 +365,7 @@ fn format_argument(
 }
 
 // What an argument holds.
-#[cycle(format_argument_format_arguments_format_binary_expression_format_call_format_each_argument_format_expression_format_expression_factor_format_factor_format_parens_format_value)]
+#[cycle(expression)]
 fn format_value(
     tree: &[u8],
     room: &mut [u8],

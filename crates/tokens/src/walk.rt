@@ -139,7 +139,7 @@ fn format_else(
 }
 
 // A token, by its kind: what it prints before the block or the token inside it, and that.
-#[cycle(format_block_format_branches_format_each_token_format_inner_format_listed_token_format_token_format_tokens)]
+#[cycle(token)]
 fn format_token(
     tree: &[u8],
     room: &mut [u8],
@@ -169,7 +169,7 @@ fn format_token(
 
 // A token of a list, and what stands before it. What the lead-in has read is not read again: the token's own bytes, and those of its head where that is the
 // mnemonic of an `Instruction`, the size of a `Data` or the id of a `Label`. A label without a block ends with what stands before one.
-#[cycle(format_block_format_branches_format_each_token_format_inner_format_listed_token_format_token_format_tokens)]
+#[cycle(token)]
 fn format_listed_token(
     tree: &[u8],
     room: &mut [u8],
@@ -213,7 +213,7 @@ fn format_listed_token(
 }
 
 // A token whose own bytes were read: what it prints before the block or the token inside it, and that.
-#[cycle(format_block_format_branches_format_each_token_format_inner_format_listed_token_format_token_format_tokens)]
+#[cycle(token)]
 fn format_inner(
     tree: &[u8],
     room: &mut [u8],
@@ -246,7 +246,7 @@ fn format_inner(
 }
 
 // The branches of an `If`.
-#[cycle(format_block_format_branches_format_each_token_format_inner_format_listed_token_format_token_format_tokens)]
+#[cycle(token)]
 fn format_branches(
     tree: &[u8],
     room: &mut [u8],
@@ -270,7 +270,7 @@ fn format_branches(
 }
 
 // A block that may stand or not: its list has exactly one newline behind it, and stands further in.
-#[cycle(format_block_format_branches_format_each_token_format_inner_format_listed_token_format_token_format_tokens)]
+#[cycle(token)]
 fn format_block(
     tree: &[u8],
     room: &mut [u8],
@@ -297,7 +297,7 @@ fn format_block(
 }
 
 // A token list: the file's, or that of a block, whose first newlines are dropped and whose `}` stands for an end.
-#[cycle(format_block_format_branches_format_each_token_format_inner_format_listed_token_format_token_format_tokens)]
+#[cycle(token)]
 pub(crate) fn format_tokens(
     tree: &[u8],
     room: &mut [u8],
@@ -318,7 +318,7 @@ pub(crate) fn format_tokens(
 }
 
 // So many tokens, and the end of their list; `levels` are those of the list.
-#[cycle(format_block_format_branches_format_each_token_format_inner_format_listed_token_format_token_format_tokens)]
+#[cycle(token)]
 fn format_each_token(
     tree: &[u8],
     room: &mut [u8],

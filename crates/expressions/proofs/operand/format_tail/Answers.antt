@@ -32,4 +32,4 @@ returns c =
     let is = c.in-Done-at_mode.is in
     done_before c.in-Done.is
     (tail_shown given.context given.levels given.tree.now _ given.rchar given.suffix (place_behind closing is) c.read_own-found.ensures.answer
-    c.in-Record.is at-mode-of.Mode-of.ensures (ran_printer closing is then c.format_end.ensures.from _ refl))
+    c.in-Record.is c.mode_of-mode.ensures (ran_printer closing is then c.format_end.ensures.from _ refl))

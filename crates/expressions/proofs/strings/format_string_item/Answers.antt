@@ -19,14 +19,24 @@ slice_bounds-push-count c =
     let inside = opened_fits c.open-opened.ensures.opens c.in-Record.is in
     omega (arith, inside.0, inside.1)
 
-pub slice_bounds-push-open-start : goal.slice_bounds-push-open-start
-slice_bounds-push-open-start c =
-    let inside = opened_fits at_open.«open».ensures.0 at-opened.opened.given.1 in
+pub slice_bounds-push-start : goal.slice_bounds-push-start
+slice_bounds-push-start c =
+    let inside = opened_fits c.open-opened.ensures.opens c.in-Record.is in
     omega (arith, inside.0, inside.1)
 
-pub slice_bounds-push-open-end : goal.slice_bounds-push-open-end
-slice_bounds-push-open-end c =
-    let inside = opened_fits at_open.«open».ensures.0 at-opened.opened.given.1 in
+pub slice_bounds-push-end-in-PathItem : goal.slice_bounds-push-end-in-PathItem
+slice_bounds-push-end-in-PathItem c =
+    let inside = opened_fits c.open-opened.ensures.opens c.in-Record.is in
+    omega (arith, inside.0, inside.1)
+
+pub slice_bounds-push-start-in_default-kind : goal.slice_bounds-push-start-in_default-kind
+slice_bounds-push-start-in_default-kind c =
+    let inside = opened_fits c.open-opened.ensures.opens c.in-Record.is in
+    omega (arith, inside.0, inside.1)
+
+pub slice_bounds-push-end-in_default-kind : goal.slice_bounds-push-end-in_default-kind
+slice_bounds-push-end-in_default-kind c =
+    let inside = opened_fits c.open-opened.ensures.opens c.in-Record.is in
     omega (arith, inside.0, inside.1)
 
 pub slice_bounds-push-count-in_default-kind : goal.slice_bounds-push-count-in_default-kind
@@ -45,7 +55,7 @@ returns-in-PathItem c =
     let is = c.in-Record.is in
     opened-as opens is (leaf plain) _ _ (path_read _ _ _ c.in-PathItem.is)
     (ran_push (c.push-open.ensures.answer, c.push-open.ensures.room)
-    then ran_push (rw part_slice at (c.push-path.ensures.answer, c.push-path.ensures.room))
+    then ran_push (rw part_slice at c.push-path.ensures.answer, rw part_slice at c.push-path.ensures.room)
     then finish (ran_push (c.push-close.ensures.answer, c.push-close.ensures.room)) c.finish.ensures.answer refl)
 
 pub returns-in_default-kind : goal.returns-in_default-kind
@@ -53,5 +63,5 @@ unfolding events_in printed
 returns-in_default-kind c =
     let opens = c.open-opened.ensures.opens in
     let is = c.in-Record.is in
-    opened-as opens is (leaf plain) _ _ (text_read _ _ _ (text_item opens is c.in_default-kind.in_default-kind-own.keys2))
-    (finish (ran_push (rw part_slice at (c.push-text.ensures.answer, c.push-text.ensures.room))) c.finish-in_default-kind.ensures.answer refl)
+    opened-as opens is (leaf plain) _ _ (text_read _ _ _ (text_item opens is c.in_default-kind.not-PathItem))
+    (finish (ran_push (rw part_slice at c.push-text.ensures.answer, rw part_slice at c.push-text.ensures.room)) c.finish-in_default-kind.ensures.answer refl)

@@ -29,7 +29,7 @@ use Rattle.tokens.proofs.Cycle.{only_in, not_in, rest_events, all_left, block_le
 use Rattle.tokens.proofs.Listed.{listed_number, listed_over, listed_opens, head_text, listed-shown, listed-instruction, listed-label, listed-data}
 use Prim.Native.Nat.{ℕ, ◌<◌, ◌+◌, ◌*◌, ◌-◌}
 use Rattle.leads.specs.Leads.{over_by}
-use Rattle.tokens.proofs.walk.+format_block_format_branches_format_each_token_format_inner_format_listed_token_format_token_format_tokens.Given as goal
+use Rattle.tokens.proofs.walk.+token.Given as goal
 
 abbrev pub decreases-format_tokens : goal.decreases-format_tokens
 decreases-format_tokens l = 4 * l.levels

@@ -29,146 +29,46 @@ use Rattle.tokens.proofs.Cycle.{only_in, not_in, rest_events, all_left, block_le
 use Rattle.tokens.proofs.Listed.{listed_number, listed_over, listed_opens, head_text, listed-shown, listed-instruction, listed-label, listed-data}
 use Prim.Native.Nat.{ℕ, ◌<◌, ◌+◌, ◌*◌, ◌-◌}
 use Rattle.leads.specs.Leads.{over_by}
-use Rattle.tokens.proofs.walk.+format_block_format_branches_format_each_token_format_inner_format_listed_token_format_token_format_tokens.Goals as goal
-
-abbrev format-block-claims : ℕ → format-block-lts.Claims
-format-block-claims t = (
-  open-reads.Asked,
-  open-reads.Learnt,
-  closed-reads.Asked,
-  closed-reads.Learnt,
-  open-block-reads.Asked,
-  open-block-reads.Learnt,
-  deeper-reads.Asked,
-  deeper-reads.Learnt,
-  format-tokens-below t,
-  format-tokens.Post,
-  trim-newlines-reads.Asked,
-  trim-newlines-reads.Learnt,
-  push-reads.Asked,
-  push-reads.Learnt,
-  close-brace-reads.Asked,
-  close-brace-reads.Learnt,
-)
-
-abbrev format-branches-claims : ℕ → format-branches-lts.Claims
-format-branches-claims t = (format-block-below t, format-block.Post, format-else-reads.Asked, format-else-reads.Learnt)
-
-abbrev format-each-token-claims : ℕ → format-each-token-lts.Claims
-format-each-token-claims t = (
-  format-listed-token-below t,
-  format-listed-token.Post,
-  byte-at-reads.Asked,
-  byte-at-reads.Learnt,
-  format-lead-out-reads.Asked,
-  format-lead-out-reads.Learnt,
-  settled-reads.Asked,
-  settled-reads.Learnt,
-)
-
-abbrev format-inner-claims : ℕ → format-inner-lts.Claims
-format-inner-claims t = (
-  inner-of-reads.Asked,
-  inner-of-reads.Learnt,
-  format-plain-token-reads.Asked,
-  format-plain-token-reads.Learnt,
-  format-token-front-reads.Asked,
-  format-token-front-reads.Learnt,
-  format-block-below t,
-  format-block.Post,
-  format-token-below t,
-  format-token.Post,
-  stands-reads.Asked,
-  stands-reads.Learnt,
-  format-branches-below t,
-  format-branches.Post,
-)
-
-abbrev format-listed-token-claims : ℕ → format-listed-token-lts.Claims
-format-listed-token-claims t = (
-  format-lead-in-reads.Asked,
-  format-lead-in-reads.Learnt,
-  over_reads.Asked,
-  over_reads.Learnt,
-  byte-at-reads.Asked,
-  byte-at-reads.Learnt,
-  format-listed-instruction-reads.Asked,
-  format-listed-instruction-reads.Learnt,
-  format-sized-reads.Asked,
-  format-sized-reads.Learnt,
-  format-listed-label-reads.Asked,
-  format-listed-label-reads.Learnt,
-  stands-reads.Asked,
-  stands-reads.Learnt,
-  format-block-below t,
-  format-block.Post,
-  format-inner-below t,
-  format-inner.Post,
-)
-
-abbrev format-token-claims : ℕ → format-token-lts.Claims
-format-token-claims t = (
-  token-class-reads.Asked,
-  token-class-reads.Learnt,
-  open-reads.Asked,
-  open-reads.Learnt,
-  closed-reads.Asked,
-  closed-reads.Learnt,
-  byte-at-reads.Asked,
-  byte-at-reads.Learnt,
-  format-inner-below t,
-  format-inner.Post,
-)
-
-abbrev format-tokens-claims : ℕ → format-tokens-lts.Claims
-format-tokens-claims t = (
-  open-reads.Asked,
-  open-reads.Learnt,
-  closed-reads.Asked,
-  closed-reads.Learnt,
-  format-each-token-below t,
-  format-each-token.Post,
-)
+use Rattle.tokens.proofs.walk.+token.Goals as goal
 
 -- ---- format_block: the opening, the list further in, one newline and the brace are the events of the record that was opened
 
-pub returns-in_default : goal.returns-in_default
-returns-in_default t c =
+pub format_block-returns-in_default : goal.format_block-returns-in_default
+format_block-returns-in_default t c =
     shown_closed c.open-opened.ensures.opens (leaf plain) c.in_default.is c.closed.ensures.answer
 
-pub overflow_sub-levels : goal.overflow_sub-levels
-overflow_sub-levels t c =
+pub format_block-overflow_sub-levels : goal.format_block-overflow_sub-levels
+format_block-overflow_sub-levels t c =
     opened_levels c.open-opened.ensures.opens c.in-Record.is
 
-pub deeper-requires : goal.deeper-requires
-deeper-requires t c =
+pub format_block-deeper-requires : goal.format_block-deeper-requires
+format_block-deeper-requires t c =
     let levels-left = opened_levels c.open-opened.ensures.opens c.in-Record.is in
     let narrow = c.requires.1 in
     (narrow.0, omega (arith, levels-left, narrow.1))
 
-pub overflow_sub-levels-2 : goal.overflow_sub-levels-2
-overflow_sub-levels-2 t c =
+pub format_block-overflow_sub-levels-2 : goal.format_block-overflow_sub-levels-2
+format_block-overflow_sub-levels-2 t c =
     opened_levels c.open-opened.ensures.opens c.in-Record.is
 
-pub format_tokens-inner-requires : goal.format_tokens-inner-requires
-format_tokens-inner-requires t c =
+pub format_block-format_tokens-inner-requires : goal.format_block-format_tokens-inner-requires
+format_block-format_tokens-inner-requires t c =
     let levels-left = opened_levels c.open-opened.ensures.opens c.in-Record.is in
-    let measured = c.requires.0 in
     let narrow = c.requires.1 in
-    (omega (arith, levels-left, measured), (rw c.deeper.ensures (narrow.0, omega (arith, levels-left, narrow.0, narrow.1))))
+    (omega (arith, levels-left), (rw c.deeper.ensures (narrow.0, omega (arith, levels-left, narrow.0, narrow.1))))
 
-pub overflow_sub-levels-3 : goal.overflow_sub-levels-3
-overflow_sub-levels-3 t c =
+pub format_block-overflow_sub-levels-3 : goal.format_block-overflow_sub-levels-3
+format_block-overflow_sub-levels-3 t c =
     opened_levels c.open-opened.ensures.opens c.in-Record.is
 
-pub shape_of-room : goal.shape_of-room
-shape_of-room t c =
+pub format_block-shape_of-room : goal.format_block-shape_of-room
+format_block-shape_of-room t c =
     c.close_brace.auto.room ∙ c.push-line.auto.room ∙ c.format_tokens-inner.auto.room ∙ c.open_block-lparen.auto.room
     ∙ c.open-opened.auto.room
 
-pub returns : goal.returns
+pub format_block-returns : goal.format_block-returns
 unfolding built field_trees fields_end events_in bit_at kind_number stored_with
-returns t c =
+format_block-returns t c =
     let opens = c.open-opened.ensures.opens in
     let is = c.in-Record.is in
     let listed = rw c.deeper.ensures at c.format_tokens-inner.ensures in
@@ -176,7 +76,7 @@ returns t c =
     (record {
       from = λ at here.
           let lparen = c.open_block-lparen.ensures.from at here in
-          let inner = listed .from _ lparen.next in
+          let inner = listed.from _ lparen.next in
           let trimmed = (c.trim_newlines-trimmed.ensures _).from _ inner.next in
           let line = c.push-line.ensures.from _ trimmed.next in
           let rparen = c.close_brace.ensures.from _ line.next in
@@ -185,23 +85,21 @@ returns t c =
 
 -- ---- format_branches: the first branch, and where there is another what stands between them and that
 
-pub format_block-then-requires : goal.format_block-then-requires
-format_block-then-requires t c =
-    let measured = c.requires.0 in
-    (omega (arith, measured), c.requires.1)
+pub format_branches-format_block-then-requires : goal.format_branches-format_block-then-requires
+format_branches-format_block-then-requires t c =
+    (omega arith, c.requires.1)
 
-pub returns-then-not-other : goal.returns-then-not-other
-returns-then-not-other t c =
+pub format_branches-returns-then-not-other : goal.format_branches-returns-then-not-other
+format_branches-returns-then-not-other t c =
     let other = c.args.other in
     rw (not-true other c.if-not-other.true-raw) (record { from = λ at here. one_branch _ _ _ at (c.format_block-then.ensures.from at here) })
 
-pub format_block-requires : goal.format_block-requires
-format_block-requires t c =
-    let measured = c.requires.0 in
-    (omega (arith, measured), c.requires.1)
+pub format_branches-format_block-requires : goal.format_branches-format_block-requires
+format_branches-format_block-requires t c =
+    (omega arith, c.requires.1)
 
-pub returns : goal.returns
-returns t c =
+pub format_branches-returns : goal.format_branches-returns
+format_branches-returns t c =
     let other = c.args.other in
     rw (not-false other c.if-not-other.false-raw) (record {
       from = λ at here.
@@ -213,42 +111,42 @@ returns t c =
 
 -- ---- format_each_token: at the head of the loop, whoever shows the tokens that are left has shown them all
 
-pub loop-left-init : goal.loop-left-init
-loop-left-init t c = (refl, λ start here. (start, here, λ said after rest. all_left _ _ _ _ _ start rest))
+pub format_each_token-loop-left-init : goal.format_each_token-loop-left-init
+format_each_token-loop-left-init t c = (refl, λ start here. (start, here, λ said after rest. all_left _ _ _ _ _ start rest))
 
-pub shape_of-room-in_default : goal.shape_of-room-in_default
-shape_of-room-in_default t c =
+pub format_each_token-shape_of-room-in_default : goal.format_each_token-shape_of-room-in_default
+format_each_token-shape_of-room-in_default t c =
     c.loop-left.invariant.0
 
-pub returns-in_default : goal.returns-in_default
-returns-in_default t c =
+pub format_each_token-returns-in_default : goal.format_each_token-returns-in_default
+format_each_token-returns-in_default t c =
     record {
       from = λ start here.
           let now = c.loop-left.invariant.1 start here in
           now.2 _ _ (stays_refused c.in_default.is);
     }
 
-pub overflow_sub-levels : goal.overflow_sub-levels
-overflow_sub-levels t c =
+pub format_each_token-overflow_sub-levels : goal.format_each_token-overflow_sub-levels
+format_each_token-overflow_sub-levels t c =
     c.requires.levels_nonzero.1
 
-pub format_listed_token-answer-requires : goal.format_listed_token-answer-requires
-format_listed_token-answer-requires t c =
+pub format_each_token-format_listed_token-answer-requires : goal.format_each_token-format_listed_token-answer-requires
+format_each_token-format_listed_token-answer-requires t c =
     let measured = c.requires.narrow in
     let narrow = c.requires.levels_nonzero.0 in
     let levels-left = c.requires.levels_nonzero.1 in
-    (omega (arith, measured, levels-left), (narrow.0, omega (arith, narrow.1)))
+    (omega (arith, levels-left), (narrow.0, omega (arith, narrow.1)))
 
-pub overflow_sub-left : goal.overflow_sub-left
-overflow_sub-left t c =
+pub format_each_token-overflow_sub-left : goal.format_each_token-overflow_sub-left
+format_each_token-overflow_sub-left t c =
     c.loop-left-test.true
 
-pub loop-left-smaller : goal.loop-left-smaller
-loop-left-smaller t c =
+pub format_each_token-loop-left-smaller : goal.format_each_token-loop-left-smaller
+format_each_token-loop-left-smaller t c =
     omega (arith, c.loop-left-test.true)
 
-pub loop-left-preserved : goal.loop-left-preserved
-loop-left-preserved t c =
+pub format_each_token-loop-left-preserved : goal.format_each_token-loop-left-preserved
+format_each_token-loop-left-preserved t c =
     let args = c.args in
     let stood = c.loop-left.before in
     let count = c.loop-left.left in
@@ -259,19 +157,19 @@ loop-left-preserved t c =
       λ start here.
           let now = c.loop-left.invariant.1 start here in (
             _,
-            listed .next,
+            listed.next,
             λ said after rest. now.2 said after (rest_from _ args.block _ _ stood count now.0 c.in-Done.is
                 now.1 refl (one_left _ args.block _ _ _ _ stood count _ _ c.loop-left-test.true
                 (λ state place done. listed_number _ _ _ args.context (args.block && stood.first) stood _ _ listed done ∙ sym c.byte_at.ensures) listed rest)),
           ),
     )
 
-pub shape_of-room-then-block-2 : goal.shape_of-room-then-block-2
-shape_of-room-then-block-2 t c =
+pub format_each_token-shape_of-room-then-block-2 : goal.format_each_token-shape_of-room-then-block-2
+format_each_token-shape_of-room-then-block-2 t c =
     c.format_lead_out.auto.room ∙ c.loop-left.invariant.0
 
-pub returns-then-block-2 : goal.returns-then-block-2
-returns-then-block-2 t c =
+pub format_each_token-returns-then-block-2 : goal.format_each_token-returns-then-block-2
+format_each_token-returns-then-block-2 t c =
     record {
       from = λ start here.
           let now = c.loop-left.invariant.1 start here in
@@ -279,12 +177,12 @@ returns-then-block-2 t c =
           now.2 _ _ (block_left _ _ _ _ _ c.loop-left.left now.0 c.loop-left-test.false c.if-block-2.true out);
     }
 
-pub shape_of-room : goal.shape_of-room
-shape_of-room t c =
+pub format_each_token-shape_of-room : goal.format_each_token-shape_of-room
+format_each_token-shape_of-room t c =
     c.loop-left.invariant.0
 
-pub returns : goal.returns
-returns t c =
+pub format_each_token-returns : goal.format_each_token-returns
+format_each_token-returns t c =
     record {
       from = λ start here.
           let now = c.loop-left.invariant.1 start here in
@@ -294,28 +192,28 @@ returns t c =
 
 -- ---- format_inner: what stands before the part inside a token and that part are all its fields
 
-pub returns-in-Nothing : goal.returns-in-Nothing
-returns-in-Nothing t c =
+pub format_inner-returns-in-Nothing : goal.format_inner-returns-in-Nothing
+format_inner-returns-in-Nothing t c =
     let nothing-in = sym c.inner_of-inner.ensures ∙ c.in-Nothing.is in
     λ small kind known. c.format_plain_token.ensures (plain_number _ _ small nothing-in) kind known
 
-pub format_block-requires : goal.format_block-requires
-format_block-requires t c =
+pub format_inner-format_block-requires : goal.format_inner-format_block-requires
+format_inner-format_block-requires t c =
     let measured = c.requires.narrow in
-    (omega (arith, measured), c.requires.ends.0)
+    (omega arith, c.requires.ends.0)
 
-pub format_token-requires : goal.format_token-requires
-format_token-requires t c =
+pub format_inner-format_token-requires : goal.format_inner-format_token-requires
+format_inner-format_token-requires t c =
     let measured = c.requires.narrow in
-    (omega (arith, measured), c.requires.ends.0)
+    (omega arith, c.requires.ends.0)
 
-pub format_branches-requires : goal.format_branches-requires
-format_branches-requires t c =
+pub format_inner-format_branches-requires : goal.format_inner-format_branches-requires
+format_inner-format_branches-requires t c =
     let measured = c.requires.narrow in
-    (omega (arith, measured), c.requires.ends.0)
+    (omega arith, c.requires.ends.0)
 
-pub returns-in-Block : goal.returns-in-Block
-returns-in-Block t c =
+pub format_inner-returns-in-Block : goal.format_inner-returns-in-Block
+format_inner-returns-in-Block t c =
     let block_in = sym c.inner_of-inner.ensures ∙ c.in-Block.is in
     λ small kind known. record {
       from = λ at here.
@@ -324,8 +222,8 @@ returns-in-Block t c =
           inside_shown _ _ _ _ _ _ _ _ _ kind known c.requires.ends.1 block_in (front thence block);
     }
 
-pub returns-in-Token : goal.returns-in-Token
-returns-in-Token t c =
+pub format_inner-returns-in-Token : goal.format_inner-returns-in-Token
+format_inner-returns-in-Token t c =
     let token-in = sym c.inner_of-inner.ensures ∙ c.in-Token.is in
     λ small kind known. record {
       from = λ at here.
@@ -334,8 +232,8 @@ returns-in-Token t c =
           inside_shown _ _ _ _ _ _ _ _ _ kind known c.requires.ends.1 token-in (front thence token);
     }
 
-pub returns-in-Branches : goal.returns-in-Branches
-returns-in-Branches t c =
+pub format_inner-returns-in-Branches : goal.format_inner-returns-in-Branches
+format_inner-returns-in-Branches t c =
     let branches-in = sym c.inner_of-inner.ensures ∙ c.in-Branches.is in
     let both = rw c.stands.ensures at c.format_branches.ensures in
     λ small kind known. record {
@@ -345,83 +243,81 @@ returns-in-Branches t c =
           inside_shown _ _ _ _ _ _ _ _ _ kind known c.requires.ends.1 branches-in (front thence branches);
     }
 
-pub returns-in-Nothing-inner : goal.returns-in-Nothing-inner
-returns-in-Nothing-inner t c =
+pub format_inner-returns-in-Nothing-inner : goal.format_inner-returns-in-Nothing-inner
+format_inner-returns-in-Nothing-inner t c =
     not_nothing c.in_default.in_default-own.keys2 c.in-Nothing-inner.is
 
 -- ---- format_listed_token: the lead-in has opened the record, and the walk goes on behind its own bytes, or from its head on where that was read for it
 
-pub returns-in_default : goal.returns-in_default
-returns-in_default t c = refused_before c.in_default.is
+pub format_listed_token-returns-in_default : goal.format_listed_token-returns-in_default
+format_listed_token-returns-in_default t c = refused_before c.in_default.is
 
-pub returns-in_default-lead : goal.returns-in_default-lead
-returns-in_default-lead t c =
+pub format_listed_token-returns-in_default-lead : goal.format_listed_token-returns-in_default-lead
+format_listed_token-returns-in_default-lead t c =
     let told = c.in_default-lead.is in
     rw (c.over.ensures.answer ∙ ap over_by told)
     (done_before c.in-Done.is ((listed_over c.format_lead_in-lead.ensures.leads told).from _ refl))
 
-pub overflow_sub-below : goal.overflow_sub-below
-overflow_sub-below t c =
+pub format_listed_token-overflow_sub-below : goal.format_listed_token-overflow_sub-below
+format_listed_token-overflow_sub-below t c =
     opened_levels (listed_opens c.format_lead_in-lead.ensures.leads c.in-Ready.is _ refl) refl
 
-pub format_listed_instruction-requires : goal.format_listed_instruction-requires
-format_listed_instruction-requires t c =
+pub format_listed_token-format_listed_instruction-requires : goal.format_listed_token-format_listed_instruction-requires
+format_listed_token-format_listed_instruction-requires t c =
     head_text c.format_lead_in-lead.ensures.leads c.in-Ready.is _ refl
 
-pub returns-then-number-eq-INSTRUCTION : goal.returns-then-number-eq-INSTRUCTION
-returns-then-number-eq-INSTRUCTION t c =
+pub format_listed_token-returns-then-number-eq-INSTRUCTION : goal.format_listed_token-returns-then-number-eq-INSTRUCTION
+format_listed_token-returns-then-number-eq-INSTRUCTION t c =
     let number = sym c.byte_at-number.ensures ∙ c.if-number-eq-INSTRUCTION.true in
     done_before c.in-Done.is
     (listed-instruction c.format_lead_in-lead.ensures.leads c.in-Ready.is _ refl number c.format_listed_instruction.ensures)
 
-pub format_sized-requires : goal.format_sized-requires
-format_sized-requires t c =
+pub format_listed_token-format_sized-requires : goal.format_listed_token-format_sized-requires
+format_listed_token-format_sized-requires t c =
     head_text c.format_lead_in-lead.ensures.leads c.in-Ready.is _ refl
 
-pub returns-then-number-eq-DATA : goal.returns-then-number-eq-DATA
-returns-then-number-eq-DATA t c =
+pub format_listed_token-returns-then-number-eq-DATA : goal.format_listed_token-returns-then-number-eq-DATA
+format_listed_token-returns-then-number-eq-DATA t c =
     let number = sym c.byte_at-number.ensures ∙ c.if-number-eq-DATA.true in
     done_before c.in-Done.is
     (listed-data c.format_lead_in-lead.ensures.leads c.in-Ready.is _ refl number c.format_sized.ensures)
 
-pub format_listed_label-front-requires : goal.format_listed_label-front-requires
-format_listed_label-front-requires t c =
+pub format_listed_token-format_listed_label-front-requires : goal.format_listed_token-format_listed_label-front-requires
+format_listed_token-format_listed_label-front-requires t c =
     head_text c.format_lead_in-lead.ensures.leads c.in-Ready.is _ refl
 
-pub returns-then-not-stands : goal.returns-then-not-stands
-returns-then-not-stands t c =
+pub format_listed_token-returns-then-not-stands : goal.format_listed_token-returns-then-not-stands
+format_listed_token-returns-then-not-stands t c =
     let number = sym c.byte_at-number.ensures ∙ c.if-number-eq-LABEL.true in
     let none = sym c.stands.ensures ∙ not-true _ c.if-not-stands.true-raw in
     done_before c.in-Done.is
     (listed-label c.format_lead_in-lead.ensures.leads c.in-Ready.is _ refl number (λ place read. label_alone _ _ _ _ (c.format_listed_label-front.ensures place read) none))
 
-pub format_block-requires : goal.format_block-requires
-format_block-requires t c =
+pub format_listed_token-format_block-requires : goal.format_listed_token-format_block-requires
+format_listed_token-format_block-requires t c =
     let opens = listed_opens c.format_lead_in-lead.ensures.leads c.in-Ready.is _ refl in
     let levels-left = opened_levels opens refl in
-    let measured = c.requires.0 in
     let narrow = c.requires.1 in
-    (omega (arith, levels-left, measured), (narrow.0, omega (arith, narrow.1)))
+    (omega (arith, levels-left), (narrow.0, omega (arith, narrow.1)))
 
-pub returns-then-number-eq-LABEL : goal.returns-then-number-eq-LABEL
-returns-then-number-eq-LABEL t c =
+pub format_listed_token-returns-then-number-eq-LABEL : goal.format_listed_token-returns-then-number-eq-LABEL
+format_listed_token-returns-then-number-eq-LABEL t c =
     let number = sym c.byte_at-number.ensures ∙ c.if-number-eq-LABEL.true in
     let one = sym c.stands.ensures ∙ not-false _ c.if-not-stands.false-raw in
     done_before c.in-Done.is
     (listed-label c.format_lead_in-lead.ensures.leads c.in-Ready.is _ refl number (λ place read.
     label_block _ _ _ _ (c.format_listed_label-front.ensures place read) one c.format_block.ensures))
 
-pub format_inner-requires : goal.format_inner-requires
-format_inner-requires t c =
+pub format_listed_token-format_inner-requires : goal.format_listed_token-format_inner-requires
+format_listed_token-format_inner-requires t c =
     let opens = listed_opens c.format_lead_in-lead.ensures.leads c.in-Ready.is _ refl in
     let levels-left = opened_levels opens refl in
     let token = token_opened false _ opens refl refl in
-    let measured = c.requires.0 in
     let narrow = c.requires.1 in
-    (omega (arith, levels-left, measured), ((narrow.0, omega (arith, narrow.1)), rw c.byte_at-number.ensures token.ends))
+    (omega (arith, levels-left), ((narrow.0, omega (arith, narrow.1)), rw c.byte_at-number.ensures token.ends))
 
-pub returns : goal.returns
-returns t c =
+pub format_listed_token-returns : goal.format_listed_token-returns
+format_listed_token-returns t c =
     let leads = c.format_lead_in-lead.ensures.leads in
     let is = c.in-Ready.is in
     let opens = listed_opens leads is _ refl in
@@ -432,31 +328,30 @@ returns t c =
 
 -- ---- format_token: the number of the record that was opened is one of a token, and the walk goes on behind its own bytes
 
-pub returns-in_default : goal.returns-in_default
-returns-in_default t c = refused_before c.in_default.is
+pub format_token-returns-in_default : goal.format_token-returns-in_default
+format_token-returns-in_default t c = refused_before c.in_default.is
 
-pub returns-in_default-opened : goal.returns-in_default-opened
-returns-in_default-opened t c =
+pub format_token-returns-in_default-opened : goal.format_token-returns-in_default-opened
+format_token-returns-in_default-opened t c =
     rw (← c.token_class-class.ensures) (done_before c.in-Done.is
     ((shown_closed c.open-opened.ensures.opens (leaf plain) c.in_default-opened.is c.closed.ensures.answer).from _ refl))
 
-pub overflow_sub-levels : goal.overflow_sub-levels
-overflow_sub-levels t c =
+pub format_token-overflow_sub-levels : goal.format_token-overflow_sub-levels
+format_token-overflow_sub-levels t c =
     opened_levels c.open-opened.ensures.opens c.in-Record.is
 
-pub format_inner-requires : goal.format_inner-requires
-format_inner-requires t c =
+pub format_token-format_inner-requires : goal.format_token-format_inner-requires
+format_token-format_inner-requires t c =
     let located = c.args.located in
     let opens = rw c.token_class-class.ensures at c.open-opened.ensures.opens in
     let is = c.in-Record.is in
     let levels-left = opened_levels opens is in
     let token = token_opened located _ opens is refl in
-    let measured = c.requires.0 in
     let narrow = c.requires.1 in
-    (omega (arith, levels-left, measured), ((narrow.0, omega (arith, narrow.1)), rw c.byte_at-number.ensures token.ends))
+    (omega (arith, levels-left), ((narrow.0, omega (arith, narrow.1)), rw c.byte_at-number.ensures token.ends))
 
-pub returns : goal.returns
-returns t c =
+pub format_token-returns : goal.format_token-returns
+format_token-returns t c =
     let located = c.args.located in
     let opens = rw c.token_class-class.ensures at c.open-opened.ensures.opens in
     let is = c.in-Record.is in
@@ -467,17 +362,16 @@ returns t c =
 
 -- ---- format_tokens: the tokens of the list that was opened are its events
 
-pub returns-in_default : goal.returns-in_default
-returns-in_default t c =
+pub format_tokens-returns-in_default : goal.format_tokens-returns-in_default
+format_tokens-returns-in_default t c =
     record { from = λ at here. (shown_closed c.open-opened.ensures.opens _ c.in_default.is c.closed.ensures.answer).from at here }
 
-pub format_each_token-requires : goal.format_each_token-requires
-format_each_token-requires t c =
+pub format_tokens-format_each_token-requires : goal.format_tokens-format_each_token-requires
+format_tokens-format_each_token-requires t c =
     let levels-left = opened_levels c.open-opened.ensures.opens c.in-Record.is in
-    let measured = c.requires.0 in
-    (omega (arith, levels-left, measured), (c.requires.1, levels-left))
+    (omega (arith, levels-left), (c.requires.1, levels-left))
 
-pub returns : goal.returns
-returns t c =
+pub format_tokens-returns : goal.format_tokens-returns
+format_tokens-returns t c =
     let block = c.args.block in
     tokens_shown block c.open-opened.ensures.opens c.in-Record.is c.format_each_token.ensures

@@ -26,7 +26,7 @@ use Rattle.expressions.specs.Expressions.{item_class, list_place}
 use Rattle.expressions.proofs.Cycle.{item_rule, factor_is, counter_is, list_is, list_items}
 use Rattle.expressions.proofs.Cycle.{or_first, or_second, unsigned_shown, signed_shown, binary_shown, none_left, one_left}
 use Prim.Native.Nat.{ℕ, ◌<◌, ◌+◌, ◌*◌}
-use Rattle.expressions.proofs.expression.+format_argument_format_arguments_format_binary_expression_format_call_format_each_argument_format_expression_format_expression_factor_format_factor_format_parens_format_value.Given as goal
+use Rattle.expressions.proofs.expression.+expression.Given as goal
 
 abbrev pub decreases-format_value : goal.decreases-format_value
 decreases-format_value l = 2 * l.levels + 1
