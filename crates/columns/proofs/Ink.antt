@@ -21,7 +21,7 @@ use Rattle.columns.specs.Setting.{lines_kept, text_of}
 use Rattle.columns.specs.Promise.{texts}
 use Rattle.columns.specs.declared.Margins.{Margins}
 use Rattle.columns.specs.declared.Follows.{Follows}
-use Rattle.columns.proofs.Texts.{texts_of, flat_cut, texts_pieces, added_between, kept_cases}
+use Rattle.columns.proofs.Texts.{texts_of, flat_cut, texts_pieces, added_between, kept_before, kept_cases}
 
 -- ---- a piece
 
@@ -90,7 +90,7 @@ kept_ink margins before line none (piece ∷ ps) closed empty =
     let next = add margins line piece in
     let last = is_last piece.follows in
     kept_cases (λ (lines : List Line). inks (map (set_line margins) lines) ≡ ink next.bytes ++ inks (texts_of ps)) margins before line piece ps
-    (λ e k. rw (set_ink margins next) (ap (λ (rest : List ℕ). ink next.bytes ++ rest) (kept_ink margins _ fresh last ps closed (λ _. refl))))
+    (λ e k. rw (set_ink margins next) (ap (λ (rest : List ℕ). ink next.bytes ++ rest) (kept_ink margins (kept_before margins next.bytes) fresh last ps closed (λ _. refl))))
     (λ e k. rw (dropped_ink before next.bytes k) (kept_ink margins before fresh last ps closed (λ _. refl)))
     (λ e. kept_ink margins before next last ps closed (λ q. true_false (sym q ∙ open_follows margins (length line.bytes) piece e)))
     ∙ ap (λ (front : List ℕ). front ++ inks (texts_of ps)) (add_ink margins line piece)

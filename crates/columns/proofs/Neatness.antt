@@ -18,7 +18,7 @@ use Rattle.columns.specs.Pieces.{Piece, pieces}
 use Rattle.columns.specs.Layout.{added, Line, fresh, indent_of, add, is_last, ends, standalone, placed, set_line, Before, at_start, keeps, kept_lines}
 use Rattle.columns.specs.Setting.{lines_kept, text_of}
 use Rattle.columns.specs.declared.Margins.{Margins}
-use Rattle.columns.proofs.Texts.{texts_of, Each, each_piece, added_between, kept_cases}
+use Rattle.columns.proofs.Texts.{texts_of, Each, each_piece, added_between, kept_before, kept_cases}
 use Rattle.columns.proofs.Ink.{set_ink}
 
 -- ---- tidy bytes: no newline is left once trailing blanks are cut
@@ -93,7 +93,7 @@ module _ (margins : Margins) where
   kept_plain before line (piece ∷ ps) none (tidy, rest) =
       let n = length line.bytes in
       kept_cases (λ (lines : List Line). plain (map (set_line margins) lines) ≡ true) margins before line piece ps
-      (λ e k. rw (set_plain (add margins line piece) (tidy_append line.bytes (added margins n piece) none (added_tidy n piece tidy))) (kept_plain _ fresh ps refl rest))
+      (λ e k. rw (set_plain (add margins line piece) (tidy_append line.bytes (added margins n piece) none (added_tidy n piece tidy))) (kept_plain (kept_before margins (add margins line piece).bytes) fresh ps refl rest))
       (λ e k. kept_plain before fresh ps refl rest)
       (λ e. kept_plain before (add margins line piece) ps (newline_append line.bytes (added margins n piece) ∙ rw none (added_plain n piece e)) rest)
 
@@ -141,7 +141,7 @@ module _ (margins : Margins) where
   kept_apart before line (piece ∷ ps) front e =
       let next = add margins line piece in
       kept_cases (λ (lines : List Line). none_empty_touch (front ∷ map (set_line margins) lines) ≡ true) margins before line piece ps
-      (λ _ k. rw (e, set_empty next, kept_other before next.bytes k) (kept_apart _ fresh ps (set_line margins next) (set_empty next)))
+      (λ _ k. rw (e, set_empty next, kept_other before next.bytes k) (kept_apart (kept_before margins next.bytes) fresh ps (set_line margins next) (set_empty next)))
       (λ _ _. kept_apart before fresh ps front e)
       (λ _. kept_apart before next ps front e)
 
