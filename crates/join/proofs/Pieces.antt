@@ -12,7 +12,7 @@ use Rattle.text.specs.Lines.{onto, has_newline, newline_at, is_newline}
 use Rattle.text.proofs.Choices.{by_test}
 use Rattle.text.proofs.Lines.{newline_at_lt, newline_at_none}
 use Rattle.text.proofs.Parts.{part_slice}
-use Rattle.columns.specs.Pieces.{Piece, cut, pieces_of, pieces}
+use Rattle.columns.specs.Pieces.{Piece, cut, pieces_of}
 use Rattle.join.specs.Walk.{Standing, pieces_at, piece_length, piece_at, Passed}
 use Rattle.join.specs.declared.piece.Spot.{Spot}
 

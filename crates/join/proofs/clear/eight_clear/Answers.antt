@@ -1,6 +1,5 @@
 -- All eight bytes were asked.
 use Rattle.join.proofs.Clearing.{clear_eight}
-use borrow.Author.Rules.{rules}
 use Rattle.join.proofs.clear.eight_clear.Goals as goal
 
 pub returns : goal.returns

@@ -4,7 +4,6 @@ use mathlib.Core.Path.{sym}
 use Rattle.text.proofs.Choices.{true_false}
 use native.Mathlib.Omega.{arith}
 use Rattle.join.proofs.Clearing.{clear_join}
-use borrow.Author.Rules.{rules}
 use Rattle.join.proofs.clear.four_clear.Goals as goal
 
 pub returns-then-two_clear : goal.returns-then-two_clear

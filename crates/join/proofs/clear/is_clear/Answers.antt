@@ -5,7 +5,6 @@ use native.Mathlib.Omega.{arith}
 use borrow.Author.Tests.{eqb-false, not-true}
 use Rattle.text.proofs.Choices.{true_false}
 use Rattle.join.proofs.Clearing.{clear_one, clear_join}
-use borrow.Author.Rules.{rules}
 use Rattle.join.proofs.clear.is_clear.Goals as goal
 
 pub returns-then-list-from-eq-NEWLINE : goal.returns-then-list-from-eq-NEWLINE

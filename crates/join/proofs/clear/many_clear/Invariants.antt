@@ -1,11 +1,7 @@
 -- What was asked so far has no newline, and neither has the last eight.
-use Prim.Native.Nat.{◌+◌, ◌-◌, ◌≤◌, ◌<◌}
-use mathlib.Core.Path.{◌≡◌, sym}
-use native.Mathlib.Omega.{arith}
-use borrow.Author.Tests.{not-false}
-use Rattle.text.proofs.Choices.{true_false}
+use Prim.Native.Nat.{◌+◌, ◌≤◌}
+use mathlib.Core.Path.{◌≡◌}
 use Rattle.join.specs.Walk.{Clear}
-use Rattle.join.proofs.Clearing.{clear_join}
 use Rattle.join.proofs.clear.many_clear.Given as goal
 
 abbrev pub invariant-loop-left : goal.invariant-loop-left

@@ -5,7 +5,6 @@ use mathlib.Core.Path.{sym}
 use Rattle.text.proofs.Choices.{true_false}
 use native.Mathlib.Omega.{arith}
 use Rattle.join.proofs.Clearing.{clear_one, clear_join}
-use borrow.Author.Rules.{rules}
 use Rattle.join.proofs.clear.two_clear.Goals as goal
 
 pub returns-then-list-at-eq-NEWLINE : goal.returns-then-list-at-eq-NEWLINE

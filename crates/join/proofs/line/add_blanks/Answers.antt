@@ -2,7 +2,6 @@
 use mathlib.Core.Path.{refl}
 use native.Mathlib.Omega.{arith}
 use lib.ListN.{length-replicate}
-use borrow.Author.Rules.{rules}
 use Rattle.text.specs.Ink.{spaces}
 use Rattle.text.proofs.Ink.{spaces_blank}
 use Rattle.join.proofs.Measures.{blanks_behind_blanks, blanks_behind_ink}
@@ -11,9 +10,15 @@ use Rattle.join.proofs.line.add_blanks.Goals as goal
 pub returns-then-measure-eq0 : goal.returns-then-measure-eq0
 returns-then-measure-eq0 c =
     let count = c.args.count in
-    record { measured = λ bytes known. blanks_behind_blanks known (spaces count) c.if-measure-eq0.true (spaces_blank count) (length-replicate count 32); length = (refl, omega arith) }
+    record {
+      measured = λ bytes known. blanks_behind_blanks known (spaces count) c.if-measure-eq0.true (spaces_blank count) (length-replicate count 32);
+      length = (refl, omega arith);
+    }
 
 pub returns : goal.returns
 returns c =
     let count = c.args.count in
-    record { measured = λ bytes known. blanks_behind_ink known (spaces count) c.if-measure-eq0.false (spaces_blank count) (length-replicate count 32); length = (refl, omega arith) }
+    record {
+      measured = λ bytes known. blanks_behind_ink known (spaces count) c.if-measure-eq0.false (spaces_blank count) (length-replicate count 32);
+      length = (refl, omega arith);
+    }

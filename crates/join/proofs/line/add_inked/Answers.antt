@@ -1,5 +1,4 @@
 -- The text between its spaces makes the line longer, and where it has ink moves the end of the ink to its own.
-use borrow.Author.Rules.{rules}
 use mathlib.Core.Path.{◌≡◌, sym, ap, ◌∙◌}
 use Prim.Native.Nat.{◌-◌}
 use native.Mathlib.Omega.{arith}
@@ -18,7 +17,10 @@ returns-then-ink-eq0 c =
     let part = slice step.from step.to args.list.now in
     let size : length part ≡ step.to - step.from = length-slice step.from step.to args.list.now c.requires.from_le_to.1 in
     let ink : c.ink_end-ink.result ≡ ink_end part = c.ink_end-ink.ensures ∙ ap ink_end (part_slice step.from step.to args.list.now) in
-    record { measured = λ line known. rw size at (between_blank known c.requires.from_le_to.2 step.before part step.behind (sym ink ∙ c.if-ink-eq0.true)); length = (omega arith, omega (arith, c.requires.fits.leading)) }
+    record {
+      measured = λ line known. rw size at (between_blank known c.requires.from_le_to.2 step.before part step.behind (sym ink ∙ c.if-ink-eq0.true));
+      length = (omega arith, omega (arith, c.requires.fits.leading));
+    }
 
 pub overflow_add-result-4 : goal.overflow_add-result-4
 overflow_add-result-4 c =
@@ -36,4 +38,7 @@ returns c =
     let part = slice step.from step.to args.list.now in
     let size : length part ≡ step.to - step.from = length-slice step.from step.to args.list.now c.requires.from_le_to.1 in
     let ink : c.ink_end-ink.result ≡ ink_end part = c.ink_end-ink.ensures ∙ ap ink_end (part_slice step.from step.to args.list.now) in
-    record { measured = λ line known. rw size at (between_ink known c.requires.from_le_to.2 step.before part step.behind ink c.if-ink-eq0.false); length = (omega arith, omega (arith, c.requires.fits.leading)) }
+    record {
+      measured = λ line known. rw size at (between_ink known c.requires.from_le_to.2 step.before part step.behind ink c.if-ink-eq0.false);
+      length = (omega arith, omega (arith, c.requires.fits.leading));
+    }

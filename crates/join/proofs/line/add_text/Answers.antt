@@ -5,7 +5,6 @@ use mathlib.Core.Bool.{Bool, true, false, not}
 use Prim.Native.Nat.{ℕ}
 use native.Mathlib.Omega.{arith}
 use lib.ListN.{length, length-replicate}
-use borrow.Author.Rules.{rules}
 use borrow.Author.Tests.{not-true, not-false}
 use Rattle.text.specs.Ink.{all_blank, spaces}
 use Rattle.text.proofs.Ink.{spaces_blank, ink_end_le, leading_lt}
@@ -15,16 +14,20 @@ use Rattle.join.proofs.line.add_text.Goals as goal
 pub returns-then-not-has_ink : goal.returns-then-not-has_ink
 returns-then-not-has_ink c =
     let bytes = c.args.bytes.now in
-    let blank = not-false (all_blank bytes) (sym c.has_ink.ensures ∙ not-true _ c.if-not-has_ink.true-raw) in record { measured = λ line known. blanks_alike _ line (spaces (length bytes)) bytes (spaces_blank (length bytes)) blank (length-replicate (length bytes) 32) (c.add_blanks.ensures.measured line known); length = c.add_blanks.ensures.length }
+    let blank = not-false (all_blank bytes) (sym c.has_ink.ensures ∙ c.if-not-has_ink.true) in
+    record {
+      measured = λ line known. blanks_alike _ line (spaces (length bytes)) bytes (spaces_blank (length bytes)) blank (length-replicate (length bytes) 32) (c.add_blanks.ensures.measured line known);
+      length = c.add_blanks.ensures.length;
+    }
 
 -- where the scan found ink there is some
-found : {answer : Bool} (bytes : List ℕ) → answer ≡ not (all_blank bytes) → not answer ≡ false → all_blank bytes ≡ false
-found bytes e left = not-true (all_blank bytes) (sym e ∙ not-false _ left)
+found : {answer : Bool} (bytes : List ℕ) → answer ≡ not (all_blank bytes) → answer ≡ true → all_blank bytes ≡ false
+found bytes e some = not-true (all_blank bytes) (sym e ∙ some)
 
 pub overflow_add-result-then-measure-eq0 : goal.overflow_add-result-then-measure-eq0
 overflow_add-result-then-measure-eq0 c =
     let bytes = c.args.bytes.now in
-    omega (arith, c.leading_blanks.ensures, leading_lt bytes (found bytes c.has_ink.ensures c.if-not-has_ink.false-raw))
+    omega (arith, c.leading_blanks.ensures, leading_lt bytes (found bytes c.has_ink.ensures c.if-not-has_ink.false))
 
 pub overflow_add-result-then-measure-eq0-2 : goal.overflow_add-result-then-measure-eq0-2
 overflow_add-result-then-measure-eq0-2 c =
@@ -33,7 +36,11 @@ overflow_add-result-then-measure-eq0-2 c =
 pub returns-then-measure-eq0 : goal.returns-then-measure-eq0
 returns-then-measure-eq0 c =
     let bytes = c.args.bytes.now in
-    let ink = found bytes c.has_ink.ensures c.if-not-has_ink.false-raw in record { measured = λ line known. ink_behind_blanks known bytes c.if-measure-eq0.true ink c.leading_blanks.ensures c.ink_end-ink_end.ensures; length = (refl, omega (arith, c.leading_blanks.ensures, leading_lt bytes ink)) }
+    let ink = found bytes c.has_ink.ensures c.if-not-has_ink.false in
+    record {
+      measured = λ line known. ink_behind_blanks known bytes c.if-measure-eq0.true ink c.leading_blanks.ensures c.ink_end-ink_end.ensures;
+      length = (refl, omega (arith, c.leading_blanks.ensures, leading_lt bytes ink));
+    }
 
 pub overflow_add-result-3 : goal.overflow_add-result-3
 overflow_add-result-3 c =
@@ -42,5 +49,8 @@ overflow_add-result-3 c =
 pub returns : goal.returns
 returns c =
     let bytes = c.args.bytes.now in
-    let ink = found bytes c.has_ink.ensures c.if-not-has_ink.false-raw in
-    record { measured = λ line known. ink_behind_ink known bytes c.if-measure-eq0.false ink c.ink_end-ink_end.ensures; length = (refl, omega arith) }
+    let ink = found bytes c.has_ink.ensures c.if-not-has_ink.false in
+    record {
+      measured = λ line known. ink_behind_ink known bytes c.if-measure-eq0.false ink c.ink_end-ink_end.ensures;
+      length = (refl, omega arith);
+    }

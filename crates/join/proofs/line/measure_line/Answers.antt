@@ -1,11 +1,7 @@
 -- Before each turn the measures are those of the line so far; chunks without a newline run on, and the step behind them adds the next piece to both.
 use mathlib.Core.Path.{refl}
-use Prim.Native.Nat.{◌-◌}
 use native.Mathlib.Omega.{arith}
-use lib.ListN.{length}
-use borrow.Author.Rules.{rules}
-use borrow.Author.Tests.{not-true, not-false}
-use Rattle.join.proofs.Walking.{Measuring, measuring_start, measuring_end, pausing_start, pausing_short, pausing_run, pausing_fits, pausing_on}
+use Rattle.join.proofs.Walking.{measuring_start, measuring_end, pausing_start, pausing_short, pausing_run, pausing_fits, pausing_on}
 use Rattle.join.proofs.line.measure_line.Goals as goal
 
 pub loop-ended-init : goal.loop-ended-init
@@ -16,9 +12,12 @@ pub measure_on-run-requires : goal.measure_on-run-requires
 measure_on-run-requires c =
     let given = c.requires in
     let turn = c.loop-ended in
-    let going = not-true turn.ended c.loop-ended-test.true-raw in
+    let going = c.loop-ended-test.true in
     let pausing = pausing_start (rw going at turn.invariant) c.takes-indent.ensures in
-    record { narrow = (given.0, pausing.walking.standing, pausing.walking.more refl, given.3); leading_le_length = (pausing.fits, pausing_short pausing) }
+    record {
+      narrow = (given.0, pausing.walking.standing, pausing.walking.more refl, given.3);
+      leading_le_length = (pausing.fits, pausing_short pausing);
+    }
 
 pub step_over-step-requires : goal.step_over-step-requires
 step_over-step-requires c =
@@ -29,10 +28,13 @@ step_over-step-requires c =
 pub add_some-measure-requires : goal.add_some-measure-requires
 add_some-measure-requires c =
     let turn = c.loop-ended in
-    let going = not-true turn.ended c.loop-ended-test.true-raw in
+    let going = c.loop-ended-test.true in
     let pausing = pausing_start (rw going at turn.invariant) c.takes-indent.ensures in
     let stepped = c.step_over-step.ensures in
-    record { from_le_to = (stepped.part, stepped.inside); fits = pausing_fits (pausing_run pausing c.measure_on-run.ensures) stepped c.requires.3 }
+    record {
+      from_le_to = (stepped.part, stepped.inside);
+      fits = pausing_fits (pausing_run pausing c.measure_on-run.ensures) stepped c.requires.3;
+    }
 
 pub loop-ended-smaller : goal.loop-ended-smaller
 loop-ended-smaller c =
@@ -42,10 +44,10 @@ loop-ended-smaller c =
 pub loop-ended-preserved : goal.loop-ended-preserved
 loop-ended-preserved c =
     let turn = c.loop-ended in
-    let going = not-true turn.ended c.loop-ended-test.true-raw in
+    let going = c.loop-ended-test.true in
     let pausing = pausing_start (rw going at turn.invariant) c.takes-indent.ensures in
     let counted = c.add_some-measure.ensures in
     pausing_on (pausing_run pausing c.measure_on-run.ensures) c.step_over-step.ensures counted.measured counted.length.1
 
 pub returns : goal.returns
-returns c = measuring_end c.loop-ended.invariant (not-false _ c.loop-ended-test.false-raw) c.indent_of.ensures
+returns c = measuring_end c.loop-ended.invariant c.loop-ended-test.false c.indent_of.ensures

@@ -1,5 +1,4 @@
 -- Once the indent is set the chunks run on; before, the line is left as it is.
-use borrow.Author.Rules.{rules}
 use Rattle.join.proofs.Walking.{ran_start}
 use Rattle.join.proofs.line.measure_on.Goals as goal
 
@@ -9,4 +8,4 @@ returns-in-Set c = rw c.in-Set.is (c.measure_run.ensures _)
 pub returns-in-Unset : goal.returns-in-Unset
 returns-in-Unset c =
     let given = c.requires in
-    ran_start _ _ _ _ _ given.0.1 given.0.2 given.1.0
+    ran_start _ _ _ _ _ given.narrow.1 given.narrow.2 given.leading_le_length.0

@@ -1,9 +1,5 @@
 -- Whatever line goes on from the spot, before each step it went on to where the walk is, and a step takes it one chunk further.
-use mathlib.Core.Path.{◌∙◌, sym}
-use Prim.Native.Nat.{ℕ, ◌-◌}
 use native.Mathlib.Omega.{arith}
-use lib.ListN.{length}
-use Rattle.join.specs.Walk.{Ran}
 use Rattle.columns.specs.declared.Indent.TheVariants.{Set}
 use Rattle.join.proofs.Walking.{run_fits, ran_start, ran_on}
 use Rattle.join.proofs.line.measure_run.Goals as goal
@@ -24,7 +20,10 @@ pub add_step-reached-requires : goal.add_step-reached-requires
 add_step-reached-requires c =
     let given = c.requires in
     let stepped = c.step_whole-step.ensures.0 in
-    record { from_le_to = (stepped.part, stepped.inside); fits = run_fits 0 (c.loop-margins.invariant 0) stepped given.1.1 given.0.3 }
+    record {
+      from_le_to = (stepped.part, stepped.inside);
+      fits = run_fits 0 (c.loop-margins.invariant 0) stepped given.leading_le_length.1 given.narrow.3;
+    }
 
 pub loop-margins-smaller : goal.loop-margins-smaller
 loop-margins-smaller c =

@@ -1,11 +1,8 @@
 -- Whatever line goes on from the spot, before each step it went on to where the walk is, and a step takes it one chunk further.
-use mathlib.Core.Path.{◌∙◌, sym}
 use Prim.Native.Nat.{ℕ, ◌-◌}
-use native.Mathlib.Omega.{arith}
 use lib.ListN.{length}
 use Rattle.join.specs.Walk.{Ran}
 use Rattle.columns.specs.declared.Indent.TheVariants.{Set}
-use Rattle.join.proofs.Walking.{run_fits, ran_start, ran_on}
 use Rattle.join.proofs.line.measure_run.Given as goal
 
 abbrev pub invariant-loop-margins : goal.invariant-loop-margins

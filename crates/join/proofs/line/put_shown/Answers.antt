@@ -1,6 +1,5 @@
 -- What the window shows all of is stored as it is.
 use Rattle.join.proofs.Storing.{step_shown}
-use borrow.Author.Rules.{rules}
 use Rattle.join.proofs.line.put_shown.Goals as goal
 
 pub returns-then-end-window : goal.returns-then-end-window

@@ -1,5 +1,4 @@
 -- An empty step leaves the text as it is.
-use borrow.Author.Rules.{rules}
 use Rattle.join.specs.Walk.{puts}
 use Rattle.join.proofs.Windows.{step_none}
 use Rattle.join.proofs.line.put_some.Goals as goal

@@ -2,7 +2,6 @@
 use Prim.Native.Nat.{ℕ}
 use mathlib.Core.Path.{◌∙◌}
 use lib.ListN.{length-replicate}
-use borrow.Author.Rules.{rules}
 use Rattle.text.specs.Ink.{spaces}
 use Rattle.join.specs.Walk.{puts}
 use Rattle.join.proofs.Windows.{puts_hidden, spaces_shown}
@@ -10,15 +9,15 @@ use Rattle.join.proofs.line.put_spaces.Goals as goal
 
 pub returns-then-count-eq0 : goal.returns-then-count-eq0
 unfolding puts
-returns-then-count-eq0 c = rw c.if-count-eq0.taken
+returns-then-count-eq0 c = rw c.if-count-eq0.true
 
 pub returns-then-from-to : goal.returns-then-from-to
 returns-then-from-to c =
     c.store_spaces.ensures ∙ spaces_shown c.args.text.now c.args.window c.args.at c.args.count
-    c.larger-from.ensures c.smaller-to.ensures c.if-from-to.taken
+    c.larger-from.ensures c.smaller-to.ensures c.if-from-to.true
 
 pub returns-else-from-to : goal.returns-else-from-to
 returns-else-from-to c =
     let count = c.args.count in
     puts_hidden c.args.text.now c.args.window c.args.at (spaces count) c.larger-from.ensures (rw
-    (length-replicate {A = ℕ} count 32) c.smaller-to.ensures) c.if-from-to.left
+    (length-replicate {A = ℕ} count 32) c.smaller-to.ensures) c.if-from-to.false

@@ -1,6 +1,5 @@
 -- The spaces before, the text and the spaces behind are written one behind the other.
 use native.Mathlib.Omega.{arith}
-use borrow.Author.Rules.{rules}
 use Rattle.join.proofs.Windows.{puts_step}
 use Rattle.join.proofs.line.put_step.Goals as goal
 

@@ -1,6 +1,5 @@
 -- Each arm is a case of `taken`.
 use borrow.Author.Tests.{eq-eqb, ne_eqb}
-use borrow.Author.Rules.{rules}
 use Rattle.join.proofs.line.takes.Goals as goal
 
 pub returns-then-spot : goal.returns-then-spot

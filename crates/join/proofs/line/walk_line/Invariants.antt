@@ -1,11 +1,8 @@
 -- Before each turn the measures are those of the line so far and the window shows it in the text; chunks without a newline run on, and the step behind them adds the next piece to both.
-use mathlib.Core.Path.{◌≡◌, refl, ◌∙◌}
+use mathlib.Core.Path.{◌≡◌}
 use Prim.Native.Nat.{◌-◌}
-use native.Mathlib.Omega.{arith}
 use lib.ListN.{length}
-use borrow.Author.Rules.{rules}
-use borrow.Author.Tests.{not-true, not-false}
-use Rattle.join.proofs.Walking.{Placing, pausing_short, pausing_fits, measuring_end, placing_start, placing_turn, placing_run, placing_on, placing_end}
+use Rattle.join.proofs.Walking.{Placing}
 use Rattle.join.proofs.line.walk_line.Given as goal
 
 abbrev pub invariant-loop-ended : goal.invariant-loop-ended

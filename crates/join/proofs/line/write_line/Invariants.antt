@@ -1,10 +1,8 @@
 -- Before each step the window shows the line so far in the text, and a step writes the next piece behind it.
 use Prim.Native.Nat.{◌-◌}
-use mathlib.Core.Path.{◌≡◌, refl, ◌∙◌}
-use native.Mathlib.Omega.{arith}
+use mathlib.Core.Path.{◌≡◌}
 use lib.ListN
-use borrow.Author.Tests.{not-true, not-false}
-use Rattle.join.proofs.Walking.{Writing, writing_start, step_room, writing_on, writing_end}
+use Rattle.join.proofs.Walking.{Writing}
 use Rattle.join.proofs.line.write_line.Given as goal
 
 abbrev pub invariant-loop-ended : goal.invariant-loop-ended

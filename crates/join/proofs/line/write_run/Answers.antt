@@ -1,9 +1,6 @@
 -- Whatever line goes on from the spot, before each step it went on to where the walk is and the window shows it in the text; a step takes both one chunk further.
-use mathlib.Core.Path.{◌≡◌, refl, ◌∙◌}
-use Prim.Native.Nat.{ℕ, ◌-◌}
+use mathlib.Core.Path.{refl, ◌∙◌}
 use native.Mathlib.Omega.{arith}
-use lib.ListN.{length}
-use Rattle.join.specs.Walk.{RanShown}
 use Rattle.columns.specs.declared.Indent.TheVariants.{Set}
 use Rattle.join.proofs.Walking.{run_fits, shown_start, shown_on}
 use Rattle.join.proofs.line.write_run.Goals as goal
@@ -25,13 +22,19 @@ put_shown-requires c =
     let given = c.requires in
     let turn = c.loop-window.invariant in
     let stepped = c.step_whole-step.ensures.0 in
-    record { room = (rw turn.1 given.1.1, stepped.part, stepped.inside); behind_bound = (run_fits 0 (turn.0 0).ran stepped given.1.0.1 given.0.3).small }
+    record {
+      room = (rw turn.1 given.room, stepped.part, stepped.inside);
+      behind_bound = (run_fits 0 (turn.0 0).ran stepped given.leading_le_length.1 given.narrow.3).small;
+    }
 
 pub add_step-reached-requires : goal.add_step-reached-requires
 add_step-reached-requires c =
     let given = c.requires in
     let stepped = c.step_whole-step.ensures.0 in
-    record { from_le_to = (stepped.part, stepped.inside); fits = run_fits 0 (c.loop-window.invariant.0 0).ran stepped given.1.0.1 given.0.3 }
+    record {
+      from_le_to = (stepped.part, stepped.inside);
+      fits = run_fits 0 (c.loop-window.invariant.0 0).ran stepped given.leading_le_length.1 given.narrow.3;
+    }
 
 pub loop-window-smaller : goal.loop-window-smaller
 loop-window-smaller c =
@@ -43,7 +46,7 @@ loop-window-preserved c =
     let counted = c.add_step-reached.ensures in
     let put = c.put_shown in
     let stepped = c.step_whole-step.ensures in
-    (λ n. shown_on n (turn.0 n) stepped.0 stepped.1 put.ensures counted.measured counted.length.0 counted.length.1, put.auto.0 ∙ turn.1)
+    (λ n. shown_on n (turn.0 n) stepped.0 stepped.1 put.ensures counted.measured counted.length.0 counted.length.1, put.auto.text ∙ turn.1)
 
 pub shape_of-text : goal.shape_of-text
 shape_of-text c = c.loop-window.invariant.1

@@ -1,11 +1,9 @@
 -- Whatever line goes on from the spot, before each step it went on to where the walk is and the window shows it in the text; a step takes both one chunk further.
-use mathlib.Core.Path.{◌≡◌, refl, ◌∙◌}
+use mathlib.Core.Path.{◌≡◌}
 use Prim.Native.Nat.{ℕ, ◌-◌}
-use native.Mathlib.Omega.{arith}
 use lib.ListN.{length}
 use Rattle.join.specs.Walk.{RanShown}
 use Rattle.columns.specs.declared.Indent.TheVariants.{Set}
-use Rattle.join.proofs.Walking.{run_fits, shown_start, shown_on}
 use Rattle.join.proofs.line.write_run.Given as goal
 
 abbrev pub invariant-loop-window : goal.invariant-loop-window

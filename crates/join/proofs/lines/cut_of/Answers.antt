@@ -1,13 +1,12 @@
 -- Each answer is the cut of the definition, by the tests that led there.
-use borrow.Author.Rules.{rules}
-use borrow.Author.Tests.{le-leb, lt-leb, eq-eqb, ne_eqb, not-true, not-false}
+use borrow.Author.Tests.{le-leb, lt-leb, eq-eqb, ne_eqb}
 use Rattle.join.proofs.lines.cut_of.Goals as goal
 
 pub returns-then-not-past : goal.returns-then-not-past
-returns-then-not-past c = simp (eq-eqb _ _ c.if-measure-eq0.true, not-true c.args.past.blank c.if-not-past.true-raw)
+returns-then-not-past c = simp (eq-eqb _ _ c.if-measure-eq0.true, c.if-not-past.true)
 
 pub returns-else-not-past : goal.returns-else-not-past
-returns-else-not-past c = simp (eq-eqb _ _ c.if-measure-eq0.true, not-false c.args.past.blank c.if-not-past.false-raw)
+returns-else-not-past c = simp (eq-eqb _ _ c.if-measure-eq0.true, c.if-not-past.false)
 
 pub returns-then-both-measure : goal.returns-then-both-measure
 returns-then-both-measure c = simp (ne_eqb _ _ c.if-measure-eq0.false, le-leb _ _ c.if-both-measure.true)

@@ -1,6 +1,5 @@
 -- A kept line makes the text that the definition says; its numbers do not wrap, as the line starts next to the text so far.
 use native.Mathlib.Omega.{arith}
-use borrow.Author.Rules.{rules}
 use Rattle.join.proofs.Running.{start_near}
 use Rattle.join.proofs.lines.grown.Goals as goal
 

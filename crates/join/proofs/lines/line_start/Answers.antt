@@ -1,5 +1,4 @@
 -- The definition makes the same test.
-use borrow.Author.Rules.{rules}
 use Rattle.join.proofs.lines.line_start.Goals as goal
 
 pub returns-then-past : goal.returns-then-past

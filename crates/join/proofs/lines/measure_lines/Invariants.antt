@@ -1,10 +1,9 @@
 -- The text so far with the lines still to come is all of the text: so it is at the start, a turn adds one line, and at the end no line is left.
 use Prim.Native.Nat.{◌-◌}
-use native.Mathlib.Omega.{arith}
 use lib.ListN.{length}
 use Rattle.chunks.specs.Reading.{chunks_of}
 use Rattle.columns.specs.Setting.{text_of}
-use Rattle.join.proofs.Running.{Running, running_start, running_length, line_small, running_on}
+use Rattle.join.proofs.Running.{Running}
 use Rattle.join.proofs.lines.measure_lines.Given as goal
 
 abbrev pub invariant-loop-spot : goal.invariant-loop-spot

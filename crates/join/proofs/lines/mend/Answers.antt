@@ -1,13 +1,11 @@
 -- The buffer changes only where the line went astray, and then by the cut that is written.
-use borrow.Author.Rules.{rules}
 use mathlib.Core.Path.{sym, ◌∙◌}
 use Rattle.join.proofs.lines.mend.Goals as goal
 
 pub write_cut-requires : goal.write_cut-requires
 write_cut-requires c =
     let given = c.requires in
-    let told = (given.0, (given.1.0, given.1.1 (sym c.is_astray.ensures ∙ c.if-is_astray.true))) in
-    record { narrow = told.0; cut_fits = told.1.0; line_in_bounds = told.1.1 }
+    record { narrow = given.narrow; cut_fits = given.cut_fits; line_in_bounds = given.fact (sym c.is_astray.ensures ∙ c.if-is_astray.true) }
 
 pub returns-then-is_astray : goal.returns-then-is_astray
 returns-then-is_astray c = rw (sym c.is_astray.ensures ∙ c.if-is_astray.true) c.write_cut.ensures

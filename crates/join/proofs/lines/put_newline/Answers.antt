@@ -1,5 +1,4 @@
 -- The one byte is stored where there is to be one and where it fits.
-use borrow.Author.Rules.{rules}
 use borrow.Author.Tests.{le-leb, lt-leb}
 use native.Mathlib.Omega.{arith}
 use Prim.Native.Nat.{◌+◌}

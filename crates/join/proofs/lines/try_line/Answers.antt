@@ -1,5 +1,4 @@
 -- The window goes from where the line is guessed to start to the end of the text, so it shows all of the line that has room.
-use borrow.Author.Rules.{rules}
 use mathlib.Core.Path.{◌∙◌}
 use native.Mathlib.Omega.{arith}
 use Rattle.join.proofs.Running.{start_near, line_tried}
@@ -18,5 +17,8 @@ returns c =
     let led = c.fill in
     let window = c.window_of-window.ensures.answer in
     let walked = c.walk_line.ensures in
-    let size = led.auto.0 ∙ newlined.auto.0 in
-    record { walked = walked.walked; tried = line_tried c.args.past c.args.guess _ _ _ _ _ started newlined.ensures led.ensures.1 (rw (window, size) at walked.showing) }
+    let size = led.auto.buffer ∙ newlined.auto.text in
+    record {
+      walked = walked.walked;
+      tried = line_tried c.args.past c.args.guess _ _ _ _ _ started newlined.ensures led.ensures.buffer (rw (window, size) at walked.showing);
+    }

@@ -1,5 +1,4 @@
 -- The window is that of the definition, by the test, and ends with the text.
-use borrow.Author.Rules.{rules}
 use borrow.Author.Tests.{le-leb, lt-leb}
 use native.Mathlib.Omega.{arith}
 use Rattle.join.proofs.lines.window_of.Goals as goal

@@ -1,5 +1,4 @@
 -- The newline, the spaces and what the window shows of the line are one run of bytes behind the text so far.
-use borrow.Author.Rules.{rules}
 use native.Mathlib.Omega.{arith}
 use Rattle.join.specs.Walk.{line_at}
 use Rattle.join.proofs.Running.{start_near, cut_end, cut_shown}
@@ -11,7 +10,11 @@ overflow_add-base c = omega (arith, start_near c.args.past)
 pub write_line-requires : goal.write_line-requires
 write_line-requires c =
     let args = c.args in
-    let end = cut_end args.past args.cut (line_at args.margins args.list.now args.spot).line.bytes c.requires.cut_fits in record { narrow = c.requires.narrow; room = omega (arith, c.line_start-start.ensures, c.put_newline.auto.0, c.fill.auto.0) }
+    let end = cut_end args.past args.cut (line_at args.margins args.list.now args.spot).line.bytes c.requires.cut_fits in
+    record {
+      narrow = c.requires.narrow;
+      room = omega (arith, c.line_start-start.ensures, c.put_newline.auto.text, c.fill.auto.buffer);
+    }
 
 pub returns : goal.returns
 returns c =

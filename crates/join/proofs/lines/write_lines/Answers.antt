@@ -1,11 +1,7 @@
 -- The buffer starts with the text so far, which with the lines still to come is all of the text: a turn writes one line, and at the end no line is left.
-use mathlib.Core.Path.{◌≡◌, refl, ◌∙◌}
-use Prim.Native.Nat.{◌-◌}
+use mathlib.Core.Path.{refl, ◌∙◌}
 use native.Mathlib.Omega.{arith}
-use lib.ListN.{length}
-use Rattle.chunks.specs.Reading.{chunks_of}
-use Rattle.columns.specs.Setting.{text_of}
-use Rattle.join.proofs.Running.{Holding, holding_start, holding_done, line_fits, line_small, astray_room, holding_on}
+use Rattle.join.proofs.Running.{holding_start, holding_done, line_fits, line_small, astray_room, holding_on}
 use Rattle.join.proofs.lines.write_lines.Goals as goal
 
 pub spot_at-spot-requires : goal.spot_at-spot-requires
@@ -22,7 +18,11 @@ try_line-walked-requires c =
     let given = c.requires in
     let turn = c.loop-spot.invariant in
     let running = turn.0.running in
-    let here = running.standing in record { narrow = (given.0.0, here, c.loop-spot-test.true, given.0.2); length_bound = (omega (arith, running.small, given.0.2), omega (arith, turn.1, given.1.1), c.guess_of-guess.ensures.0, c.guess_of-guess.ensures.1) }
+    let here = running.standing in
+    record {
+      narrow = (given.narrow.0, here, c.loop-spot-test.true, given.narrow.2);
+      length_bound = (omega (arith, running.small, given.narrow.2), omega (arith, turn.1, given.text_len.1), c.guess_of-guess.ensures.0, c.guess_of-guess.ensures.1);
+    }
 
 pub cut_of-cut-requires : goal.cut_of-cut-requires
 cut_of-cut-requires c = (c.requires.narrow.0, c.try_line-walked.ensures.walked.low)
@@ -34,13 +34,13 @@ mend-requires c =
     let running = turn.0.running in
     let guess = c.guess_of-guess.result in
     let tried = c.try_line-walked in
-    let found = tried.ensures.0 in
+    let found = tried.ensures.walked in
     let made = c.cut_of-cut.ensures in
-    let told = (
-      (given.0.0, running.standing, c.loop-spot-test.true, given.0.2),
-      (line_fits running given.0.0 found made, λ e. omega (arith, astray_room running given.0.0 found made guess e, turn.1, given.1.0, tried.auto.0)),
-    ) in
-    record { narrow = told.0; cut_fits = told.1.0; fact = told.1.1 }
+    record {
+      narrow = (given.narrow.0, running.standing, c.loop-spot-test.true, given.narrow.2);
+      cut_fits = line_fits running given.narrow.0 found made;
+      fact = λ e. omega (arith, astray_room running given.narrow.0 found made guess e, turn.1, given.text_len.0, tried.auto.text);
+    }
 
 pub grown-past-requires : goal.grown-past-requires
 grown-past-requires c =
@@ -60,9 +60,9 @@ loop-spot-preserved c =
     let tried = c.try_line-walked in
     let made = c.cut_of-cut.ensures in
     let mended = c.mend in (
-      rw c.grown-past.ensures (holding_on turn.0.running given.0.0 tried.ensures.0 made turn.0.held (turn.1 ∙ given.1.0)
-          tried.ensures.1 mended.ensures tried.auto.0),
-      mended.auto.0 ∙ tried.auto.0 ∙ turn.1,
+      rw c.grown-past.ensures (holding_on turn.0.running given.narrow.0 tried.ensures.walked made turn.0.held (turn.1 ∙ given.text_len.0)
+          tried.ensures.tried mended.ensures tried.auto.text),
+      mended.auto.text ∙ tried.auto.text ∙ turn.1,
     )
 
 pub shape_of-text : goal.shape_of-text

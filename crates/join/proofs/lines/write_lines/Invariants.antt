@@ -1,11 +1,10 @@
 -- The buffer starts with the text so far, which with the lines still to come is all of the text: a turn writes one line, and at the end no line is left.
-use mathlib.Core.Path.{◌≡◌, refl, ◌∙◌}
+use mathlib.Core.Path.{◌≡◌}
 use Prim.Native.Nat.{◌-◌}
-use native.Mathlib.Omega.{arith}
 use lib.ListN.{length}
 use Rattle.chunks.specs.Reading.{chunks_of}
 use Rattle.columns.specs.Setting.{text_of}
-use Rattle.join.proofs.Running.{Holding, holding_start, holding_done, line_fits, line_small, astray_room, holding_on}
+use Rattle.join.proofs.Running.{Holding}
 use Rattle.join.proofs.lines.write_lines.Given as goal
 
 abbrev pub invariant-loop-spot : goal.invariant-loop-spot

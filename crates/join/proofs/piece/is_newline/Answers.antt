@@ -1,5 +1,4 @@
 -- Each test that fails says no; where all hold the chunk is a lone newline of code.
-use borrow.Author.Rules.{rules}
 use mathlib.Core.Path.{sym}
 use Rattle.text.proofs.Choices.{true_false}
 use Rattle.join.proofs.piece.is_newline.Goals as goal

@@ -1,5 +1,4 @@
 -- A rest that ends the list is not whole; any other is where none of its bytes is a newline.
-use borrow.Author.Rules.{rules}
 use mathlib.Core.Path.{sym}
 use native.Mathlib.Omega.{arith}
 use Rattle.text.proofs.Choices.{true_false}
@@ -16,4 +15,7 @@ is_clear-requires c =
 
 pub returns : goal.returns
 returns c =
-    λ e. record { more = c.if-list-end.false; plain = clear_far c.args.list.now c.args.spot.at c.args.spot.end c.requires.inside (c.is_clear.ensures e) }
+    λ e. record {
+      more = c.if-list-end.false;
+      plain = clear_far c.args.list.now c.args.spot.at c.args.spot.end c.requires.inside (c.is_clear.ensures e);
+    }

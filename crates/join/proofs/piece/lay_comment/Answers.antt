@@ -1,5 +1,4 @@
 -- The definition's case for what follows, with the padding that the call gives.
-use borrow.Author.Rules.{rules}
 use Rattle.join.proofs.piece.lay_comment.Goals as goal
 
 pub returns-in-Other : goal.returns-in-Other

@@ -1,6 +1,5 @@
 -- The test and the alignment of the definition, with the padding that the call gives.
 use borrow.Author.Tests.{lt-ltb, le-ltb}
-use borrow.Author.Rules.{rules}
 use Rattle.join.proofs.piece.lay_label.Goals as goal
 
 pub returns-then-margins-column : goal.returns-then-margins-column

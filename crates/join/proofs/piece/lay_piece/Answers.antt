@@ -1,6 +1,5 @@
 -- The definition's case for the type of the chunk; only a lone newline of code can be ignored.
 use borrow.Author.Tests.{eq-eqb, ne_eqb}
-use borrow.Author.Rules.{rules}
 use Rattle.join.proofs.piece.lay_piece.Goals as goal
 
 pub returns-then-count-eq1 : goal.returns-then-count-eq1

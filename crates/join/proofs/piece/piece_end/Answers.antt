@@ -1,5 +1,4 @@
 -- A piece ends behind the first newline of the part, or with the part where there is none.
-use borrow.Author.Rules.{rules}
 use Rattle.join.proofs.Pieces.{ends_newline, ends_part}
 use Rattle.join.proofs.piece.piece_end.Goals as goal
 

@@ -1,5 +1,4 @@
 -- At the list's end no chunk is reached, and before it the chunk that stands there.
-use borrow.Author.Rules.{rules}
 use Rattle.join.proofs.Places.{reached_end, reached_chunk}
 use Rattle.join.proofs.piece.spot_at.Goals as goal
 

@@ -1,6 +1,6 @@
 -- The piece at the spot is laid as the definition adds it, or left out where it adds only blanks to a line that it ends; the pieces from the spot on are this one and those of the spot behind it.
-use borrow.Author.Rules.{rules}
 use mathlib.Core.Path.{refl}
+use borrow.Author.Tests.{le-leb, lt-leb}
 use native.Mathlib.Omega.{arith}
 use Rattle.join.proofs.Pieces.{piece_some, piece_within}
 use Rattle.join.proofs.Steps.{stepped_ignored, stepped_kept, stepped_newline}
@@ -38,10 +38,10 @@ pub returns-then-last : goal.returns-then-last
 returns-then-last c =
     let piece = c.piece_end-piece in
     stepped_kept _ _ _ _ piece.result _ _ c.requires.0 c.requires.1 c.requires.2 piece.ensures.0 piece.ensures.1
-    c.lay_piece-lay.ensures c.spot_after-behind.ensures c.if-lay.false (rw c.if-last.true-raw)
+    c.lay_piece-lay.ensures c.spot_after-behind.ensures c.if-lay.false (rw (le-leb _ _ c.if-last.true))
 
 pub returns-else-last : goal.returns-else-last
 returns-else-last c =
     let piece = c.piece_end-piece in
     stepped_kept _ _ _ _ piece.result _ _ c.requires.0 c.requires.1 c.requires.2 piece.ensures.0 piece.ensures.1
-    c.lay_piece-lay.ensures c.spot_after-behind.ensures c.if-lay.false (rw c.if-last.false-raw)
+    c.lay_piece-lay.ensures c.spot_after-behind.ensures c.if-lay.false (rw (lt-leb _ _ c.if-last.false))

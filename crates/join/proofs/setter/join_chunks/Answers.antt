@@ -1,6 +1,5 @@
 -- By the options that are read: their refusal, or what the setter answers at their margins, which are bytes.
 use mathlib.Core.Path.{refl, sym, ◌∙◌}
-use borrow.Author.Rules.{rules}
 use Rattle.answers.proofs.Numbers.{numbers_in_lem}
 use Rattle.columns.specs.Setting.{join_outcome}
 use Rattle.join.proofs.setter.join_chunks.Goals as goal
@@ -15,10 +14,10 @@ unfolding join_outcome
 returns-in-Options c =
     let read = sym c.read_options-read.ensures.answer ∙ c.in-Options.is in
     let said = c.join_with.ensures in
-    rw (read, ← c.margins_of.ensures) (said.answer, (said.buffer, (said.demands, numbers_in_lem _ _ said.answer)))
+    rw (read, ← c.margins_of.ensures) (record { answer = said.answer; buffer = said.buffer; demands = said.demands; numbers = numbers_in_lem _ _ said.answer })
 
 pub returns-in-Refused : goal.returns-in-Refused
 unfolding join_outcome
 returns-in-Refused c =
     let read = sym c.read_options-read.ensures.answer ∙ c.in-Refused.is in
-    rw read (refl, (refl, (tt, numbers_in_lem _ _ refl)))
+    rw read (record { answer = refl; buffer = refl; demands = tt; numbers = numbers_in_lem _ _ refl })

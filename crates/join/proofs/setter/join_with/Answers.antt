@@ -1,5 +1,4 @@
 -- A list that is not accepted is answered by its refusal; of one that is, the text is measured, and written where it fits.
-use borrow.Author.Rules.{rules}
 use mathlib.Core.Path.{refl, sym, ◌∙◌}
 use native.Mathlib.Omega.{arith}
 use lib.ListN.{length-take}
@@ -13,7 +12,7 @@ use Rattle.join.proofs.setter.join_with.Goals as goal
 pub returns-in-Failed : goal.returns-in-Failed
 returns-in-Failed c =
     let failed = sym c.check_chunks-checked.ensures.answer ∙ c.in-Failed.is in
-    rw failed (refl, (refl, tt))
+    rw failed (record { answer = refl; buffer = refl; demands = tt })
 
 pub measure_lines-length-requires : goal.measure_lines-length-requires
 measure_lines-length-requires c =
@@ -27,7 +26,7 @@ returns-then-text-length c =
     let byte = c.type_inv.chunks in
     let faithful = text_faithful c.args.margins list c.requires.label c.requires.code (λ i. omega (arith, byte i)) passed in
     let long = text_long (text_of c.args.margins (chunks_of list)) c.args.text.now _ c.measure_lines-length.ensures.0 c.if-text-length.true in
-    rw passed (long.0, (long.1, faithful))
+    rw passed (record { answer = long.0; buffer = long.1; demands = faithful })
 
 pub slice_bounds-write_lines-end-2 : goal.slice_bounds-write_lines-end-2
 slice_bounds-write_lines-end-2 c = simp length-take (omega arith)
@@ -37,7 +36,10 @@ write_lines-requires c =
     let passed = sym c.check_chunks-checked.ensures.answer ∙ c.in_default.is in
     let measured = c.measure_lines-length.ensures in
     let size = length-take-le _ _ c.if-text-length.false in
-    record { narrow = (c.requires, passed_end _ passed, passed_short _ passed); text_len = (size ∙ measured.0, omega (arith, size, measured.1)) }
+    record {
+      narrow = (c.requires, passed_end _ passed, passed_short _ passed);
+      text_len = (size ∙ measured.0, omega (arith, size, measured.1));
+    }
 
 pub returns : goal.returns
 returns c =
@@ -47,4 +49,4 @@ returns c =
     let faithful = text_faithful c.args.margins list c.requires.label c.requires.code (λ i. omega (arith, byte i)) passed in
     let text = text_of c.args.margins (chunks_of list) in
     let fits = text_fits_lem text c.args.text.now _ c.measure_lines-length.ensures.0 c.if-text-length.false in
-    rw (passed, c.write_lines.ensures) (fits.0, (fits.1, faithful))
+    rw (passed, c.write_lines.ensures) (record { answer = fits.0; buffer = fits.1; demands = faithful })

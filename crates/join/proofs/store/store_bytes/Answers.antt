@@ -6,7 +6,6 @@ use native.Mathlib.Omega.{arith}
 use lib.ListN.{length}
 use lib.Seq.{sets, slice}
 use Rattle.join.proofs.Storing.{sets_none, sets_rest}
-use borrow.Author.Rules.{rules}
 use Rattle.join.proofs.store.store_bytes.Goals as goal
 
 pub returns-then-count-eq0 : goal.returns-then-count-eq0

@@ -3,7 +3,6 @@ use native.Mathlib.Omega.{arith}
 use mathlib.Core.Path.{refl}
 use lib.ListN.{length-set}
 use Rattle.join.proofs.Storing.{run_stored}
-use borrow.Author.Rules.{rules}
 use Rattle.join.proofs.store.store_eight.Goals as goal
 
 pub bounds-text-place-2 : goal.bounds-text-place-2

@@ -2,7 +2,6 @@
 use native.Mathlib.Omega.{arith}
 use lib.ListN.{length-set}
 use Rattle.join.proofs.Storing.{run_stored}
-use borrow.Author.Rules.{rules}
 use Rattle.join.proofs.store.store_four.Goals as goal
 
 pub bounds-text-place-2 : goal.bounds-text-place-2

@@ -1,9 +1,9 @@
 -- What is stored is the front of the bytes, and at the end all of them.
-use Prim.Native.Nat.{ℕ, ◌+◌, ◌-◌, ◌≤◌, ◌<◌}
-use mathlib.Core.Path.{◌≡◌, refl, ap, ◌∙◌}
+use Prim.Native.Nat.{ℕ, ◌+◌, ◌-◌}
+use mathlib.Core.Path.{refl, ap, ◌∙◌}
 use mathlib.Core.List.{List}
 use native.Mathlib.Omega.{arith}
-use lib.ListN.{length, take}
+use lib.ListN.{length}
 use lib.Seq.{sets, slice}
 use Rattle.join.proofs.Storing.{sets_on, sets_rest}
 use Rattle.join.proofs.store.store_many.Goals as goal
@@ -23,13 +23,13 @@ loop-i-preserved c =
     let i = turn.i in
     let eight = c.store_eight in
     let more = sets_on text bytes place i i (i + 8) (omega arith) (omega arith) (omega arith) (omega arith) in
-    (omega arith, eight.auto.0 ∙ turn.invariant.1, eight.ensures ∙ ap (λ (d : List ℕ). sets d (place + i) (slice i (i + 8) bytes)) turn.invariant.2 ∙ more)
+    (omega arith, eight.auto.text ∙ turn.invariant.1, eight.ensures ∙ ap (λ (d : List ℕ). sets d (place + i) (slice i (i + 8) bytes)) turn.invariant.2 ∙ more)
 
 pub store_eight-requires-2 : goal.store_eight-requires-2
 store_eight-requires-2 c = (omega arith, omega arith)
 
 pub shape_of-text : goal.shape_of-text
-shape_of-text c = c.store_eight-2.auto.0 ∙ c.loop-i.invariant.1
+shape_of-text c = c.store_eight-2.auto.text ∙ c.loop-i.invariant.1
 
 pub returns : goal.returns
 returns c =

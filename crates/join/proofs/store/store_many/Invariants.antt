@@ -1,11 +1,8 @@
 -- What is stored is the front of the bytes, and at the end all of them.
-use Prim.Native.Nat.{ℕ, ◌+◌, ◌-◌, ◌≤◌, ◌<◌}
-use mathlib.Core.Path.{◌≡◌, refl, ap, ◌∙◌}
-use mathlib.Core.List.{List}
-use native.Mathlib.Omega.{arith}
+use Prim.Native.Nat.{◌+◌, ◌-◌, ◌≤◌}
+use mathlib.Core.Path.{◌≡◌}
 use lib.ListN.{length, take}
-use lib.Seq.{sets, slice}
-use Rattle.join.proofs.Storing.{sets_on, sets_rest}
+use lib.Seq.{sets}
 use Rattle.join.proofs.store.store_many.Given as goal
 
 abbrev pub invariant-loop-i : goal.invariant-loop-i

@@ -1,7 +1,6 @@
 -- One space is one byte, and more are filled in, for which there is room.
 use mathlib.Core.Path.{◌∙◌}
 use Rattle.join.proofs.Storing.{spaces_stored}
-use borrow.Author.Rules.{rules}
 use Rattle.join.proofs.store.store_spaces.Goals as goal
 
 pub returns-then-count-eq1 : goal.returns-then-count-eq1
