@@ -82,7 +82,7 @@ abbrev rows : List Row
 rows =
     -- Align in a list
     row lower (24 ∷ 0 ∷ 1 ∷ 0 ∷ 0 ∷ 6 ∷ 25 ∷ 2 ∷ 1 ∷ 0 ∷ 97 ∷ 29 ∷ 2 ∷ 30 ∷ 2 ∷ 25 ∷ 2 ∷ 1 ∷ 0 ∷ 65 ∷ [])
-    "a_a"
+    "aA"
     (note 6 0 [] ∷ note 11 1 [] ∷ note 13 1 [] ∷ note 15 1 [] ∷ [])
     -- Assert in a list
     ∷ row lower (24 ∷ 0 ∷ 1 ∷ 0 ∷ 1 ∷ 14 ∷ 25 ∷ 2 ∷ 1 ∷ 0 ∷ 97 ∷ 29 ∷ 2 ∷ 30 ∷ 2 ∷ 25 ∷ 2 ∷ 1 ∷ 0 ∷ 65 ∷ 36 ∷ 6 ∷ 25 ∷ 2
@@ -99,12 +99,12 @@ rows =
     (note 8 0 [] ∷ [])
     -- ConfigPair in a list
     ∷ row lower (24 ∷ 0 ∷ 1 ∷ 0 ∷ 4 ∷ 14 ∷ 25 ∷ 2 ∷ 1 ∷ 0 ∷ 97 ∷ 25 ∷ 2 ∷ 1 ∷ 0 ∷ 65 ∷ 8 ∷ 2 ∷ 25 ∷ 2 ∷ 1 ∷ 0 ∷ 98 ∷ [])
-    "a_ab"
+    "aAb"
     (note 6 0 [] ∷ note 11 1 [] ∷ note 16 2 [] ∷ note 18 2 (used 18 value_head ∷ []) ∷ space 18 [] ∷ [])
     -- Data in a list
     ∷ row lower (24 ∷ 0 ∷ 1 ∷ 0 ∷ 5 ∷ 6 ∷ 24 ∷ 0 ∷ 1 ∷ 0 ∷ 42 ∷ 6 ∷ 29 ∷ 2 ∷ 30 ∷ 2 ∷ 25 ∷ 2 ∷ 1 ∷ 0 ∷ 65 ∷ 25 ∷ 2 ∷ 1 ∷
     0 ∷ 66 ∷ 25 ∷ 2 ∷ 1 ∷ 0 ∷ 0 ∷ [])
-    ".byte_aB"
+    ".byteAB"
     (note 12 5 [] ∷ note 21 6 [] ∷ note 26 0 [] ∷ [])
     -- Definition in a list
     ∷ row lower (24 ∷ 0 ∷ 1 ∷ 0 ∷ 6 ∷ 14 ∷ 25 ∷ 2 ∷ 1 ∷ 0 ∷ 97 ∷ 25 ∷ 2 ∷ 1 ∷ 0 ∷ 98 ∷ 8 ∷ 2 ∷ 25 ∷ 2 ∷ 1 ∷ 0 ∷ 99 ∷ [])
@@ -126,7 +126,7 @@ rows =
     ∷ row lower (24 ∷ 0 ∷ 1 ∷ 0 ∷ 10 ∷ 62 ∷ 25 ∷ 2 ∷ 1 ∷ 0 ∷ 97 ∷ 29 ∷ 2 ∷ 30 ∷ 2 ∷ 25 ∷ 2 ∷ 1 ∷ 0 ∷ 65 ∷ 27 ∷ 14 ∷ 25 ∷
     2 ∷ 1 ∷ 0 ∷ 123 ∷ 24 ∷ 0 ∷ 0 ∷ 0 ∷ 25 ∷ 2 ∷ 1 ∷ 0 ∷ 125 ∷ 25 ∷ 2 ∷ 1 ∷ 0 ∷ 98 ∷ 27 ∷ 14 ∷ 25 ∷ 2 ∷ 1 ∷ 0 ∷ 123 ∷ 24
     ∷ 0 ∷ 0 ∷ 0 ∷ 25 ∷ 2 ∷ 1 ∷ 0 ∷ 125 ∷ [])
-    "a_a{}b{}"
+    "aA{}b{}"
     (note 6 0 [] ∷ note 11 1 [] ∷ note 22 2 (used 22 opening_brace ∷ []) ∷ space 22 [] ∷ note 36 4 [] ∷ [])
     -- Import in a list
     ∷ row lower (24 ∷ 0 ∷ 1 ∷ 0 ∷ 11 ∷ 62 ∷ 25 ∷ 2 ∷ 1 ∷ 0 ∷ 97 ∷ 40 ∷ 2 ∷ 25 ∷ 2 ∷ 1 ∷ 0 ∷ 65 ∷ 25 ∷ 2 ∷ 1 ∷ 0 ∷ 98 ∷
@@ -141,7 +141,7 @@ rows =
     -- Instruction in a list
     ∷ row lower (24 ∷ 0 ∷ 1 ∷ 0 ∷ 13 ∷ 6 ∷ 25 ∷ 2 ∷ 1 ∷ 0 ∷ 0 ∷ 37 ∷ 18 ∷ 29 ∷ 2 ∷ 30 ∷ 2 ∷ 25 ∷ 2 ∷ 1 ∷ 0 ∷ 65 ∷ 25 ∷ 2
     ∷ 1 ∷ 0 ∷ 0 ∷ [])
-    "adc_a"
+    "adcA"
     (note 6 0 [] ∷ note 13 3 [] ∷ [])
     -- Label in a list
     ∷ row lower (24 ∷ 0 ∷ 1 ∷ 0 ∷ 14 ∷ 14 ∷ 25 ∷ 2 ∷ 1 ∷ 0 ∷ 97 ∷ 25 ∷ 2 ∷ 1 ∷ 0 ∷ 58 ∷ 27 ∷ 14 ∷ 25 ∷ 2 ∷ 1 ∷ 0 ∷ 123 ∷
@@ -152,19 +152,19 @@ rows =
     -- Loop in a list
     ∷ row lower (24 ∷ 0 ∷ 1 ∷ 0 ∷ 15 ∷ 14 ∷ 25 ∷ 2 ∷ 1 ∷ 0 ∷ 97 ∷ 29 ∷ 2 ∷ 30 ∷ 2 ∷ 25 ∷ 2 ∷ 1 ∷ 0 ∷ 65 ∷ 27 ∷ 14 ∷ 25 ∷
     2 ∷ 1 ∷ 0 ∷ 123 ∷ 24 ∷ 0 ∷ 0 ∷ 0 ∷ 25 ∷ 2 ∷ 1 ∷ 0 ∷ 125 ∷ [])
-    "a_a{}"
+    "aA{}"
     (note 6 0 [] ∷ note 11 1 [] ∷ note 22 2 (used 22 opening_brace ∷ []) ∷ space 22 [] ∷ [])
     -- MacroDefinition in a list
     ∷ row lower (24 ∷ 0 ∷ 1 ∷ 0 ∷ 16 ∷ 126 ∷ 25 ∷ 2 ∷ 1 ∷ 0 ∷ 97 ∷ 25 ∷ 2 ∷ 1 ∷ 0 ∷ 98 ∷ 25 ∷ 2 ∷ 1 ∷ 0 ∷ 65 ∷ 24 ∷ 0 ∷
     1 ∷ 0 ∷ 42 ∷ 6 ∷ 25 ∷ 2 ∷ 1 ∷ 0 ∷ 99 ∷ 25 ∷ 2 ∷ 1 ∷ 0 ∷ 66 ∷ 25 ∷ 2 ∷ 1 ∷ 0 ∷ 67 ∷ 27 ∷ 14 ∷ 25 ∷ 2 ∷ 1 ∷ 0 ∷ 123 ∷
     24 ∷ 0 ∷ 0 ∷ 0 ∷ 25 ∷ 2 ∷ 1 ∷ 0 ∷ 125 ∷ [])
-    "ab_ac_bC{}"
+    "abAcBC{}"
     (note 6 0 [] ∷ note 11 1 [] ∷ note 16 2 [] ∷ note 27 3 [] ∷ note 37 5 [] ∷ note 44 6 (used 44 opening_brace ∷ []) ∷
     space 44 [] ∷ [])
     -- MacroInvocation in a list
     ∷ row lower (24 ∷ 0 ∷ 1 ∷ 0 ∷ 17 ∷ 30 ∷ 25 ∷ 2 ∷ 1 ∷ 0 ∷ 97 ∷ 25 ∷ 2 ∷ 1 ∷ 0 ∷ 65 ∷ 24 ∷ 0 ∷ 1 ∷ 0 ∷ 42 ∷ 6 ∷ 29 ∷ 2
     ∷ 30 ∷ 2 ∷ 25 ∷ 2 ∷ 1 ∷ 0 ∷ 66 ∷ 25 ∷ 2 ∷ 1 ∷ 0 ∷ 67 ∷ 25 ∷ 2 ∷ 1 ∷ 0 ∷ 68 ∷ [])
-    "a_aBCD"
+    "aABCD"
     (note 6 0 [] ∷ note 11 1 [] ∷ note 36 4 [] ∷ [])
     -- ProgramCounterDefinition in a list
     ∷ row lower (24 ∷ 0 ∷ 1 ∷ 0 ∷ 18 ∷ 14 ∷ 25 ∷ 2 ∷ 1 ∷ 0 ∷ 65 ∷ 25 ∷ 2 ∷ 1 ∷ 0 ∷ 66 ∷ 29 ∷ 2 ∷ 30 ∷ 2 ∷ 25 ∷ 2 ∷ 1 ∷ 0
@@ -174,37 +174,37 @@ rows =
     -- Segment in a list
     ∷ row lower (24 ∷ 0 ∷ 1 ∷ 0 ∷ 19 ∷ 14 ∷ 25 ∷ 2 ∷ 1 ∷ 0 ∷ 97 ∷ 29 ∷ 2 ∷ 30 ∷ 2 ∷ 25 ∷ 2 ∷ 1 ∷ 0 ∷ 65 ∷ 27 ∷ 14 ∷ 25 ∷
     2 ∷ 1 ∷ 0 ∷ 123 ∷ 24 ∷ 0 ∷ 0 ∷ 0 ∷ 25 ∷ 2 ∷ 1 ∷ 0 ∷ 125 ∷ [])
-    "a_a{}"
+    "aA{}"
     (note 6 0 [] ∷ note 11 1 [] ∷ note 22 2 (used 22 opening_brace ∷ []) ∷ space 22 [] ∷ [])
     -- Test in a list
     ∷ row lower (24 ∷ 0 ∷ 1 ∷ 0 ∷ 20 ∷ 14 ∷ 25 ∷ 2 ∷ 1 ∷ 0 ∷ 97 ∷ 29 ∷ 2 ∷ 30 ∷ 2 ∷ 25 ∷ 2 ∷ 1 ∷ 0 ∷ 65 ∷ 27 ∷ 14 ∷ 25 ∷
     2 ∷ 1 ∷ 0 ∷ 123 ∷ 24 ∷ 0 ∷ 0 ∷ 0 ∷ 25 ∷ 2 ∷ 1 ∷ 0 ∷ 125 ∷ [])
-    "a_a{}"
+    "aA{}"
     (note 6 0 [] ∷ note 11 1 [] ∷ note 22 2 (used 22 opening_brace ∷ []) ∷ space 22 [] ∷ [])
     -- Text in a list
     ∷ row lower (24 ∷ 0 ∷ 1 ∷ 0 ∷ 21 ∷ 14 ∷ 25 ∷ 2 ∷ 1 ∷ 0 ∷ 97 ∷ 25 ∷ 2 ∷ 1 ∷ 0 ∷ 0 ∷ 29 ∷ 2 ∷ 30 ∷ 2 ∷ 25 ∷ 2 ∷ 1 ∷ 0
     ∷ 65 ∷ [])
-    "aascii_a"
+    "aasciiA"
     (note 6 0 [] ∷ note 11 1 [] ∷ note 16 6 [] ∷ [])
     -- Trace in a list
     ∷ row lower (24 ∷ 0 ∷ 1 ∷ 0 ∷ 22 ∷ 30 ∷ 25 ∷ 2 ∷ 1 ∷ 0 ∷ 97 ∷ 25 ∷ 2 ∷ 1 ∷ 0 ∷ 65 ∷ 24 ∷ 0 ∷ 1 ∷ 0 ∷ 42 ∷ 6 ∷ 29 ∷ 2
     ∷ 30 ∷ 2 ∷ 25 ∷ 2 ∷ 1 ∷ 0 ∷ 66 ∷ 25 ∷ 2 ∷ 1 ∷ 0 ∷ 67 ∷ 25 ∷ 2 ∷ 1 ∷ 0 ∷ 68 ∷ [])
-    "a_aBCD"
+    "aABCD"
     (note 6 0 [] ∷ note 11 1 [] ∷ note 36 4 [] ∷ [])
     -- VariableDefinition in a list
     ∷ row lower (24 ∷ 0 ∷ 1 ∷ 0 ∷ 23 ∷ 30 ∷ 25 ∷ 2 ∷ 1 ∷ 0 ∷ 0 ∷ 25 ∷ 2 ∷ 1 ∷ 0 ∷ 97 ∷ 25 ∷ 2 ∷ 1 ∷ 0 ∷ 65 ∷ 29 ∷ 2 ∷ 30
     ∷ 2 ∷ 25 ∷ 2 ∷ 1 ∷ 0 ∷ 66 ∷ [])
-    ".consta_aB"
+    ".constaAB"
     (note 6 0 [] ∷ note 11 6 [] ∷ note 16 7 [] ∷ note 21 8 [] ∷ [])
     -- Align as a definition's value
     ∷ row lower (24 ∷ 0 ∷ 1 ∷ 0 ∷ 6 ∷ 14 ∷ 25 ∷ 2 ∷ 1 ∷ 0 ∷ 97 ∷ 25 ∷ 2 ∷ 1 ∷ 0 ∷ 98 ∷ 0 ∷ 6 ∷ 25 ∷ 2 ∷ 1 ∷ 0 ∷ 99 ∷ 29
     ∷ 2 ∷ 30 ∷ 2 ∷ 25 ∷ 2 ∷ 1 ∷ 0 ∷ 65 ∷ [])
-    "abc_a"
+    "abcA"
     (note 18 2 (used 18 value_head ∷ []) ∷ space 18 [] ∷ [])
     -- Assert as a definition's value
     ∷ row lower (24 ∷ 0 ∷ 1 ∷ 0 ∷ 6 ∷ 14 ∷ 25 ∷ 2 ∷ 1 ∷ 0 ∷ 97 ∷ 25 ∷ 2 ∷ 1 ∷ 0 ∷ 98 ∷ 1 ∷ 6 ∷ 25 ∷ 2 ∷ 1 ∷ 0 ∷ 99 ∷ 29
     ∷ 2 ∷ 30 ∷ 2 ∷ 25 ∷ 2 ∷ 1 ∷ 0 ∷ 65 ∷ [])
-    "abc_a"
+    "abcA"
     (note 18 2 (used 18 value_head ∷ []) ∷ space 18 [] ∷ [])
     -- Braces as a definition's value
     ∷ row lower (24 ∷ 0 ∷ 1 ∷ 0 ∷ 6 ∷ 14 ∷ 25 ∷ 2 ∷ 1 ∷ 0 ∷ 97 ∷ 25 ∷ 2 ∷ 1 ∷ 0 ∷ 98 ∷ 2 ∷ 2 ∷ 27 ∷ 14 ∷ 25 ∷ 2 ∷ 1 ∷ 0
@@ -219,7 +219,7 @@ rows =
     -- ConfigPair as a definition's value
     ∷ row lower (24 ∷ 0 ∷ 1 ∷ 0 ∷ 6 ∷ 14 ∷ 25 ∷ 2 ∷ 1 ∷ 0 ∷ 97 ∷ 25 ∷ 2 ∷ 1 ∷ 0 ∷ 98 ∷ 4 ∷ 14 ∷ 25 ∷ 2 ∷ 1 ∷ 0 ∷ 99 ∷ 25
     ∷ 2 ∷ 1 ∷ 0 ∷ 65 ∷ 8 ∷ 2 ∷ 25 ∷ 2 ∷ 1 ∷ 0 ∷ 100 ∷ [])
-    "abc_ad"
+    "abcAd"
     (note 18 2 (used 18 value_head ∷ []) ∷ space 18 [] ∷ note 30 4 (used 30 value_head ∷ []) ∷ space 30 [] ∷ [])
     -- Data as a definition's value
     ∷ row lower (24 ∷ 0 ∷ 1 ∷ 0 ∷ 6 ∷ 14 ∷ 25 ∷ 2 ∷ 1 ∷ 0 ∷ 97 ∷ 25 ∷ 2 ∷ 1 ∷ 0 ∷ 98 ∷ 5 ∷ 6 ∷ 24 ∷ 0 ∷ 0 ∷ 0 ∷ 25 ∷ 2 ∷
@@ -238,12 +238,12 @@ rows =
     -- Expression as a definition's value
     ∷ row lower (24 ∷ 0 ∷ 1 ∷ 0 ∷ 6 ∷ 14 ∷ 25 ∷ 2 ∷ 1 ∷ 0 ∷ 97 ∷ 25 ∷ 2 ∷ 1 ∷ 0 ∷ 98 ∷ 9 ∷ 2 ∷ 29 ∷ 2 ∷ 30 ∷ 2 ∷ 25 ∷ 2
     ∷ 1 ∷ 0 ∷ 65 ∷ [])
-    "ab_a"
+    "abA"
     (note 20 2 [] ∷ [])
     -- If as a definition's value
     ∷ row lower (24 ∷ 0 ∷ 1 ∷ 0 ∷ 6 ∷ 14 ∷ 25 ∷ 2 ∷ 1 ∷ 0 ∷ 97 ∷ 25 ∷ 2 ∷ 1 ∷ 0 ∷ 98 ∷ 10 ∷ 14 ∷ 25 ∷ 2 ∷ 1 ∷ 0 ∷ 99 ∷
     29 ∷ 2 ∷ 30 ∷ 2 ∷ 25 ∷ 2 ∷ 1 ∷ 0 ∷ 65 ∷ 27 ∷ 14 ∷ 25 ∷ 2 ∷ 1 ∷ 0 ∷ 123 ∷ 24 ∷ 0 ∷ 0 ∷ 0 ∷ 25 ∷ 2 ∷ 1 ∷ 0 ∷ 125 ∷ [])
-    "abc_a{}"
+    "abcA{}"
     (note 18 2 (used 18 value_head ∷ []) ∷ space 18 [] ∷ note 34 4 (used 34 opening_brace ∷ []) ∷ space 34 [] ∷ [])
     -- Import as a definition's value
     ∷ row lower (24 ∷ 0 ∷ 1 ∷ 0 ∷ 6 ∷ 14 ∷ 25 ∷ 2 ∷ 1 ∷ 0 ∷ 97 ∷ 25 ∷ 2 ∷ 1 ∷ 0 ∷ 98 ∷ 11 ∷ 30 ∷ 25 ∷ 2 ∷ 1 ∷ 0 ∷ 99 ∷
@@ -267,38 +267,38 @@ rows =
     -- Loop as a definition's value
     ∷ row lower (24 ∷ 0 ∷ 1 ∷ 0 ∷ 6 ∷ 14 ∷ 25 ∷ 2 ∷ 1 ∷ 0 ∷ 97 ∷ 25 ∷ 2 ∷ 1 ∷ 0 ∷ 98 ∷ 15 ∷ 14 ∷ 25 ∷ 2 ∷ 1 ∷ 0 ∷ 99 ∷
     29 ∷ 2 ∷ 30 ∷ 2 ∷ 25 ∷ 2 ∷ 1 ∷ 0 ∷ 65 ∷ 27 ∷ 14 ∷ 25 ∷ 2 ∷ 1 ∷ 0 ∷ 123 ∷ 24 ∷ 0 ∷ 0 ∷ 0 ∷ 25 ∷ 2 ∷ 1 ∷ 0 ∷ 125 ∷ [])
-    "abc_a{}"
+    "abcA{}"
     (note 18 2 (used 18 value_head ∷ []) ∷ space 18 [] ∷ note 34 4 (used 34 opening_brace ∷ []) ∷ space 34 [] ∷ [])
     -- MacroDefinition as a definition's value
     ∷ row lower (24 ∷ 0 ∷ 1 ∷ 0 ∷ 6 ∷ 14 ∷ 25 ∷ 2 ∷ 1 ∷ 0 ∷ 97 ∷ 25 ∷ 2 ∷ 1 ∷ 0 ∷ 98 ∷ 16 ∷ 126 ∷ 25 ∷ 2 ∷ 1 ∷ 0 ∷ 99 ∷
     25 ∷ 2 ∷ 1 ∷ 0 ∷ 100 ∷ 25 ∷ 2 ∷ 1 ∷ 0 ∷ 65 ∷ 24 ∷ 0 ∷ 0 ∷ 0 ∷ 25 ∷ 2 ∷ 1 ∷ 0 ∷ 66 ∷ 27 ∷ 14 ∷ 25 ∷ 2 ∷ 1 ∷ 0 ∷ 123 ∷
     24 ∷ 0 ∷ 0 ∷ 0 ∷ 25 ∷ 2 ∷ 1 ∷ 0 ∷ 125 ∷ [])
-    "abcd_aB{}"
+    "abcdAB{}"
     (note 18 2 (used 18 value_head ∷ []) ∷ space 18 [] ∷ note 44 6 (used 44 opening_brace ∷ []) ∷ space 44 [] ∷ [])
     -- MacroInvocation as a definition's value
     ∷ row lower (24 ∷ 0 ∷ 1 ∷ 0 ∷ 6 ∷ 14 ∷ 25 ∷ 2 ∷ 1 ∷ 0 ∷ 97 ∷ 25 ∷ 2 ∷ 1 ∷ 0 ∷ 98 ∷ 17 ∷ 30 ∷ 25 ∷ 2 ∷ 1 ∷ 0 ∷ 99 ∷
     25 ∷ 2 ∷ 1 ∷ 0 ∷ 65 ∷ 24 ∷ 0 ∷ 0 ∷ 0 ∷ 25 ∷ 2 ∷ 1 ∷ 0 ∷ 66 ∷ [])
-    "abc_aB"
+    "abcAB"
     (note 18 2 (used 18 value_head ∷ []) ∷ space 18 [] ∷ [])
     -- ProgramCounterDefinition as a definition's value
     ∷ row lower (24 ∷ 0 ∷ 1 ∷ 0 ∷ 6 ∷ 14 ∷ 25 ∷ 2 ∷ 1 ∷ 0 ∷ 97 ∷ 25 ∷ 2 ∷ 1 ∷ 0 ∷ 98 ∷ 18 ∷ 14 ∷ 25 ∷ 2 ∷ 1 ∷ 0 ∷ 65 ∷
     25 ∷ 2 ∷ 1 ∷ 0 ∷ 66 ∷ 29 ∷ 2 ∷ 30 ∷ 2 ∷ 25 ∷ 2 ∷ 1 ∷ 0 ∷ 67 ∷ [])
-    "ab_aBC"
+    "abABC"
     (note 18 2 (used 18 value_head ∷ []) ∷ space 18 [] ∷ [])
     -- Segment as a definition's value
     ∷ row lower (24 ∷ 0 ∷ 1 ∷ 0 ∷ 6 ∷ 14 ∷ 25 ∷ 2 ∷ 1 ∷ 0 ∷ 97 ∷ 25 ∷ 2 ∷ 1 ∷ 0 ∷ 98 ∷ 19 ∷ 6 ∷ 25 ∷ 2 ∷ 1 ∷ 0 ∷ 99 ∷ 29
     ∷ 2 ∷ 30 ∷ 2 ∷ 25 ∷ 2 ∷ 1 ∷ 0 ∷ 65 ∷ [])
-    "abc_a"
+    "abcA"
     (note 18 2 (used 18 value_head ∷ []) ∷ space 18 [] ∷ [])
     -- Test as a definition's value
     ∷ row lower (24 ∷ 0 ∷ 1 ∷ 0 ∷ 6 ∷ 14 ∷ 25 ∷ 2 ∷ 1 ∷ 0 ∷ 97 ∷ 25 ∷ 2 ∷ 1 ∷ 0 ∷ 98 ∷ 20 ∷ 14 ∷ 25 ∷ 2 ∷ 1 ∷ 0 ∷ 99 ∷
     29 ∷ 2 ∷ 30 ∷ 2 ∷ 25 ∷ 2 ∷ 1 ∷ 0 ∷ 65 ∷ 27 ∷ 14 ∷ 25 ∷ 2 ∷ 1 ∷ 0 ∷ 123 ∷ 24 ∷ 0 ∷ 0 ∷ 0 ∷ 25 ∷ 2 ∷ 1 ∷ 0 ∷ 125 ∷ [])
-    "abc_a{}"
+    "abcA{}"
     (note 18 2 (used 18 value_head ∷ []) ∷ space 18 [] ∷ note 34 4 (used 34 opening_brace ∷ []) ∷ space 34 [] ∷ [])
     -- Text as a definition's value
     ∷ row lower (24 ∷ 0 ∷ 1 ∷ 0 ∷ 6 ∷ 14 ∷ 25 ∷ 2 ∷ 1 ∷ 0 ∷ 97 ∷ 25 ∷ 2 ∷ 1 ∷ 0 ∷ 98 ∷ 21 ∷ 10 ∷ 25 ∷ 2 ∷ 1 ∷ 0 ∷ 99 ∷
     29 ∷ 2 ∷ 30 ∷ 2 ∷ 25 ∷ 2 ∷ 1 ∷ 0 ∷ 65 ∷ [])
-    "abc_a"
+    "abcA"
     (note 18 2 (used 18 value_head ∷ []) ∷ space 18 [] ∷ [])
     -- Trace as a definition's value
     ∷ row lower (24 ∷ 0 ∷ 1 ∷ 0 ∷ 6 ∷ 14 ∷ 25 ∷ 2 ∷ 1 ∷ 0 ∷ 97 ∷ 25 ∷ 2 ∷ 1 ∷ 0 ∷ 98 ∷ 22 ∷ 10 ∷ 25 ∷ 2 ∷ 1 ∷ 0 ∷ 99 ∷
@@ -308,26 +308,26 @@ rows =
     -- VariableDefinition as a definition's value
     ∷ row lower (24 ∷ 0 ∷ 1 ∷ 0 ∷ 6 ∷ 14 ∷ 25 ∷ 2 ∷ 1 ∷ 0 ∷ 97 ∷ 25 ∷ 2 ∷ 1 ∷ 0 ∷ 98 ∷ 23 ∷ 30 ∷ 25 ∷ 2 ∷ 1 ∷ 0 ∷ 0 ∷ 25
     ∷ 2 ∷ 1 ∷ 0 ∷ 99 ∷ 25 ∷ 2 ∷ 1 ∷ 0 ∷ 65 ∷ 29 ∷ 2 ∷ 30 ∷ 2 ∷ 25 ∷ 2 ∷ 1 ∷ 0 ∷ 66 ∷ [])
-    "ab.constc_aB"
+    "ab.constcAB"
     (note 18 2 (used 18 value_head ∷ []) ∷ space 18 [] ∷ [])
     -- Braces as a pair's value
     ∷ row lower (24 ∷ 0 ∷ 1 ∷ 0 ∷ 4 ∷ 14 ∷ 25 ∷ 2 ∷ 1 ∷ 0 ∷ 97 ∷ 25 ∷ 2 ∷ 1 ∷ 0 ∷ 65 ∷ 2 ∷ 2 ∷ 27 ∷ 14 ∷ 25 ∷ 2 ∷ 1 ∷ 0
     ∷ 123 ∷ 24 ∷ 0 ∷ 0 ∷ 0 ∷ 25 ∷ 2 ∷ 1 ∷ 0 ∷ 125 ∷ [])
-    "a_a{}"
+    "aA{}"
     (note 16 2 [] ∷ note 20 2 (used 20 opening_brace ∷ used 20 value_head ∷ []) ∷ space 20 [] ∷ [])
     -- Config as a pair's value
     ∷ row lower (24 ∷ 0 ∷ 1 ∷ 0 ∷ 4 ∷ 14 ∷ 25 ∷ 2 ∷ 1 ∷ 0 ∷ 97 ∷ 25 ∷ 2 ∷ 1 ∷ 0 ∷ 65 ∷ 3 ∷ 2 ∷ 27 ∷ 14 ∷ 25 ∷ 2 ∷ 1 ∷ 0
     ∷ 123 ∷ 24 ∷ 0 ∷ 0 ∷ 0 ∷ 25 ∷ 2 ∷ 1 ∷ 0 ∷ 125 ∷ [])
-    "a_a{}"
+    "aA{}"
     (note 16 2 [] ∷ note 20 2 (used 20 opening_brace ∷ used 20 value_head ∷ []) ∷ space 20 [] ∷ [])
     -- Expression as a pair's value
     ∷ row lower (24 ∷ 0 ∷ 1 ∷ 0 ∷ 4 ∷ 14 ∷ 25 ∷ 2 ∷ 1 ∷ 0 ∷ 97 ∷ 25 ∷ 2 ∷ 1 ∷ 0 ∷ 65 ∷ 9 ∷ 2 ∷ 29 ∷ 2 ∷ 30 ∷ 2 ∷ 25 ∷ 2
     ∷ 1 ∷ 0 ∷ 66 ∷ [])
-    "a_aB"
+    "aAB"
     (note 16 2 [] ∷ note 20 2 [] ∷ [])
     -- Instruction as a pair's value
     ∷ row lower (24 ∷ 0 ∷ 1 ∷ 0 ∷ 4 ∷ 14 ∷ 25 ∷ 2 ∷ 1 ∷ 0 ∷ 97 ∷ 25 ∷ 2 ∷ 1 ∷ 0 ∷ 65 ∷ 13 ∷ 2 ∷ 25 ∷ 2 ∷ 1 ∷ 0 ∷ 0 ∷ [])
-    "a_aadc"
+    "aAadc"
     (note 16 2 [] ∷ note 18 2 (used 18 value_head ∷ []) ∷ space 18 [] ∷ [])
     -- a block
     ∷ row lower (24 ∷ 0 ∷ 1 ∷ 0 ∷ 2 ∷ 2 ∷ 27 ∷ 14 ∷ 25 ∷ 2 ∷ 1 ∷ 0 ∷ 123 ∷ 24 ∷ 0 ∷ 1 ∷ 0 ∷ 8 ∷ 2 ∷ 25 ∷ 2 ∷ 1 ∷ 0 ∷ 97
@@ -337,12 +337,12 @@ rows =
     -- a string
     ∷ row lower (24 ∷ 0 ∷ 1 ∷ 0 ∷ 12 ∷ 6 ∷ 25 ∷ 2 ∷ 1 ∷ 0 ∷ 97 ∷ 36 ∷ 6 ∷ 25 ∷ 2 ∷ 1 ∷ 0 ∷ 65 ∷ 24 ∷ 0 ∷ 2 ∷ 0 ∷ 25 ∷ 2
     ∷ 1 ∷ 0 ∷ 98 ∷ 26 ∷ 2 ∷ 1 ∷ 0 ∷ 99 ∷ [])
-    "a_ab{c}\""
+    "aAb{c}\""
     (note 27 3 (used 27 path_item ∷ []) ∷ space 27 [] ∷ [])
     -- an operand
     ∷ row lower (24 ∷ 0 ∷ 1 ∷ 0 ∷ 13 ∷ 6 ∷ 25 ∷ 2 ∷ 1 ∷ 0 ∷ 0 ∷ 37 ∷ 54 ∷ 29 ∷ 2 ∷ 30 ∷ 2 ∷ 25 ∷ 2 ∷ 1 ∷ 0 ∷ 65 ∷ 25 ∷ 2
     ∷ 1 ∷ 0 ∷ 66 ∷ 25 ∷ 2 ∷ 1 ∷ 0 ∷ 0 ∷ 38 ∷ 6 ∷ 25 ∷ 2 ∷ 1 ∷ 0 ∷ 67 ∷ 25 ∷ 2 ∷ 1 ∷ 0 ∷ 0 ∷ [])
-    "adc_bACx"
+    "adcBACx"
     (note 22 3 [] ∷ note 34 5 [] ∷ note 39 6 (used 39 register_letter ∷ []) ∷ space 39 [] ∷ [])
     -- an operand of mode 0 with a closing character
     ∷ row (casings 0 0) (24 ∷ 0 ∷ 1 ∷ 0 ∷ 13 ∷ 6 ∷ 25 ∷ 2 ∷ 1 ∷ 0 ∷ 0 ∷ 37 ∷ 62 ∷ 29 ∷ 2 ∷ 30 ∷ 2 ∷ 25 ∷ 2 ∷ 1 ∷ 0 ∷ 65
@@ -360,33 +360,33 @@ rows =
     ∷ row (casings 1 0) (24 ∷ 0 ∷ 1 ∷ 0 ∷ 13 ∷ 6 ∷ 25 ∷ 2 ∷ 1 ∷ 0 ∷ 0 ∷ 37 ∷ 62 ∷ 29 ∷ 2 ∷ 30 ∷ 2 ∷ 25 ∷ 2 ∷ 1 ∷ 0 ∷ 65
     ∷ 25 ∷ 2 ∷ 1 ∷ 0 ∷ 66 ∷ 25 ∷ 2 ∷ 1 ∷ 0 ∷ 67 ∷ 25 ∷ 2 ∷ 1 ∷ 0 ∷ 2 ∷ 38 ∷ 6 ∷ 25 ∷ 2 ∷ 1 ∷ 0 ∷ 68 ∷ 25 ∷ 2 ∷ 1 ∷ 0 ∷ 0
     ∷ [])
-    "adc_bADXC"
+    "adcBADXC"
     (note 27 7 (used 27 closing_character ∷ []) ∷ space 27 (used 27 closing_character ∷ []) ∷ [])
     -- an operand of mode 3 with a closing character
     ∷ row lower (24 ∷ 0 ∷ 1 ∷ 0 ∷ 13 ∷ 6 ∷ 25 ∷ 2 ∷ 1 ∷ 0 ∷ 0 ∷ 37 ∷ 62 ∷ 29 ∷ 2 ∷ 30 ∷ 2 ∷ 25 ∷ 2 ∷ 1 ∷ 0 ∷ 65 ∷ 25 ∷ 2
     ∷ 1 ∷ 0 ∷ 66 ∷ 25 ∷ 2 ∷ 1 ∷ 0 ∷ 67 ∷ 25 ∷ 2 ∷ 1 ∷ 0 ∷ 3 ∷ 38 ∷ 6 ∷ 25 ∷ 2 ∷ 1 ∷ 0 ∷ 68 ∷ 25 ∷ 2 ∷ 1 ∷ 0 ∷ 0 ∷ [])
-    "adc_bADx_c"
+    "adcBADxC"
     (note 27 7 [] ∷ [])
     -- an operand of mode 4 with a closing character
     ∷ row lower (24 ∷ 0 ∷ 1 ∷ 0 ∷ 13 ∷ 6 ∷ 25 ∷ 2 ∷ 1 ∷ 0 ∷ 0 ∷ 37 ∷ 62 ∷ 29 ∷ 2 ∷ 30 ∷ 2 ∷ 25 ∷ 2 ∷ 1 ∷ 0 ∷ 65 ∷ 25 ∷ 2
     ∷ 1 ∷ 0 ∷ 66 ∷ 25 ∷ 2 ∷ 1 ∷ 0 ∷ 67 ∷ 25 ∷ 2 ∷ 1 ∷ 0 ∷ 4 ∷ 38 ∷ 6 ∷ 25 ∷ 2 ∷ 1 ∷ 0 ∷ 68 ∷ 25 ∷ 2 ∷ 1 ∷ 0 ∷ 0 ∷ [])
-    "adc_bACDx"
+    "adcBACDx"
     (note 27 5 [] ∷ [])
     -- signs before a factor
     ∷ row lower (24 ∷ 0 ∷ 1 ∷ 0 ∷ 0 ∷ 6 ∷ 25 ∷ 2 ∷ 1 ∷ 0 ∷ 97 ∷ 29 ∷ 14 ∷ 30 ∷ 2 ∷ 25 ∷ 2 ∷ 1 ∷ 0 ∷ 65 ∷ 25 ∷ 2 ∷ 1 ∷ 0
     ∷ 66 ∷ 25 ∷ 2 ∷ 1 ∷ 0 ∷ 67 ∷ [])
-    "a_bCA"
+    "aBCA"
     (note 20 1 [] ∷ note 25 2 [] ∷ [])
     -- ExprParens in an expression
     ∷ row lower (24 ∷ 0 ∷ 1 ∷ 0 ∷ 0 ∷ 6 ∷ 25 ∷ 2 ∷ 1 ∷ 0 ∷ 97 ∷ 29 ∷ 2 ∷ 31 ∷ 14 ∷ 25 ∷ 2 ∷ 1 ∷ 0 ∷ 65 ∷ 29 ∷ 2 ∷ 30 ∷ 2
     ∷ 25 ∷ 2 ∷ 1 ∷ 0 ∷ 66 ∷ 25 ∷ 2 ∷ 1 ∷ 0 ∷ 67 ∷ [])
-    "a_aBC"
+    "aABC"
     (note 13 1 [] ∷ note 15 1 [] ∷ note 20 2 [] ∷ note 29 3 [] ∷ [])
     -- FunctionCall in an expression
     ∷ row lower (24 ∷ 0 ∷ 1 ∷ 0 ∷ 0 ∷ 6 ∷ 25 ∷ 2 ∷ 1 ∷ 0 ∷ 97 ∷ 29 ∷ 2 ∷ 32 ∷ 30 ∷ 25 ∷ 2 ∷ 1 ∷ 0 ∷ 98 ∷ 25 ∷ 2 ∷ 1 ∷ 0
     ∷ 65 ∷ 24 ∷ 0 ∷ 1 ∷ 0 ∷ 42 ∷ 6 ∷ 29 ∷ 2 ∷ 30 ∷ 2 ∷ 25 ∷ 2 ∷ 1 ∷ 0 ∷ 66 ∷ 25 ∷ 2 ∷ 1 ∷ 0 ∷ 67 ∷ 25 ∷ 2 ∷ 1 ∷ 0 ∷ 68 ∷
     [])
-    "ab_aBCD"
+    "abABCD"
     (note 13 1 [] ∷ note 15 1 [] ∷ note 20 2 [] ∷ note 45 5 [] ∷ [])
     -- IdentifierValue in an expression
     ∷ row lower (24 ∷ 0 ∷ 1 ∷ 0 ∷ 0 ∷ 6 ∷ 25 ∷ 2 ∷ 1 ∷ 0 ∷ 97 ∷ 29 ∷ 2 ∷ 33 ∷ 6 ∷ 25 ∷ 2 ∷ 1 ∷ 0 ∷ 98 ∷ 25 ∷ 2 ∷ 1 ∷ 0 ∷
@@ -441,7 +441,7 @@ rows =
     2 ∷ 1 ∷ 0 ∷ 123 ∷ 24 ∷ 0 ∷ 3 ∷ 0 ∷ 2 ∷ 2 ∷ 27 ∷ 14 ∷ 25 ∷ 2 ∷ 1 ∷ 0 ∷ 123 ∷ 24 ∷ 0 ∷ 0 ∷ 0 ∷ 25 ∷ 2 ∷ 1 ∷ 0 ∷ 125 ∷
     3 ∷ 2 ∷ 27 ∷ 14 ∷ 25 ∷ 2 ∷ 1 ∷ 0 ∷ 123 ∷ 24 ∷ 0 ∷ 0 ∷ 0 ∷ 25 ∷ 2 ∷ 1 ∷ 0 ∷ 125 ∷ 9 ∷ 2 ∷ 29 ∷ 2 ∷ 30 ∷ 2 ∷ 25 ∷ 2 ∷
     1 ∷ 0 ∷ 66 ∷ 25 ∷ 2 ∷ 1 ∷ 0 ∷ 125 ∷ [])
-    "a_a{{}{}B}"
+    "aA{{}{}B}"
     (note 35 3 [] ∷ note 53 5 [] ∷ note 71 7 (used 71 expression_head ∷ []) ∷ space 71 [] ∷ [])
     -- tokens in a block that is a value
     ∷ row lower (24 ∷ 0 ∷ 1 ∷ 0 ∷ 6 ∷ 14 ∷ 25 ∷ 2 ∷ 1 ∷ 0 ∷ 97 ∷ 25 ∷ 2 ∷ 1 ∷ 0 ∷ 98 ∷ 2 ∷ 2 ∷ 27 ∷ 14 ∷ 25 ∷ 2 ∷ 1 ∷ 0

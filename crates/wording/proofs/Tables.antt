@@ -46,8 +46,8 @@ unfolding cuts ascii token_kinds
 token_texts = refl
 
 pub part_texts : cuts
-    (ascii "listleafpath item_block_binary_expression_factor_current_program_counter_expr_parens"
-    ++ ascii "FunctionCallIdentifierValueNumberInterpolatedString factor_interpolated_string_operand_register_suffix_import_as_import_args::AllSpecificImportArgArgItem")
+    (ascii "listleafpath itemBlockBinaryExpressionFactorCurrentProgramCounterExprParens"
+    ++ ascii "FunctionCallIdentifierValueNumberInterpolatedString factorInterpolatedStringOperandRegisterSuffixImportAsImportArgs::AllSpecificImportArgArgItem")
     (0 ∷ 4 ∷ 8 ∷ 17 ∷ 22 ∷ 38 ∷ 44 ∷ 65 ∷ 75 ∷ 87 ∷ 102 ∷ 108 ∷ 133 ∷ 151 ∷ 158 ∷ 172 ∷ 180 ∷ 195 ∷ 212 ∷ 219 ∷ [])
     ≡ map ascii part_kinds
 unfolding cuts ascii part_kinds

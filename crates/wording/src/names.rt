@@ -36,7 +36,7 @@ fn put_part(line: &mut [u8], at: usize, number: usize) -> usize
     ensures { line_in line.new result ≡ puts (say (get_or part_kinds number "")) (line_in line.old at) }
 {
     let names =
-        b"listleafpath item_block_binary_expression_factor_current_program_counter_expr_parens_function_call_identifier_value_number_interpolated_string factor_interpolated_string_operand_register_suffix_import_as_import_args::AllSpecificImportArgArgItem";
+        b"listleafpath itemBlockBinaryExpressionFactorCurrentProgramCounterExprParensFunctionCallIdentifierValueNumberInterpolatedString factorInterpolatedStringOperandRegisterSuffixImportAsImportArgs::AllSpecificImportArgArgItem";
     let places = [
         0usize, 4, 8, 17, 22, 38, 44, 65, 75, 87, 102, 108, 133, 151, 158, 172, 180, 195, 212, 219,
     ];
