@@ -201,8 +201,9 @@ def size_table(uses):
 
 def named_in(path):
     """The files of definitions that a file uses."""
-    found = re.findall(r"use Rattle·(\w+)(?:·specs\.specs|\.specs)\.(\w+)", path.read_text())
-    return [ROOT / "crates" / crate / "specs" / f"{name}.antt" for crate, name in found if name != "declared"]
+    found = re.findall(r"use Rattle\.(\w+)\.specs\.(\w+)", path.read_text())
+    own = [(ROOT / "crates" / crate, name) for crate, name in found if name != "declared"]
+    return [folder / "specs" / f"{name}.antt" for folder, name in own if folder.is_dir()]
 
 
 def reached_from(path):

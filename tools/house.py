@@ -31,9 +31,11 @@ COMPARED = re.compile(rf"{NUMBER} [!=]= \d")
 MATCHED = re.compile(rf"match .*?{NUMBER} {{")
 ARM = re.compile(r"^ *\d+(?: \| \d+|\.\.=?\d+)* =>", re.MULTILINE)
 CALL = re.compile(r"(?<!fn )\b[a-z_]\w*\(")
-CLAUSE = re.compile(r"^ *(?:requires|ensures)(?: \w+)? \{", re.MULTILINE)
+CLAUSE = re.compile(r"^ *(?:requires|ensures)(?: [\w-]+)? \{", re.MULTILINE)
 LAW = re.compile(r"(?:pub )?([^\s(){}:]+) : (.*)")
 DEFINED = re.compile(r"^(?:(?:abbrev|unfoldable|pub|record|data) )*([^\s(){}:]+)(?= .*:)", re.MULTILINE)
+# what a function's proof is written in: no laws
+PROOFS = ("/Proof.antt", "/Invariants.antt", "/Answers.antt")
 BINDER = re.compile(r"[({]([^(){}:→]+) : |λ ([^().]+)\.")
 WORD = re.compile(r"\.?[^\s(){}.,]+|[(){}.,]")
 
@@ -133,7 +135,7 @@ def laws():
     groups = defaultdict(list)
     for name, text in texts("crates/*/proofs/**/*.antt").items():
         own = set(DEFINED.findall(text))
-        for law, statement in statements(text) if not name.endswith("/Proof.antt") else ():
+        for law, statement in statements(text) if not name.endswith(PROOFS) else ():
             groups[" ".join(plain(name, own, statement))].append(f"{name}:{law}")
     return ["; ".join(places) for places in groups.values() if len(places) > 1]
 
