@@ -95,8 +95,6 @@ CHECK_TIMES = {
     "lesson": 118,
 }
 
-LIBRARIES = {"io", "libc"}
-
 LEGEND = "brown: data; blue: a crate, and the crates it stands on; grey: calls, or states laws of; in brackets: refusals"
 
 
@@ -104,7 +102,7 @@ def crates():
     """Each crate of crates.txt with the crates that it uses, in the order of the file."""
     lines = (ROOT / "crates.txt").read_text().splitlines()
     rows = [line.split(":") for line in lines if line and not line.startswith("#")]
-    return {name: [used for used in uses.split() if used not in LIBRARIES] for name, uses in rows}
+    return {name.split()[0]: uses.split() for name, uses in rows}
 
 
 def stands_on(name, uses):

@@ -3,17 +3,18 @@ use std::env;
 use std::path::{Path, PathBuf};
 use std::process::{Command, exit};
 
-/// The folder that `rt staticlib` writes to, in the repository of which this crate is a part.
+/// The folder that `rt lib` writes to, in crate `exports` of the repository of which this crate is a part.
 fn built_here(repository: &Path) -> PathBuf {
-    let folder = repository.join("target/staticlib");
+    let exports = repository.join("crates/exports");
+    let folder = exports.join("out");
     if !folder.join("libexports.a").exists() {
         let done = Command::new("rt")
-            .args(["staticlib", "exports"])
-            .current_dir(repository)
+            .arg("lib")
+            .current_dir(&exports)
             .status();
         if !done.is_ok_and(|status| status.success()) {
             eprintln!(
-                "`rt staticlib exports` gave no library; or set FELGUTROSA_LIB to the folder of libexports.a"
+                "`rt lib` in crates/exports gave no library; or set FELGUTROSA_LIB to the folder of libexports.a"
             );
             exit(1);
         }
