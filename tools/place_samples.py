@@ -25,8 +25,8 @@ NOTED = [(1, b""), (2, b"/**/"), (3, b"//")]
 COMMENTS = b"/**///"
 BLANK = [(0, b" "), (1, b"")]
 
-SPOTS = dict(zip("abcdefgh", """openingBrace labelColon valueHead importPath pathItem registerLetter expressionHead
-    closingCharacter""".split()))
+SPOTS = dict(zip("abcdefgh", """opening_brace label_colon value_head import_path path_item register_letter expression_head
+    closing_character""".split()))
 
 # The casings of mnemonics and of registers: 0 is upper, 1 lower.
 LOWER = (1, 1)

@@ -52,10 +52,10 @@ STYLES = [
     Style("mnemonic", "Mnemonic", 0, lambda leaf: holding(13, mnemonic=leaf)),
     Style("register", "IndexRegister", 1, suffixed),
     Style("operator", "BinaryOp", 1, operated),
-    Style("dataSize", "DataSize", 0, lambda leaf: holding(5, size=leaf)),
+    Style("data_size", "DataSize", 0, lambda leaf: holding(5, size=leaf)),
     Style("encoding", "TextEncoding", 1, encoded),
-    Style("variableType", "VariableType", 0, lambda leaf: holding(23, ty=leaf, id=gen.leaf(MARK))),
-    Style("numberType", "NumberType", 0, lambda leaf: factor(34, ty=leaf, value=gen.leaf(MARK))),
+    Style("variable_type", "VariableType", 0, lambda leaf: holding(23, ty=leaf, id=gen.leaf(MARK))),
+    Style("number_type", "NumberType", 0, lambda leaf: factor(34, ty=leaf, value=gen.leaf(MARK))),
     Style("modifier", "AddressModifier", 0, lambda leaf: factor(33, modifier=leaf, path=gen.leaf(MARK))),
 ]
 
