@@ -1,7 +1,10 @@
 // Answers a stream of cases from standard input on standard output: README.md beside src/ says how a case and an answer are written.
+#![tactic(auto)]
+
 use answers::Answer;
-use libc::{STDIN_FILENO, STDOUT_FILENO};
 use losses::search::Loss;
+use std::io;
+use std::io::{BufReader, BufWriter, ErrorKind, Read, Write};
 use text::{numbers, stores};
 
 // A number that was read, or the end of the input.
@@ -11,36 +14,48 @@ enum Got {
     Ended,
 }
 
+// Fills a buffer; false where the input ends before.
+fn read_full(input: &mut impl Read, buffer: &mut [u8]) -> io::Result<bool> {
+    match input.read_exact(buffer) {
+        Ok(()) => Ok(true),
+        Err(error) => {
+            if error.kind() == ErrorKind::UnexpectedEof {
+                return Ok(false);
+            }
+            Err(error)
+        }
+    }
+}
+
 // A number of four bytes, the low byte first.
-fn read_four() -> Got {
+fn read_four(input: &mut impl Read) -> io::Result<Got> {
     let mut bytes = [0u8; 4];
-    let got = io::read_full(STDIN_FILENO, &mut bytes);
-    if got < 4 {
-        return Got::Ended;
+    if !read_full(input, &mut bytes)? {
+        return Ok(Got::Ended);
     }
     let low = numbers::wide(bytes[0]) + 256 * numbers::wide(bytes[1]);
     let high = numbers::wide(bytes[2]) + 256 * numbers::wide(bytes[3]);
-    Got::Number(low + 65536 * high)
+    Ok(Got::Number(low + 65536 * high))
 }
 
 // Reads `count` bytes to a buffer's start; false where they do not fit or the input ends.
-fn read_part(buffer: &mut [u8], count: usize) -> bool {
+fn read_part(input: &mut impl Read, buffer: &mut [u8], count: usize) -> io::Result<bool> {
     if buffer.len() < count {
-        return false;
+        return Ok(false);
     }
-    io::read_full(STDIN_FILENO, &mut buffer[..count]) == count
+    read_full(input, &mut buffer[..count])
 }
 
 // Reads a length and as many bytes.
-fn read_sized(buffer: &mut [u8]) -> Got {
-    let length = read_four();
+fn read_sized(input: &mut impl Read, buffer: &mut [u8]) -> io::Result<Got> {
+    let length = read_four(input)?;
     let Got::Number(count) = length else {
-        return Got::Ended;
+        return Ok(Got::Ended);
     };
-    if read_part(buffer, count) {
-        return Got::Number(count);
+    if read_part(input, buffer, count)? {
+        return Ok(Got::Number(count));
     }
-    Got::Ended
+    Ok(Got::Ended)
 }
 
 // Whether all bytes of a slice are one byte.
@@ -56,7 +71,7 @@ fn all_are(bytes: &[u8], byte: u8) -> bool {
 }
 
 // Writes the number, the length or place, and the flag.
-fn write_head(answer: Answer, flag: u8) {
+fn write_head(out: &mut impl Write, answer: Answer, flag: u8) -> io::Result<()> {
     let value = answer.value();
     let mut bytes = [0u8; 6];
     bytes[0] = (answer.number() % 256) as u8;
@@ -65,7 +80,7 @@ fn write_head(answer: Answer, flag: u8) {
     bytes[3] = (value / 65536 % 256) as u8;
     bytes[4] = (value / 16777216 % 256) as u8;
     bytes[5] = flag;
-    io::write_all(STDOUT_FILENO, &bytes);
+    out.write_all(&bytes)
 }
 
 // The flag: 1 where a byte behind the text changed.
@@ -80,18 +95,24 @@ fn flag_of(text: &[u8], from: usize) -> u8 {
 }
 
 // A case of the column setter.
-fn answer_join(options: &[u8], chunks: &[u8], text: &mut [u8]) {
+fn answer_join(
+    out: &mut impl Write,
+    options: &[u8],
+    chunks: &[u8],
+    text: &mut [u8],
+) -> io::Result<()> {
     stores::fill(text, 0, text.len(), 165);
     let answer = join::join_chunks(chunks, options, text);
     match answer {
         Answer::Accepted(length) => {
-            write_head(answer, flag_of(text, length));
+            write_head(out, answer, flag_of(text, length))?;
             if length <= text.len() {
-                io::write_all(STDOUT_FILENO, &text[..length]);
+                out.write_all(&text[..length])?;
             }
         }
-        Answer::Refused(_) => write_head(answer, flag_of(text, 0)),
+        Answer::Refused(_) => write_head(out, answer, flag_of(text, 0))?,
     }
+    Ok(())
 }
 
 // Fills a room with a part, again and again; the last copy may be cut.
@@ -108,33 +129,46 @@ fn repeat(part: &[u8], room: &mut [u8]) {
 }
 
 // A case of the column setter with a list that fills the work room; false where there is nothing to repeat.
-fn answer_repeated(options: &[u8], part: &[u8], room: &mut [u8], text: &mut [u8]) -> bool {
+fn answer_repeated(
+    out: &mut impl Write,
+    options: &[u8],
+    part: &[u8],
+    room: &mut [u8],
+    text: &mut [u8],
+) -> io::Result<bool> {
     if part.len() == 0 {
-        return false;
+        return Ok(false);
     }
     repeat(part, room);
-    answer_join(options, room, text);
-    true
+    answer_join(out, options, room, text)?;
+    Ok(true)
 }
 
 // A case of the tree's check, which has no text.
-fn answer_check(bytes: &[u8], text: &mut [u8]) {
+fn answer_check(out: &mut impl Write, bytes: &[u8], text: &mut [u8]) -> io::Result<()> {
     stores::fill(text, 0, text.len(), 165);
     let checked = tree::check_tree(bytes);
-    write_head(checked.answer(), flag_of(text, 0));
+    write_head(out, checked.answer(), flag_of(text, 0))
 }
 
 // A case of the walk: the chunks in the work room, which holds 90s before.
-fn answer_chunks(options: &[u8], bytes: &[u8], room: &mut [u8], text: &mut [u8]) {
+fn answer_chunks(
+    out: &mut impl Write,
+    options: &[u8],
+    bytes: &[u8],
+    room: &mut [u8],
+    text: &mut [u8],
+) -> io::Result<()> {
     stores::fill(text, 0, text.len(), 165);
     stores::fill(room, 0, room.len(), 90);
     let answer = tokens::chunks(bytes, options, room);
-    write_head(answer, flag_of(text, 0));
+    write_head(out, answer, flag_of(text, 0))?;
     if let Answer::Accepted(length) = answer {
         if length <= room.len() {
-            io::write_all(STDOUT_FILENO, &room[..length]);
+            out.write_all(&room[..length])?;
         }
     }
+    Ok(())
 }
 
 // The flag of the tree call: 2 more where the work room is not all zeros.
@@ -149,29 +183,36 @@ fn flag_with(work: &[u8], flag: u8) -> u8 {
 }
 
 // A case of the tree call.
-fn answer_format(options: &[u8], bytes: &[u8], work: &mut [u8], text: &mut [u8]) {
+fn answer_format(
+    out: &mut impl Write,
+    options: &[u8],
+    bytes: &[u8],
+    work: &mut [u8],
+    text: &mut [u8],
+) -> io::Result<()> {
     stores::fill(text, 0, text.len(), 165);
     stores::fill(work, 0, work.len(), 90);
     let answer = formatting::format(bytes, options, work, text);
     match answer {
         Answer::Accepted(length) => {
-            write_head(answer, flag_with(work, flag_of(text, length)));
+            write_head(out, answer, flag_with(work, flag_of(text, length)))?;
             if length <= text.len() {
-                io::write_all(STDOUT_FILENO, &text[..length]);
+                out.write_all(&text[..length])?;
             }
         }
-        Answer::Refused(_) => write_head(answer, flag_with(work, flag_of(text, 0))),
+        Answer::Refused(_) => write_head(out, answer, flag_with(work, flag_of(text, 0)))?,
     }
+    Ok(())
 }
 
 // Writes a number of four bytes, the low byte first.
-fn write_four(number: usize) {
+fn write_four(out: &mut impl Write, number: usize) -> io::Result<()> {
     let mut bytes = [0u8; 4];
     bytes[0] = (number % 256) as u8;
     bytes[1] = (number / 256 % 256) as u8;
     bytes[2] = (number / 65536 % 256) as u8;
     bytes[3] = (number / 16777216 % 256) as u8;
-    io::write_all(STDOUT_FILENO, &bytes);
+    out.write_all(&bytes)
 }
 
 // For each place the offset of its first record plus 1, or 0.
@@ -215,15 +256,15 @@ fn note_places(before: Noted, at: usize, letters: usize) -> Noted {
     }
 }
 
-fn write_noted(all: Noted) {
-    write_four(all.a);
-    write_four(all.b);
-    write_four(all.c);
-    write_four(all.d);
-    write_four(all.e);
-    write_four(all.f);
-    write_four(all.g);
-    write_four(all.h);
+fn write_noted(out: &mut impl Write, all: Noted) -> io::Result<()> {
+    write_four(out, all.a)?;
+    write_four(out, all.b)?;
+    write_four(out, all.c)?;
+    write_four(out, all.d)?;
+    write_four(out, all.e)?;
+    write_four(out, all.f)?;
+    write_four(out, all.g)?;
+    write_four(out, all.h)
 }
 
 // Nothing noted.
@@ -241,7 +282,7 @@ fn no_places() -> Noted {
 }
 
 // A case of the search for lost comments: the first record of each place, found by asking until there is no more.
-fn answer_lost(bytes: &[u8], text: &mut [u8]) {
+fn answer_lost(out: &mut impl Write, bytes: &[u8], text: &mut [u8]) -> io::Result<()> {
     stores::fill(text, 0, text.len(), 165);
     let mut all = no_places();
     let mut from: usize = 0;
@@ -251,97 +292,105 @@ fn answer_lost(bytes: &[u8], text: &mut [u8]) {
         match lost {
             Loss::Used(at, letters) => {
                 if at < from {
-                    return;
+                    return Ok(());
                 }
                 if 65535 < at {
-                    return;
+                    return Ok(());
                 }
                 all = note_places(all, at, letters);
                 from = at + 1;
             }
             Loss::Unused => {
-                write_head(Answer::Accepted(32), flag_of(text, 0));
-                write_noted(all);
-                return;
+                write_head(out, Answer::Accepted(32), flag_of(text, 0))?;
+                return write_noted(out, all);
             }
             Loss::Refused(refusal) => {
-                write_head(Answer::Refused(refusal), flag_of(text, 0));
-                return;
+                return write_head(out, Answer::Refused(refusal), flag_of(text, 0));
             }
         }
     }
+    Ok(())
 }
 
 // Answers a case by its command; false where there is no such command.
 fn answer_command(
+    out: &mut impl Write,
     command: u8,
     options: &[u8],
     payload: &[u8],
     room: &mut [u8],
     text: &mut [u8],
-) -> bool {
+) -> io::Result<bool> {
     if command == b'J' {
-        answer_join(options, payload, text);
-        return true;
+        answer_join(out, options, payload, text)?;
+        return Ok(true);
     }
     if command == b'C' {
-        answer_chunks(options, payload, room, text);
-        return true;
+        answer_chunks(out, options, payload, room, text)?;
+        return Ok(true);
     }
     if command == b'F' {
-        answer_format(options, payload, room, text);
-        return true;
+        answer_format(out, options, payload, room, text)?;
+        return Ok(true);
     }
     if command == b'K' {
-        answer_check(payload, text);
-        return true;
+        answer_check(out, payload, text)?;
+        return Ok(true);
     }
     if command == b'L' {
-        answer_lost(payload, text);
-        return true;
+        answer_lost(out, payload, text)?;
+        return Ok(true);
     }
     if command == b'R' {
-        return answer_repeated(options, payload, room, text);
+        return answer_repeated(out, options, payload, room, text);
     }
-    false
+    Ok(false)
 }
 
 // One case; false where the input ends, or a case is cut, too long or of no command.
-fn answer_case(options: &mut [u8], payload: &mut [u8], room: &mut [u8], text: &mut [u8]) -> bool {
+fn answer_case(
+    input: &mut impl Read,
+    out: &mut impl Write,
+    options: &mut [u8],
+    payload: &mut [u8],
+    room: &mut [u8],
+    text: &mut [u8],
+) -> io::Result<bool> {
     let mut command = [0u8; 1];
-    if io::read_full(STDIN_FILENO, &mut command) < 1 {
-        return false;
+    if !read_full(input, &mut command)? {
+        return Ok(false);
     }
-    let first = read_sized(options);
+    let first = read_sized(input, options)?;
     let Got::Number(options_length) = first else {
-        return false;
+        return Ok(false);
     };
-    let second = read_sized(payload);
+    let second = read_sized(input, payload)?;
     let Got::Number(payload_length) = second else {
-        return false;
+        return Ok(false);
     };
-    let third = read_four();
+    let third = read_four(input)?;
     let Got::Number(room_length) = third else {
-        return false;
+        return Ok(false);
     };
     if room.len() < room_length {
-        return false;
+        return Ok(false);
     }
-    let fourth = read_four();
+    let fourth = read_four(input)?;
     let Got::Number(text_length) = fourth else {
-        return false;
+        return Ok(false);
     };
     if options.len() < options_length {
-        return false;
+        return Ok(false);
     }
     if payload.len() < payload_length {
-        return false;
+        return Ok(false);
     }
     if text.len() < text_length {
-        return false;
+        return Ok(false);
     }
     let first_byte = command[0];
     answer_command(
+        out,
         first_byte,
         &options[..options_length],
         &payload[..payload_length],
@@ -350,31 +399,49 @@ fn answer_case(options: &mut [u8], payload: &mut [u8], room: &mut [u8], text: &m
     )
 }
 
-// Answers every case; the buffers have the longest lengths that a case may have.
+// Answers every case, each before the next is read; the buffers have the longest lengths that a case may have.
 fn answer_all(
+    input: &mut impl Read,
+    out: &mut impl Write,
     options: &mut [u8; 16],
     payload: &mut [u8; 1114112],
     room: &mut [u8; 1114112],
     text: &mut [u8; 1114112],
-) {
+) -> io::Result<()> {
     let option_bytes: &mut [u8] = options;
     let payload_bytes: &mut [u8] = payload;
     let room_bytes: &mut [u8] = room;
     let text_bytes: &mut [u8] = text;
     // More cases than any input has: a program is proved to end.
-    let mut left: usize = 18446744073709551615;
-    while 0 < left {
-        if !answer_case(option_bytes, payload_bytes, room_bytes, text_bytes) {
-            return;
+    for _ in 0..u64::MAX {
+        if !answer_case(
+            input,
+            out,
+            option_bytes,
+            payload_bytes,
+            room_bytes,
+            text_bytes,
+        )? {
+            return Ok(());
         }
-        left -= 1;
+        out.flush()?;
     }
+    Ok(())
 }
 
-fn main() {
+fn main(rt: HostRuntime) -> io::Result<()> {
+    let mut input = BufReader::new(rt.alloc(), rt.reader())?;
+    let mut out = BufWriter::new(rt.alloc(), io::writer(&rt))?;
     let mut options = [0u8; 16];
     let mut payload = [0u8; 1114112];
     let mut room = [0u8; 1114112];
     let mut text = [0u8; 1114112];
-    answer_all(&mut options, &mut payload, &mut room, &mut text);
+    answer_all(
+        &mut input,
+        &mut out,
+        &mut options,
+        &mut payload,
+        &mut room,
+        &mut text,
+    )
 }
