@@ -20,7 +20,8 @@ TOKEN = re.compile(r"[^\s(){}\[\],;\"`λ.:→≡∷@|]+")
 DEFINED = re.compile(
     r"^(?P<indent>\s*)(?:(?:abbrev|unfoldable|ruleset|data|record|pub|open)\s+)*(?P<name>[^\s:(){}.,;]+)\s*:(?!:)"
 )
-CLAUSE_NAME = re.compile(r"(\b(?:ensures|requires)\s+)([a-z]+(?:-[a-z]+)+)")
+# What stands in a literal is a program's, and stays.
+STRING = re.compile(r'"(?:[^"\\\n]|\\.)*"')
 
 
 def read(path):
@@ -127,8 +128,11 @@ def defined_names(text):
 
 def respell(text, table, path):
     known = aliases(text)
+    strings = [m.span() for m in STRING.finditer(text)]
     out, last = [], 0
     for m in TOKEN.finditer(text):
+        if any(start < m.start() < end for start, end in strings):
+            continue
         w = m.group()
         base = w.rstrip("₀₁₂'")
         new = table.get(w) or (table.get(base) and table[base] + w[len(base):])

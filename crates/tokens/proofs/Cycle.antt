@@ -9,8 +9,6 @@ use lib.ListN.{get_or, replicate}
 use lib.Dec.{eqb}
 use native.Mathlib.Omega.{arith}
 use borrow.Author.Tests.{eqb-true, eqb-false}
-use denote.Enum.Declared.{tag_of}
-use types.Run.{OneOf}
 use Rattle.text.proofs.Choices.{by_test, no_other}
 use Rattle.answers.specs.declared.Refusal.{Refusal}
 use Rattle.options.specs.declared.BracePosition.{BracePosition}
@@ -221,12 +219,6 @@ sort Branches = 3
 -- something is not nothing
 some_inside : {P : Type 0} {inside : Inner} → 0 < sort inside → inside ≡ Nothing → P
 some_inside {inside = inside} some none = let zero-sort : sort inside ≡ 0 = ap sort none in absurd (omega (arith, some, zero-sort))
-
--- nor is what is one of the others
-pub not_nothing : {P : Type 0} {inside : Inner} → OneOf (1 ∷ 2 ∷ 3 ∷ []) (tag_of inners.the_type inside) → inside ≡ Nothing → P
-not_nothing {inside = inside} others none =
-    let one : OneOf (1 ∷ 2 ∷ 3 ∷ []) 0 = rw none at others in
-    ⊎_elim (λ same. absurd (omega (arith, same))) (λ later. ⊎_elim (λ same. absurd (omega (arith, same))) (λ same. absurd (omega (arith, same))) later) one
 
 -- a bound is met or lowered
 at_most : {P : Type 0} (number bound : ℕ) → number ≤ suc bound → (number ≡ suc bound → P) → (number ≤ bound → P) → P

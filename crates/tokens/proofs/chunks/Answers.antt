@@ -14,10 +14,10 @@ unfolding chunks_held chunks_room
 returns-in-Options c =
     let same = sym c.read_options-read.ensures.answer ∙ c.in-Options.is in
     let said = c.chunks_with.ensures in
-    rw same (said.answer, (said.stored, (said.room, held_numbers _ said.answer)))
+    rw same (record { answer = said.answer; stored = said.stored; room = said.room; numbers = held_numbers _ said.answer })
 
 pub returns-in-Refused : goal.returns-in-Refused
 unfolding chunks_held chunks_room
 returns-in-Refused c =
     let same = sym c.read_options-read.ensures.answer ∙ c.in-Refused.is in
-    rw same (refl, (tt, (refl, held_numbers _ refl)))
+    rw same (record { answer = refl; stored = tt; room = refl; numbers = held_numbers _ refl })

@@ -7,11 +7,9 @@ use Rattle.tokens.proofs.chunks_with.Goals as goal
 pub returns-in-Failed : goal.returns-in-Failed
 returns-in-Failed c =
     let whole = whole_failed _ _ _ _ (sym c.check_tree-checked.ensures.answer ∙ c.in-Failed.is) in
-    let told = (whole.answered, (whole.holds, whole.whole)) in
-    record { answer = told.0; stored = told.1.0; room = told.1.1 }
+    record { answer = whole.answered; stored = whole.holds; room = whole.whole }
 
 pub returns : goal.returns
 returns c =
     let whole = whole_walked _ _ _ c.requires (sym c.check_tree-checked.ensures.answer ∙ c.in_default.is) c.walk_file-printed.ensures in
-    let told = (c.printed_answer.ensures ∙ whole.answered, (whole.holds, whole.whole)) in
-    record { answer = told.0; stored = told.1.0; room = told.1.1 }
+    record { answer = c.printed_answer.ensures ∙ whole.answered; stored = whole.holds; room = whole.whole }

@@ -7,29 +7,25 @@ use Rattle.tokens.proofs.one_pass_with.Goals as goal
 pub returns-in-Failed : goal.returns-in-Failed
 returns-in-Failed c =
     let pass = pass_unsized _ _ _ _ (sym c.check_length-sized.ensures.answer ∙ c.in-Failed.is) in
-    let told = (pass.answered, (pass.holds, pass.whole)) in
-    record { answer = told.0; stored = told.1.0; room = told.1.1 }
+    record { answer = pass.answered; stored = pass.holds; room = pass.whole }
 
 pub returns-then-settles : goal.returns-then-settles
 returns-then-settles c =
     let pass =
     pass_settled _ _ _ c.requires (sym c.check_length-sized.ensures.answer ∙ c.in_default.is) c.walk_file-printed.ensures
     (sym c.settles.ensures ∙ c.if-settles.true) in
-    let told = (c.printed_answer-answer.ensures ∙ pass.answered, (pass.holds, pass.whole)) in
-    record { answer = told.0; stored = told.1.0; room = told.1.1 }
+    record { answer = c.printed_answer-answer.ensures ∙ pass.answered; stored = pass.holds; room = pass.whole }
 
 pub returns-in-Failed-checked : goal.returns-in-Failed-checked
 returns-in-Failed-checked c =
     let pass =
     pass_failed _ _ _ c.requires (sym c.check_length-sized.ensures.answer ∙ c.in_default.is) c.walk_file-printed.ensures
     _ (sym c.check_tree-checked.ensures.answer ∙ c.in-Failed-checked.is) in
-    let told = (pass.answered, (pass.holds, pass.whole)) in
-    record { answer = told.0; stored = told.1.0; room = told.1.1 }
+    record { answer = pass.answered; stored = pass.holds; room = pass.whole }
 
 pub returns : goal.returns
 returns c =
     let pass =
     pass_passed _ _ _ c.requires (sym c.check_length-sized.ensures.answer ∙ c.in_default.is) c.walk_file-printed.ensures
     (sym c.check_tree-checked.ensures.answer ∙ c.in_default-checked.is) in
-    let told = (c.printed_answer-answer.ensures ∙ pass.answered, (pass.holds, pass.whole)) in
-    record { answer = told.0; stored = told.1.0; room = told.1.1 }
+    record { answer = c.printed_answer-answer.ensures ∙ pass.answered; stored = pass.holds; room = pass.whole }

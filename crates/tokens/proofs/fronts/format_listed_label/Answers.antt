@@ -5,6 +5,6 @@ use borrow.Author.Rules.{rules}
 use Rattle.tokens.proofs.fronts.format_listed_label.Goals as goal
 
 pub returns : goal.returns
-returns c =
+returns c at is =
     let label = (c.push_label-label.ensures _ at is).from at refl in
     done_before refl (label thence (c.skip.ensures.from _).from _ label.next)

@@ -7,6 +7,6 @@ use borrow.Author.Rules.{rules}
 use Rattle.tokens.proofs.fronts.push_label.Goals as goal
 
 pub returns : goal.returns
-returns c =
-    let pushed = finish (ran_push (rw part_slice at (c.push_type-pushed.ensures.answer, c.push_type-pushed.ensures.room))) c.finish.ensures.answer refl in
+returns c levels at is =
+    let pushed = finish (ran_push (rw part_slice at c.push_type-pushed.ensures.answer, rw part_slice at c.push_type-pushed.ensures.room)) c.finish.ensures.answer refl in
     done_before refl (id_shown _ levels _ _ at is pushed)

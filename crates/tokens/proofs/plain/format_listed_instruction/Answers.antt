@@ -14,7 +14,7 @@ use Rattle.tokens.proofs.plain.format_listed_instruction.Goals as goal
 
 pub returns : goal.returns
 unfolding built field_trees fields_end events_in bit_at
-returns c =
+returns c at is =
     let pushed = rw part_slice at c.push_mnemonic-pushed.ensures in
     let named = text_shown _ _ mnemonic_leaf at _ mnemonic _ _ is (finish (record { ran = pushed }) c.finish.ensures.answer refl) in
     done_before refl (named thence c.format_behind_mnemonic.ensures.from _ named.next)

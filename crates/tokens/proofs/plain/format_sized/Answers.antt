@@ -9,7 +9,7 @@ use borrow.Author.Rules.{rules}
 use Rattle.tokens.proofs.plain.format_sized.Goals as goal
 
 pub returns : goal.returns
-returns c =
+returns c at is =
     let pushed = rw part_slice at c.push_data_size-pushed.ensures in
     let size = text_shown _ _ data_size_leaf at _ data_size _ _ is (finish (record { ran = pushed }) c.finish.ensures.answer refl) in
     done_before refl (size thence c.format_behind_size.ensures.from _ size.next)

@@ -24,12 +24,13 @@ use Rattle.leaves.specs.Lists.{items_end}
 use Rattle.leaves.specs.Records.{field_trees, fields_end}
 use Rattle.leaves.proofs.Fielded.{opened_levels, opened_one, opened-kind, shown_closed}
 use Rattle.tokens.specs.Tokens.{each_events}
-use Rattle.tokens.proofs.Cycle.{inside_shown, label_alone, label_block, not_nothing, plain_number, one_branch, both_branches, token_rule, token_opened, tokens_shown}
+use Rattle.tokens.proofs.Cycle.{inside_shown, label_alone, label_block, plain_number, one_branch, both_branches, token_rule, token_opened, tokens_shown}
 use Rattle.tokens.proofs.Cycle.{only_in, not_in, rest_events, all_left, block_left, file_left, one_left, rest_from}
 use Rattle.tokens.proofs.Listed.{listed_number, listed_over, listed_opens, head_text, listed-shown, listed-instruction, listed-label, listed-data}
 use Prim.Native.Nat.{ℕ, ◌<◌, ◌+◌, ◌*◌, ◌-◌}
 use Rattle.leads.specs.Leads.{over_by}
 use Rattle.tokens.proofs.walk.+token.Goals as goal
+use Rattle.tokens.proofs.walk.+token.Goals.{format_each_token-then-block, format_each_token-else-block}
 
 -- ---- format_block: the opening, the list further in, one newline and the brace are the events of the record that was opened
 
@@ -44,7 +45,7 @@ format_block-overflow_sub-levels t c =
 pub format_block-deeper-requires : goal.format_block-deeper-requires
 format_block-deeper-requires t c =
     let levels-left = opened_levels c.open-opened.ensures.opens c.in-Record.is in
-    let narrow = c.requires.1 in
+    let narrow = c.requires in
     (narrow.0, omega (arith, levels-left, narrow.1))
 
 pub format_block-overflow_sub-levels-2 : goal.format_block-overflow_sub-levels-2
@@ -54,7 +55,7 @@ format_block-overflow_sub-levels-2 t c =
 pub format_block-format_tokens-inner-requires : goal.format_block-format_tokens-inner-requires
 format_block-format_tokens-inner-requires t c =
     let levels-left = opened_levels c.open-opened.ensures.opens c.in-Record.is in
-    let narrow = c.requires.1 in
+    let narrow = c.requires in
     (omega (arith, levels-left), (rw c.deeper.ensures (narrow.0, omega (arith, levels-left, narrow.0, narrow.1))))
 
 pub format_block-overflow_sub-levels-3 : goal.format_block-overflow_sub-levels-3
@@ -87,7 +88,7 @@ format_block-returns t c =
 
 pub format_branches-format_block-then-requires : goal.format_branches-format_block-then-requires
 format_branches-format_block-then-requires t c =
-    (omega arith, c.requires.1)
+    (omega arith, c.requires)
 
 pub format_branches-returns-then-not-other : goal.format_branches-returns-then-not-other
 format_branches-returns-then-not-other t c =
@@ -96,7 +97,7 @@ format_branches-returns-then-not-other t c =
 
 pub format_branches-format_block-requires : goal.format_branches-format_block-requires
 format_branches-format_block-requires t c =
-    (omega arith, c.requires.1)
+    (omega arith, c.requires)
 
 pub format_branches-returns : goal.format_branches-returns
 format_branches-returns t c =
@@ -128,13 +129,12 @@ format_each_token-returns-in_default t c =
 
 pub format_each_token-overflow_sub-levels : goal.format_each_token-overflow_sub-levels
 format_each_token-overflow_sub-levels t c =
-    c.requires.levels_nonzero.1
+    c.requires.levels_nonzero
 
 pub format_each_token-format_listed_token-answer-requires : goal.format_each_token-format_listed_token-answer-requires
 format_each_token-format_listed_token-answer-requires t c =
-    let measured = c.requires.narrow in
-    let narrow = c.requires.levels_nonzero.0 in
-    let levels-left = c.requires.levels_nonzero.1 in
+    let narrow = c.requires.narrow in
+    let levels-left = c.requires.levels_nonzero in
     (omega (arith, levels-left), (narrow.0, omega (arith, narrow.1)))
 
 pub format_each_token-overflow_sub-left : goal.format_each_token-overflow_sub-left
@@ -150,8 +150,10 @@ format_each_token-loop-left-preserved t c =
     let args = c.args in
     let stood = c.loop-left.before in
     let count = c.loop-left.left in
-    let drops =
-    ⊎_elim (λ way. only_in args.block _ _ (way.0.taken, way.1)) (λ way. not_in args.block _ _ (way.0.left, way.1)) c.if-block.branch in
+    let drops : c.if-block.drops ≡ (args.block && stood.first) = elim c.if-block.branch [
+      format_each_token-then-block w ↦ only_in args.block _ _ (w.if-block.true, w.drops-is)
+    | format_each_token-else-block w ↦ not_in args.block _ _ (w.if-block.false, w.drops-is)
+    ] in
     let listed = (rw drops at c.format_listed_token-answer.ensures).from _ refl in (
       c.format_listed_token-answer.auto.room ∙ c.loop-left.invariant.0,
       λ start here.
@@ -199,18 +201,15 @@ format_inner-returns-in-Nothing t c =
 
 pub format_inner-format_block-requires : goal.format_inner-format_block-requires
 format_inner-format_block-requires t c =
-    let measured = c.requires.narrow in
-    (omega arith, c.requires.ends.0)
+    (omega arith, c.requires.narrow)
 
 pub format_inner-format_token-requires : goal.format_inner-format_token-requires
 format_inner-format_token-requires t c =
-    let measured = c.requires.narrow in
-    (omega arith, c.requires.ends.0)
+    (omega arith, c.requires.narrow)
 
 pub format_inner-format_branches-requires : goal.format_inner-format_branches-requires
 format_inner-format_branches-requires t c =
-    let measured = c.requires.narrow in
-    (omega arith, c.requires.ends.0)
+    (omega arith, c.requires.narrow)
 
 pub format_inner-returns-in-Block : goal.format_inner-returns-in-Block
 format_inner-returns-in-Block t c =
@@ -219,7 +218,7 @@ format_inner-returns-in-Block t c =
       from = λ at here.
           let front = c.format_token_front-front.ensures.from at here in
           let block = c.format_block.ensures.from _ front.next in
-          inside_shown _ _ _ _ _ _ _ _ _ kind known c.requires.ends.1 block_in (front thence block);
+          inside_shown _ _ _ _ _ _ _ _ _ kind known c.requires.ends block_in (front thence block);
     }
 
 pub format_inner-returns-in-Token : goal.format_inner-returns-in-Token
@@ -229,7 +228,7 @@ format_inner-returns-in-Token t c =
       from = λ at here.
           let front = c.format_token_front-front.ensures.from at here in
           let token = c.format_token.ensures.from _ front.next in
-          inside_shown _ _ _ _ _ _ _ _ _ kind known c.requires.ends.1 token-in (front thence token);
+          inside_shown _ _ _ _ _ _ _ _ _ kind known c.requires.ends token-in (front thence token);
     }
 
 pub format_inner-returns-in-Branches : goal.format_inner-returns-in-Branches
@@ -240,12 +239,12 @@ format_inner-returns-in-Branches t c =
       from = λ at here.
           let front = c.format_token_front-front.ensures.from at here in
           let branches = both.from _ front.next in
-          inside_shown _ _ _ _ _ _ _ _ _ kind known c.requires.ends.1 branches-in (front thence branches);
+          inside_shown _ _ _ _ _ _ _ _ _ kind known c.requires.ends branches-in (front thence branches);
     }
 
 pub format_inner-returns-in-Nothing-inner : goal.format_inner-returns-in-Nothing-inner
 format_inner-returns-in-Nothing-inner t c =
-    not_nothing c.in_default.in_default-own.keys2 c.in-Nothing-inner.is
+    absurd (c.in_default.not-Nothing c.in-Nothing-inner.is)
 
 -- ---- format_listed_token: the lead-in has opened the record, and the walk goes on behind its own bytes, or from its head on where that was read for it
 
@@ -297,7 +296,7 @@ pub format_listed_token-format_block-requires : goal.format_listed_token-format_
 format_listed_token-format_block-requires t c =
     let opens = listed_opens c.format_lead_in-lead.ensures.leads c.in-Ready.is _ refl in
     let levels-left = opened_levels opens refl in
-    let narrow = c.requires.1 in
+    let narrow = c.requires in
     (omega (arith, levels-left), (narrow.0, omega (arith, narrow.1)))
 
 pub format_listed_token-returns-then-number-eq-LABEL : goal.format_listed_token-returns-then-number-eq-LABEL
@@ -313,7 +312,7 @@ format_listed_token-format_inner-requires t c =
     let opens = listed_opens c.format_lead_in-lead.ensures.leads c.in-Ready.is _ refl in
     let levels-left = opened_levels opens refl in
     let token = token_opened false _ opens refl refl in
-    let narrow = c.requires.1 in
+    let narrow = c.requires in
     (omega (arith, levels-left), ((narrow.0, omega (arith, narrow.1)), rw c.byte_at-number.ensures token.ends))
 
 pub format_listed_token-returns : goal.format_listed_token-returns
@@ -347,7 +346,7 @@ format_token-format_inner-requires t c =
     let is = c.in-Record.is in
     let levels-left = opened_levels opens is in
     let token = token_opened located _ opens is refl in
-    let narrow = c.requires.1 in
+    let narrow = c.requires in
     (omega (arith, levels-left), ((narrow.0, omega (arith, narrow.1)), rw c.byte_at-number.ensures token.ends))
 
 pub format_token-returns : goal.format_token-returns
@@ -369,7 +368,7 @@ format_tokens-returns-in_default t c =
 pub format_tokens-format_each_token-requires : goal.format_tokens-format_each_token-requires
 format_tokens-format_each_token-requires t c =
     let levels-left = opened_levels c.open-opened.ensures.opens c.in-Record.is in
-    (omega (arith, levels-left), (c.requires.1, levels-left))
+    (omega (arith, levels-left), (c.requires, levels-left))
 
 pub format_tokens-returns : goal.format_tokens-returns
 format_tokens-returns t c =

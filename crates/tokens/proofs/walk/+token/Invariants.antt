@@ -24,7 +24,7 @@ use Rattle.leaves.specs.Lists.{items_end}
 use Rattle.leaves.specs.Records.{field_trees, fields_end}
 use Rattle.leaves.proofs.Fielded.{opened_levels, opened_one, opened-kind, shown_closed}
 use Rattle.tokens.specs.Tokens.{each_events}
-use Rattle.tokens.proofs.Cycle.{inside_shown, label_alone, label_block, not_nothing, plain_number, one_branch, both_branches, token_rule, token_opened, tokens_shown}
+use Rattle.tokens.proofs.Cycle.{inside_shown, label_alone, label_block, plain_number, one_branch, both_branches, token_rule, token_opened, tokens_shown}
 use Rattle.tokens.proofs.Cycle.{only_in, not_in, rest_events, all_left, block_left, file_left, one_left, rest_from}
 use Rattle.tokens.proofs.Listed.{listed_number, listed_over, listed_opens, head_text, listed-shown, listed-instruction, listed-label, listed-data}
 use Prim.Native.Nat.{ℕ, ◌<◌, ◌+◌, ◌*◌, ◌-◌}
