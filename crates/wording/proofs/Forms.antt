@@ -4,13 +4,10 @@ use mathlib.Core.List.{List, [], ◌∷◌, ◌++◌, map}
 use Prim.Native.Nat.{ℕ, ◌≤◌}
 use native.Mathlib.Omega.{arith}
 use lib.ListN.{length, get_or, get_or-eq_default}
-use types.Run.{OneOf, miss}
-use denote.Enum.Declared.{tag_of}
 use Rattle.text.specs.Literals.{ascii}
 use Rattle.options.specs.Casings.{cased}
 use Rattle.tree.specs.declared.grammar.Class.{Class}
 use Rattle.tree.specs.declared.grammar.Class.TheVariants as class
-use Rattle.tree.specs.contracts.grammar.Class.{the_type}
 use Rattle.events.specs.Printed.{mnemonics, registers, modifiers, variable_types}
 use Rattle.events.specs.Printed.{number_types, data_sizes, operators, encodings}
 use Rattle.leaves.specs.Texts.{cuts}
@@ -88,45 +85,41 @@ mode_entries = refl
 
 -- ---- the classes that show their text
 
--- the classes but the nine enums, as a match tells them: each by its place in the order of the classes
-abbrev pub others : List ℕ
-others =
-    0 ∷ 1 ∷ 2 ∷ 3 ∷ 4 ∷ 5 ∷ 15 ∷ 16 ∷ 17 ∷ 18 ∷ 19 ∷ 20 ∷ 21 ∷ 22 ∷ 23 ∷
-    24 ∷ 25 ∷ 26 ∷ 27 ∷ 28 ∷ 29 ∷ 30 ∷ 31 ∷ 32 ∷ 33 ∷ 34 ∷ []
-
-pub other_form : (class : Class) → OneOf others (tag_of the_type class) → Text ≡ form_of class
-other_form class.Word found = refl
-other_form class.Char found = refl
-other_form class.OpenBrace found = refl
-other_form class.CloseBrace found = refl
-other_form class.Colon found = refl
-other_form class.Unit found = refl
-other_form class.Mnemonic found = absurd (miss others 6 tt found)
-other_form class.IndexRegister found = absurd (miss others 7 tt found)
-other_form class.AddressModifier found = absurd (miss others 8 tt found)
-other_form class.VariableType found = absurd (miss others 9 tt found)
-other_form class.NumberType found = absurd (miss others 10 tt found)
-other_form class.DataSize found = absurd (miss others 11 tt found)
-other_form class.BinaryOp found = absurd (miss others 12 tt found)
-other_form class.TextEncoding found = absurd (miss others 13 tt found)
-other_form class.AddressingMode found = absurd (miss others 14 tt found)
-other_form class.StringItem found = refl
-other_form class.LocatedExpression found = refl
-other_form class.BareExpression found = refl
-other_form class.LocatedFactor found = refl
-other_form class.BareToken found = refl
-other_form class.LocatedToken found = refl
-other_form class.BlockRecord found = refl
-other_form class.StringRecord found = refl
-other_form class.OperandRecord found = refl
-other_form class.SuffixRecord found = refl
-other_form class.AsRecord found = refl
-other_form class.ImportArguments found = refl
-other_form class.ImportPath found = refl
-other_form class.ExpressionArgument found = refl
-other_form class.IdentifierArgument found = refl
-other_form class.ImportArgument found = refl
-other_form class.Tokens found = refl
-other_form class.ExpressionArguments found = refl
-other_form class.IdentifierArguments found = refl
-other_form class.StringItems found = refl
+-- a class that is none of the nine enums prints its text
+pub other_form : (given : Class) → (given ≡ class.Mnemonic → ⊥) → (given ≡ class.IndexRegister → ⊥) → (given ≡ class.AddressModifier → ⊥) → (given ≡ class.VariableType → ⊥) → (given ≡ class.NumberType → ⊥)
+    → (given ≡ class.DataSize → ⊥) → (given ≡ class.BinaryOp → ⊥) → (given ≡ class.TextEncoding → ⊥) → (given ≡ class.AddressingMode → ⊥) → Text ≡ form_of given
+other_form class.Word _ _ _ _ _ _ _ _ _ = refl
+other_form class.Char _ _ _ _ _ _ _ _ _ = refl
+other_form class.OpenBrace _ _ _ _ _ _ _ _ _ = refl
+other_form class.CloseBrace _ _ _ _ _ _ _ _ _ = refl
+other_form class.Colon _ _ _ _ _ _ _ _ _ = refl
+other_form class.Unit _ _ _ _ _ _ _ _ _ = refl
+other_form class.Mnemonic other _ _ _ _ _ _ _ _ = absurd (other refl)
+other_form class.IndexRegister _ other _ _ _ _ _ _ _ = absurd (other refl)
+other_form class.AddressModifier _ _ other _ _ _ _ _ _ = absurd (other refl)
+other_form class.VariableType _ _ _ other _ _ _ _ _ = absurd (other refl)
+other_form class.NumberType _ _ _ _ other _ _ _ _ = absurd (other refl)
+other_form class.DataSize _ _ _ _ _ other _ _ _ = absurd (other refl)
+other_form class.BinaryOp _ _ _ _ _ _ other _ _ = absurd (other refl)
+other_form class.TextEncoding _ _ _ _ _ _ _ other _ = absurd (other refl)
+other_form class.AddressingMode _ _ _ _ _ _ _ _ other = absurd (other refl)
+other_form class.StringItem _ _ _ _ _ _ _ _ _ = refl
+other_form class.LocatedExpression _ _ _ _ _ _ _ _ _ = refl
+other_form class.BareExpression _ _ _ _ _ _ _ _ _ = refl
+other_form class.LocatedFactor _ _ _ _ _ _ _ _ _ = refl
+other_form class.BareToken _ _ _ _ _ _ _ _ _ = refl
+other_form class.LocatedToken _ _ _ _ _ _ _ _ _ = refl
+other_form class.BlockRecord _ _ _ _ _ _ _ _ _ = refl
+other_form class.StringRecord _ _ _ _ _ _ _ _ _ = refl
+other_form class.OperandRecord _ _ _ _ _ _ _ _ _ = refl
+other_form class.SuffixRecord _ _ _ _ _ _ _ _ _ = refl
+other_form class.AsRecord _ _ _ _ _ _ _ _ _ = refl
+other_form class.ImportArguments _ _ _ _ _ _ _ _ _ = refl
+other_form class.ImportPath _ _ _ _ _ _ _ _ _ = refl
+other_form class.ExpressionArgument _ _ _ _ _ _ _ _ _ = refl
+other_form class.IdentifierArgument _ _ _ _ _ _ _ _ _ = refl
+other_form class.ImportArgument _ _ _ _ _ _ _ _ _ = refl
+other_form class.Tokens _ _ _ _ _ _ _ _ _ = refl
+other_form class.ExpressionArguments _ _ _ _ _ _ _ _ _ = refl
+other_form class.IdentifierArguments _ _ _ _ _ _ _ _ _ = refl
+other_form class.StringItems _ _ _ _ _ _ _ _ _ = refl

@@ -32,4 +32,7 @@ pub returns-in-AddressingMode : goal.returns-in-AddressingMode
 returns-in-AddressingMode c = rw c.in-AddressingMode.is refl
 
 pub returns-in_default : goal.returns-in_default
-returns-in_default c = other_form c.args.class c.in_default.in_default-own.keys10
+returns-in_default c =
+    let other = c.in_default in
+    other_form c.args.class other.not-Mnemonic other.not-IndexRegister other.not-AddressModifier other.not-VariableType other.not-NumberType other.not-DataSize
+    other.not-BinaryOp other.not-TextEncoding other.not-AddressingMode

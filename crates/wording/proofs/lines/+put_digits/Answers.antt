@@ -12,9 +12,6 @@ pub returns-then-n-lt10 : goal.returns-then-n-lt10
 returns-then-n-lt10 t c =
     digits_one _ _ _ c.if-most-eq0.false c.if-n-lt10.true c.digit.ensures c.put.ensures
 
-pub put_digits-next-requires : goal.put_digits-next-requires
-put_digits-next-requires t c = omega (arith, c.requires.0)
-
 pub returns : goal.returns
 returns t c =
     digits_more _ _ _ c.if-most-eq0.false c.if-n-lt10.false c.digit-2.ensures c.put_digits-next.ensures c.put-2.ensures
