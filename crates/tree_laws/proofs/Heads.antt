@@ -93,7 +93,7 @@ items_read {bytes} {at} {end} none stands =
 items_read {bytes} {at} {end} (next {item} {items} fits rest) stands =
     let parts = apart (stored_trivium item) (stored_items items) stands in
     let one = item_read item fits parts.0 in
-    let others = items_read rest parts.1 in
+    let others = items_read {at = at + length (stored_trivium item)} rest parts.1 in
     record {
       span = rw one.span others.span;
       same = rw (one.text, one.behind, one.code, others.same);

@@ -17,7 +17,7 @@ use Rattle.text.specs.Accepted.{accepted_text}
 use Rattle.text.specs.Ink.{flat}
 use Rattle.text.proofs.Choices.{by_test, or_right}
 use Rattle.tree.specs.Grammar.{Slot, must, may, kind_of, rule, fields}
-use Rattle.tree.specs.Tree.{Tree, Trivium, absent, node, Vec, Leaf, PathItem, chain, built}
+use Rattle.tree.specs.Tree.{Tree, Trivium, absent, node, Vec, chain, built}
 use Rattle.tree.specs.Own.{may_stand, fields_fit, text_fits, else_fits, map_fits, text_end, rest_of, read_own, own_of}
 use Rattle.tree.specs.Reading.{Placed, trivia_of, text_of, texts_of, trivia_texts, Due, due, slot_class, fields_due, items_due, parts_due, Reading, Readings, Reader, read_parts, read}
 use Rattle.tree.specs.Stored.{part_bits, stored_trivia, trivia_bit, stored_text, stored_node, stored_leaf, stored_with, stored}
