@@ -69,7 +69,7 @@ module _ (c : Context) (place : Place) (none : comments (end_trivia place) ≡ [
 
   pub ink_Eof : (unit : Tree) → Inked c place (Eof unit)
   unfolding events_in order_in ink_of inks ink blank comments stem one_of view
-  ink_Eof unit = simp (none, ink-laws, ink_stop) (append-nil _)
+  ink_Eof unit = simp (none, ink-laws, ink_stop)
 
   pub ink_Error : (text : Tree) → Kept c (leaf plain) text → Inked c place (Error text)
   unfolding events_in order_in ink_of inks ink blank comments stem one_of view
