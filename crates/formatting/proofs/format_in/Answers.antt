@@ -8,23 +8,16 @@ use Rattle.formatting.proofs.format_in.Goals as goal
 pub returns-in_default : goal.returns-in_default
 returns-in_default c =
     let lesson = refused_lesson _ _ _ c.chunks_in_one_pass-walked.ensures.answer c.in_default.is in
-    let told = (lesson.answered, (lesson.buffer, lesson.lesson)) in
-    record { answer = told.0; buffer = told.1.0; demands = told.1.1 }
+    record { answer = lesson.answered; buffer = lesson.buffer; demands = lesson.lesson }
 
 pub slice_bounds-join_chunks-end : goal.slice_bounds-join_chunks-end
 slice_bounds-join_chunks-end c =
     used_fits _ _ _ _ c.chunks_in_one_pass-walked.ensures.answer c.in-Accepted.is c.chunks_in_one_pass-walked.ensures.stored
 
-pub slice_bounds-join_chunks-end-2 : goal.slice_bounds-join_chunks-end-2
-slice_bounds-join_chunks-end-2 c =
-    let fits = used_fits _ _ _ _ walked.chunks-in-one-pass.ensures.0 is.walked.given.1 walked.chunks-in-one-pass.ensures.1.0 in
-    simp length-take (omega arith)
-
 pub returns : goal.returns
 returns c =
     let said = c.join_chunks.ensures in
     let lesson =
-    joined_lesson _ _ _ _ walked.chunks-in-one-pass.ensures.0 is.walked.given.1 walked.chunks-in-one-pass.ensures.1.0
+    joined_lesson _ _ _ _ c.chunks_in_one_pass-walked.ensures.answer c.in-Accepted.is c.chunks_in_one_pass-walked.ensures.stored
     said.answer said.buffer said.demands in
-    let told = (lesson.answered, (lesson.buffer, lesson.lesson)) in
-    record { answer = told.0; buffer = told.1.0; demands = told.1.1 }
+    record { answer = lesson.answered; buffer = lesson.buffer; demands = lesson.lesson }

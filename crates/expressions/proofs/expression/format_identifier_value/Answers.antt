@@ -12,14 +12,14 @@ returns-in_default c = refused_before c.in_default.is
 pub returns-then-not-stands : goal.returns-then-not-stands
 returns-then-not-stands c =
     done_before c.in-Done.is
-    (path_bare _ _ _ _ _ c.stands.ensures (not-true _ c.if-not-stands.true-raw) (c.word.ensures.from _ refl))
+    (path_bare _ _ _ _ _ c.stands.ensures c.if-not-stands.true (c.word.ensures.from _ refl))
 
 pub returns-in_default-modifier : goal.returns-in_default-modifier
 returns-in_default-modifier c =
     let skipped = (c.skip-skipped.ensures.from _).from _ refl in
     let printed = c.modifier-modifier.ensures.from _ skipped.next in
     done_before c.in-Done.is
-    (path_modified _ _ _ _ _ c.stands.ensures (not-false _ c.if-not-stands.false-raw) refl (skipped thence handed_on printed c.in_default-modifier.is))
+    (path_modified _ _ _ _ _ c.stands.ensures c.if-not-stands.false refl (skipped thence handed_on printed c.in_default-modifier.is))
 
 pub returns : goal.returns
 returns c =
@@ -29,6 +29,6 @@ returns c =
     let path = c.word-value.ensures.from _ back.next in
     let behind = (c.moved_to-2.ensures _).from _ path.next in
     let is = c.in-Done-modifier.is in
-    let some = not-false _ c.if-not-stands.false-raw in
+    let some = c.if-not-stands.false in
     done_before c.in-Done.is
     (path_modified _ _ _ _ _ c.stands.ensures some (place_behind printed is) (moved_back (skipped thence ran_printer printed is then back thence path thence behind)))

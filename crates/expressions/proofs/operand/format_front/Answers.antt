@@ -12,14 +12,14 @@ returns-in_default c = refused_before c.in_default.is
 pub returns-then-not-lchar : goal.returns-then-not-lchar
 returns-then-not-lchar c =
     let given = c.args in
-    done_before c.in-Done.is (front_bare _ _ _ _ given.lchar (not-true _ c.if-not-lchar.true-raw) (c.format_expression.ensures.from _ refl))
+    done_before c.in-Done.is (front_bare _ _ _ _ given.lchar c.if-not-lchar.true (c.format_expression.ensures.from _ refl))
 
 pub returns-in_default-opening : goal.returns-in_default-opening
 returns-in_default-opening c =
     let given = c.args in
     let skipped = (c.skip-skipped.ensures.from _).from _ refl in
     let printed = c.character-opening.ensures.from _ skipped.next in
-    done_before c.in-Done.is (front_opened _ _ _ _ given.lchar (not-false _ c.if-not-lchar.false-raw) refl (skipped thence handed_on printed c.in_default-opening.is))
+    done_before c.in-Done.is (front_opened _ _ _ _ given.lchar c.if-not-lchar.false refl (skipped thence handed_on printed c.in_default-opening.is))
 
 pub returns : goal.returns
 returns c =
@@ -30,6 +30,6 @@ returns c =
     let inner = c.format_expression-inner.ensures.from _ back.next in
     let behind = (c.moved_to.ensures _).from _ inner.next in
     let is = c.in-Done-opening.is in
-    let some = not-false _ c.if-not-lchar.false-raw in
+    let some = c.if-not-lchar.false in
     done_before c.in-Done.is
     (front_opened _ _ _ _ given.lchar some (place_behind printed is) (moved_back (skipped thence ran_printer printed is then back thence inner thence behind)))

@@ -19,7 +19,7 @@ pub returns-then-not-stands : goal.returns-then-not-stands
 unfolding opened_by opened_room
 returns-then-not-stands c =
     let is = c.in-Done.is in
-    let none = not-true _ c.if-not-stands.true-raw in
+    let none = c.if-not-stands.true in
     let answered = c.finish.ensures.answer in
     let told = opened_known (closed_absent is none answered) (rw (answered, is, none) refl) (rw (is, none) refl) in
     record { opens = told.0; answer = told.1.0; room = told.1.1.0; numbers = told.1.1.1 }
@@ -28,7 +28,7 @@ pub returns-then-state-ne0 : goal.returns-then-state-ne0
 unfolding opened_by opened_room
 returns-then-state-ne0 c =
     let is = c.in-Done.is in
-    let some = not-false c.args.stands c.if-not-stands.false-raw in
+    let some = c.if-not-stands.false in
     let full = ne_eqb c.in-Done.state.full 0 c.if-state-ne0.true in
     let answered = c.finish-then-state-ne0.ensures.answer in
     let told = opened_known (closed_full is answered c.if-state-ne0.true) (rw (answered, is, some, full) refl) (rw (is, some, full) refl) in
@@ -38,7 +38,7 @@ pub returns-in_default-found : goal.returns-in_default-found
 unfolding opened_by opened_room
 returns-in_default-found c =
     let is = c.in-Done.is in
-    let some = not-false _ c.if-not-stands.false-raw in
+    let some = c.if-not-stands.false in
     let told = c.in_default-found.is in
     let left = eq-eqb _ _ c.if-state-ne0.false in
     let none = sym c.read_own-found.ensures.answer ∙ told in
@@ -50,7 +50,7 @@ pub returns : goal.returns
 unfolding opened_by opened_room
 returns c =
     let is = c.in-Done.is in
-    let some = not-false _ c.if-not-stands.false-raw in
+    let some = c.if-not-stands.false in
     let told = c.in-Record.is in
     let fits = c.read_own-found.ensures.fits in
     let left = eq-eqb _ _ c.if-state-ne0.false in

@@ -30,7 +30,7 @@ pub returns-then-not-only_newline : goal.returns-then-not-only_newline
 returns-then-not-only_newline c =
     c.loop-left.invariant.1
     ∙ lead-stops _ _ _ _ c.loop-left-test.true c.trivium_at-read.ensures _ c.in-Item.is c.only_newline.ensures _
-    (not-true _ c.if-not-only_newline.true-raw)
+    c.if-not-only_newline.true
     ∙ c.format_trivia.ensures
 
 pub loop-left-preserved : goal.loop-left-preserved
@@ -38,7 +38,7 @@ loop-left-preserved c = (
   c.loop-left.invariant.0,
   c.loop-left.invariant.1
       ∙ lead-on _ _ _ _ c.loop-left-test.true c.trivium_at-read.ensures _ c.in-Item.is c.only_newline.ensures _
-      (not-false _ c.if-not-only_newline.false-raw),
+      c.if-not-only_newline.false,
 )
 
 pub shape_of-room : goal.shape_of-room

@@ -18,7 +18,7 @@ unfolding all_blank
 loop-i-preserved c =
     let loop = c.loop-i in
     let line = c.args.line.now in
-    let passed : blank (get_or line loop.i 0) ≡ true = sym c.is_blank.ensures ∙ not-false _ c.if-not-is_blank.false-raw in
+    let passed : blank (get_or line loop.i 0) ≡ true = sym c.is_blank.ensures ∙ c.if-not-is_blank.false in
     let one : all_blank (drop loop.i line) ≡ all_blank (drop (loop.i + 1) line) = simp (drop_step line loop.i (omega (arith, c.if-line-i.false)), passed) in
     (omega (arith, c.if-line-i.false), sym one ∙ loop.invariant.1)
 
@@ -35,6 +35,6 @@ unfolding all_blank
 returns-then-not-is_blank c =
     let loop = c.loop-i in
     let line = c.args.line.now in
-    let ink : blank (get_or line loop.i 0) ≡ false = sym c.is_blank.ensures ∙ not-true _ c.if-not-is_blank.true-raw in
+    let ink : blank (get_or line loop.i 0) ≡ false = sym c.is_blank.ensures ∙ c.if-not-is_blank.true in
     let some : all_blank (drop loop.i line) ≡ false = simp (drop_step line loop.i (omega (arith, c.if-line-i.false)), ink) in
     ap not (sym some ∙ loop.invariant.1)

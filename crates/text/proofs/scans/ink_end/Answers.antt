@@ -17,14 +17,14 @@ pub returns-then-not-is_blank : goal.returns-then-not-is_blank
 returns-then-not-is_blank c =
     let turn = c.loop-end in
     let bytes = c.args.bytes.now in
-    let kept = trim_last_ink bytes turn.end c.loop-end-test.true turn.invariant.0 (sym c.is_blank.ensures ∙ not-true _ c.if-not-is_blank.true-raw) in
+    let kept = trim_last_ink bytes turn.end c.loop-end-test.true turn.invariant.0 (sym c.is_blank.ensures ∙ c.if-not-is_blank.true) in
     sym (length-take-le turn.end bytes turn.invariant.0) ∙ ap length (sym kept ∙ turn.invariant.1)
 
 pub loop-end-preserved : goal.loop-end-preserved
 loop-end-preserved c =
     let turn = c.loop-end in
     let bytes = c.args.bytes.now in
-    let cut = trim_last_blank bytes turn.end c.loop-end-test.true turn.invariant.0 (sym c.is_blank.ensures ∙ not-false _ c.if-not-is_blank.false-raw) in
+    let cut = trim_last_blank bytes turn.end c.loop-end-test.true turn.invariant.0 (sym c.is_blank.ensures ∙ c.if-not-is_blank.false) in
     (omega arith, sym cut ∙ turn.invariant.1)
 
 pub returns : goal.returns

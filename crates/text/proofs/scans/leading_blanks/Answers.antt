@@ -18,7 +18,7 @@ unfolding leading_blanks
 returns-then-not-is_blank c =
     let i = c.loop-i.i in
     let bytes = c.args.bytes.now in
-    let ink : blank (get_or bytes i 0) ≡ false = sym c.is_blank.ensures ∙ not-true _ c.if-not-is_blank.true-raw in
+    let ink : blank (get_or bytes i 0) ≡ false = sym c.is_blank.ensures ∙ c.if-not-is_blank.true in
     let none : leading_blanks (drop i bytes) ≡ 0 = simp (drop_step bytes i c.loop-i-test.true, ink) in
     omega arith
 
@@ -27,7 +27,7 @@ unfolding leading_blanks
 loop-i-preserved c =
     let i = c.loop-i.i in
     let bytes = c.args.bytes.now in
-    let passed : blank (get_or bytes i 0) ≡ true = sym c.is_blank.ensures ∙ not-false _ c.if-not-is_blank.false-raw in
+    let passed : blank (get_or bytes i 0) ≡ true = sym c.is_blank.ensures ∙ c.if-not-is_blank.false in
     let one : leading_blanks (drop i bytes) ≡ 1 + leading_blanks (drop (i + 1) bytes) = simp (drop_step bytes i c.loop-i-test.true, passed) in
     (omega arith, omega arith)
 

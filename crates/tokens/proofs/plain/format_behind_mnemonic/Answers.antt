@@ -8,12 +8,12 @@ use Rattle.tokens.proofs.plain.format_behind_mnemonic.Goals as goal
 
 pub returns-then-not-stands : goal.returns-then-not-stands
 returns-then-not-stands c =
-    let none = sym c.stands.ensures ∙ not-true _ c.if-not-stands.true-raw in
+    let none = sym c.stands.ensures ∙ c.if-not-stands.true in
     record { from = λ at here. no_operand _ _ _ _ at none ((c.clear_spc_if_next.ensures _).from at here) }
 
 pub returns : goal.returns
 returns c =
-    let one = sym c.stands.ensures ∙ not-false _ c.if-not-stands.false-raw in
+    let one = sym c.stands.ensures ∙ c.if-not-stands.false in
     record {
       from = λ at here.
           let gap = (c.spc_if_next-gap.ensures _).from at here in

@@ -93,7 +93,7 @@ format_branches-format_block-then-requires t c =
 pub format_branches-returns-then-not-other : goal.format_branches-returns-then-not-other
 format_branches-returns-then-not-other t c =
     let other = c.args.other in
-    rw (not-true other c.if-not-other.true-raw) (record { from = λ at here. one_branch _ _ _ at (c.format_block-then.ensures.from at here) })
+    rw c.if-not-other.true (record { from = λ at here. one_branch _ _ _ at (c.format_block-then.ensures.from at here) })
 
 pub format_branches-format_block-requires : goal.format_branches-format_block-requires
 format_branches-format_block-requires t c =
@@ -102,7 +102,7 @@ format_branches-format_block-requires t c =
 pub format_branches-returns : goal.format_branches-returns
 format_branches-returns t c =
     let other = c.args.other in
-    rw (not-false other c.if-not-other.false-raw) (record {
+    rw c.if-not-other.false (record {
       from = λ at here.
           let then = c.format_block-then.ensures.from at here in
           let tag = c.format_else-tag.ensures.from _ then.next in
@@ -288,7 +288,7 @@ format_listed_token-format_listed_label-front-requires t c =
 pub format_listed_token-returns-then-not-stands : goal.format_listed_token-returns-then-not-stands
 format_listed_token-returns-then-not-stands t c =
     let number = sym c.byte_at-number.ensures ∙ c.if-number-eq-LABEL.true in
-    let none = sym c.stands.ensures ∙ not-true _ c.if-not-stands.true-raw in
+    let none = sym c.stands.ensures ∙ c.if-not-stands.true in
     done_before c.in-Done.is
     (listed-label c.format_lead_in-lead.ensures.leads c.in-Ready.is _ refl number (λ place read. label_alone _ _ _ _ (c.format_listed_label-front.ensures place read) none))
 
@@ -302,7 +302,7 @@ format_listed_token-format_block-requires t c =
 pub format_listed_token-returns-then-number-eq-LABEL : goal.format_listed_token-returns-then-number-eq-LABEL
 format_listed_token-returns-then-number-eq-LABEL t c =
     let number = sym c.byte_at-number.ensures ∙ c.if-number-eq-LABEL.true in
-    let one = sym c.stands.ensures ∙ not-false _ c.if-not-stands.false-raw in
+    let one = sym c.stands.ensures ∙ c.if-not-stands.false in
     done_before c.in-Done.is
     (listed-label c.format_lead_in-lead.ensures.leads c.in-Ready.is _ refl number (λ place read.
     label_block _ _ _ _ (c.format_listed_label-front.ensures place read) one c.format_block.ensures))

@@ -7,11 +7,11 @@ use Rattle.tree.proofs.check.read_file.Goals as goal
 
 pub returns-in_default : goal.returns-in_default
 returns-in_default c =
-    let plain = sym c.is_plain.ensures ∙ not-false _ c.if-not-is_plain.false-raw in
+    let plain = sym c.is_plain.ensures ∙ c.if-not-is_plain.false in
     let told = c.in_default.is in
     told ∙ file_plain _ plain _ _ _ c.read_record-read.ensures _ told
 
 pub returns : goal.returns
 returns c =
-    let plain = sym c.is_plain.ensures ∙ not-false _ c.if-not-is_plain.false-raw in
+    let plain = sym c.is_plain.ensures ∙ c.if-not-is_plain.false in
     file_plain _ plain _ _ _ c.read_record-read.ensures _ c.in-Whole.is

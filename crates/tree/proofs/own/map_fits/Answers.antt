@@ -11,14 +11,14 @@ returns-then-number-eq-VEC c = simp (eq-eqb _ _ c.if-number-eq-VEC.true)
 
 pub returns-then-not-trivia_fits : goal.returns-then-not-trivia_fits
 unfolding map_fits
-returns-then-not-trivia_fits c = simp (ne_eqb _ _ c.if-number-eq-VEC.false, sym c.trivia_fits.ensures ∙ not-true _ c.if-not-trivia_fits.true-raw)
+returns-then-not-trivia_fits c = simp (ne_eqb _ _ c.if-number-eq-VEC.false, sym c.trivia_fits.ensures ∙ c.if-not-trivia_fits.true)
 
 pub returns-then-number-eq-LEAF : goal.returns-then-number-eq-LEAF
 unfolding map_fits
 returns-then-number-eq-LEAF c =
     simp (
       ne_eqb _ _ c.if-number-eq-VEC.false,
-      sym c.trivia_fits.ensures ∙ not-false _ c.if-not-trivia_fits.false-raw,
+      sym c.trivia_fits.ensures ∙ c.if-not-trivia_fits.false,
       eq-eqb _ _ c.if-number-eq-LEAF.true,
       c.text_fits.ensures,
     )
@@ -28,7 +28,7 @@ unfolding map_fits
 returns-then-number-eq-PATH_ITEM c =
     rw (
       ne_eqb _ _ c.if-number-eq-VEC.false,
-      sym c.trivia_fits.ensures ∙ not-false _ c.if-not-trivia_fits.false-raw,
+      sym c.trivia_fits.ensures ∙ c.if-not-trivia_fits.false,
       ne_eqb _ _ c.if-number-eq-LEAF.false,
       eq-eqb _ _ c.if-number-eq-PATH_ITEM.true,
       c.text_fits-then-number-eq-PATH_ITEM.ensures,
@@ -39,10 +39,10 @@ unfolding map_fits
 returns-then-not-else_fits c =
     rw (
       ne_eqb _ _ c.if-number-eq-VEC.false,
-      sym c.trivia_fits.ensures ∙ not-false _ c.if-not-trivia_fits.false-raw,
+      sym c.trivia_fits.ensures ∙ c.if-not-trivia_fits.false,
       ne_eqb _ _ c.if-number-eq-LEAF.false,
       ne_eqb _ _ c.if-number-eq-PATH_ITEM.false,
-      sym c.else_fits.ensures ∙ not-true _ c.if-not-else_fits.true-raw,
+      sym c.else_fits.ensures ∙ c.if-not-else_fits.true,
     )
 
 pub returns : goal.returns
@@ -51,9 +51,9 @@ returns c =
     let args = c.args in
     rw (
       ne_eqb _ _ c.if-number-eq-VEC.false,
-      sym c.trivia_fits.ensures ∙ not-false _ c.if-not-trivia_fits.false-raw,
+      sym c.trivia_fits.ensures ∙ c.if-not-trivia_fits.false,
       ne_eqb _ _ c.if-number-eq-LEAF.false,
       ne_eqb _ _ c.if-number-eq-PATH_ITEM.false,
-      sym c.else_fits.ensures ∙ not-false _ c.if-not-else_fits.false-raw,
+      sym c.else_fits.ensures ∙ c.if-not-else_fits.false,
       c.fields_fit.ensures args.rule.value,
     )
