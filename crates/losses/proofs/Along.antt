@@ -1,23 +1,22 @@
 -- Parts one behind the other: their uses in the tree are those of the parts that stand.
-use mathlib.Core.Path.{◌≡◌, refl, sym, ap, ◌∙◌}
+use mathlib.Core.Path.{◌≡◌, refl, ap, ◌∙◌}
 use mathlib.Core.List.{List, [], ◌∷◌, ◌++◌}
 use mathlib.Core.Bool.{Bool, true, false, cond}
 use Prim.Native.Nat.{ℕ, zero, suc, ◌/◌, ◌%◌}
-use lib.ListN.{get_or, replicate}
+use lib.ListN.{get_or}
 use lib.Dec.{eqb}
 use Rattle.answers.specs.Numbers.{and_then}
 use Rattle.text.proofs.Choices.{by_test}
 use Rattle.tree.specs.Grammar.{Slot, rule}
 use Rattle.tree.specs.Reading.{Due, nothing, due, slot_class, fields_due, items_due, Reader, read_parts}
 use Rattle.tree.specs.Tree.{Tree, absent, chain}
-use Rattle.tree.specs.Rows.{class_number}
 use Rattle.tree.specs.Walk.{standing}
 use Rattle.tree.specs.declared.grammar.Class.{Class}
 use Rattle.tree.specs.declared.grammar.Items.{Items}
 use Rattle.tree.specs.declared.grammar.Items.TheVariants.{NoList, ListOf}
 use Rattle.events.specs.Views.{view}
 use Rattle.reading.specs.Places.{Use, has_comment, places_in}
-use Rattle.losses.specs.Visits.{class_uses, seen_in, uses_along, end_along, checked_along}
+use Rattle.losses.specs.Visits.{seen_in, uses_along, end_along, checked_along}
 use Rattle.losses.proofs.Table.{Unlisted, untold, slots_seen}
 
 -- ---- a field that does not stand uses nothing

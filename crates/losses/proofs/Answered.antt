@@ -69,14 +69,14 @@ module _ (from : ℕ) (bytes : List ℕ) {checked : Checked} (same : checked ≡
       passed_answer = ap (lost_on from tree) (sym same ∙ is)
 
       module _ {least : First} (least-is : least ≡ least_of firsts) where
-        least-there : {first : First} → least ≡ first → least_of (firsts_in from tree) ≡ first
-        least-there there = sym (least_same from tree firsts each) ∙ sym least-is ∙ there
+        least_there : {first : First} → least ≡ first → least_of (firsts_in from tree) ≡ first
+        least_there there = sym (least_same from tree firsts each) ∙ sym least-is ∙ there
 
         -- there is none
-        pub lost-none : least ≡ Never → Unused ≡ lost_from from bytes
-        lost-none never = sym (passed_answer ∙ ap (answer_with (firsts_in from tree)) (least-there never))
+        pub lost_none : least ≡ Never → Unused ≡ lost_from from bytes
+        lost_none never = sym (passed_answer ∙ ap (answer_with (firsts_in from tree)) (least_there never))
 
         -- there is one
-        pub lost-used : {at letters : ℕ} → least ≡ At at → letters ≡ letters_at firsts at → Used at letters ≡ lost_from from bytes
-        lost-used {at} there letters-are =
-            ap (Used at) (letters-are ∙ letters_same from tree firsts each at) ∙ sym (passed_answer ∙ ap (answer_with (firsts_in from tree)) (least-there there))
+        pub lost_used : {at letters : ℕ} → least ≡ At at → letters ≡ letters_at firsts at → Used at letters ≡ lost_from from bytes
+        lost_used {at} there letters-are =
+            ap (Used at) (letters-are ∙ letters_same from tree firsts each at) ∙ sym (passed_answer ∙ ap (answer_with (firsts_in from tree)) (least_there there))

@@ -1,16 +1,15 @@
 -- Whether one of some trivia items is a comment, item by item.
-use mathlib.Core.Path.{◌≡◌, refl, ap, ◌∙◌}
-use mathlib.Core.List.{List, [], ◌∷◌}
+use mathlib.Core.Path.{◌≡◌, ap, ◌∙◌}
+use mathlib.Core.List.{List}
 use mathlib.Core.Bool.{Bool, true, false, ◌||◌}
 use Prim.Native.Nat.{ℕ, ◌-◌, ◌≤◌, ◌<◌}
 use lib.Dec.{leb}
 use borrow.Author.Tests.{le-leb, lt-leb}
-use Rattle.tree.specs.Tree.{Trivium}
 use Rattle.tree.specs.Parts.{trivium_at}
 use Rattle.tree.specs.declared.parts.TriviumSpan.{TriviumSpan}
 use Rattle.tree.specs.declared.parts.TriviumRead.{TriviumRead}
 use Rattle.tree.specs.declared.parts.TriviumRead.TheVariants.{Item, BrokenItem}
-use Rattle.leaves.specs.Items.{item_of, items_at}
+use Rattle.leaves.specs.Items.{items_at}
 use Rattle.leaves.proofs.Items.{items_none, items_next}
 use Rattle.reading.specs.Places.{has_comment}
 

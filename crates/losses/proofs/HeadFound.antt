@@ -1,15 +1,13 @@
 -- The head of a token that was read without refusal is found in the bytes, and its own bytes hold its trivia.
-use mathlib.Core.Path.{◌≡◌, refl, sym, ap, ◌∙◌}
+use mathlib.Core.Path.{◌≡◌, sym, ◌∙◌}
 use mathlib.Core.List.{List}
-use mathlib.Core.Bool.{Bool}
 use Prim.Native.Nat.{ℕ}
 use Rattle.answers.specs.declared.Refusal.{Refusal}
 use Rattle.answers.specs.declared.Checked.TheVariants.{Passed}
 use Rattle.answers.proofs.Cases.{failed_passed}
 use Rattle.tree.specs.Own.{read_own, Fits}
 use Rattle.tree.specs.Parts.{head_at}
-use Rattle.tree.specs.Reading.{trivia_of, read}
-use Rattle.tree.specs.Tree.{Tree}
+use Rattle.tree.specs.Reading.{read}
 use Rattle.tree.specs.declared.grammar.Class.{Class}
 use Rattle.tree.specs.declared.own.Own.{Own}
 use Rattle.tree.specs.declared.own.OwnRead.{OwnRead}

@@ -2,26 +2,24 @@
 --   narrow_lost : loss ≡ lost_from from bytes → (loss ≡ lost_from from bytes) × (Narrow loss × (numbers_lost loss ≡ lost_numbers from bytes))
 use mathlib.Core.Path.{◌≡◌, refl, sym, ap, subst, ◌∙◌}
 use mathlib.Core.List.{List, [], ◌∷◌, ◌++◌}
-use mathlib.Core.Bool.{Bool, true, false, cond, not, ◌&&◌, ◌||◌}
-use Prim.Native.Nat.{ℕ, zero, suc, ◌+◌, ◌-◌, ◌≤◌, ◌<◌}
+use mathlib.Core.Bool.{Bool, true, false, not, ◌&&◌, ◌||◌}
+use Prim.Native.Nat.{ℕ, zero, suc, ◌-◌, ◌≤◌, ◌<◌}
 use native.Mathlib.Omega.{arith}
 use lib.ListN.{length, get_or}
 use lib.Dec.{eqb}
 use borrow.Author.Tests.{eq-eqb}
 use Rattle.text.proofs.Choices.{cond_both, by_test}
-use Rattle.answers.specs.declared.Refusal.{Refusal}
 use Rattle.answers.specs.declared.Checked.{Checked}
 use Rattle.answers.specs.declared.Checked.TheVariants.{Passed, Failed}
 use Rattle.tree.specs.Tree.{Tree, absent}
 use Rattle.tree.specs.Own.{read_own}
 use Rattle.tree.specs.Parts.{head_at}
-use Rattle.tree.specs.Reading.{Due, nothing, due, Reading, Reader, parts_due, read_parts, read}
+use Rattle.tree.specs.Reading.{Due, nothing, due, Reading, parts_due, read_parts, read}
 use Rattle.tree.specs.Checking.{read_file, batch_checked}
 use Rattle.tree.specs.Rows.{class_number}
 use Rattle.tree.specs.Walk.{standing}
 use Rattle.tree.specs.declared.grammar.Class.{Class}
 use Rattle.tree.specs.declared.grammar.Class.TheVariants.{Tokens}
-use Rattle.tree.specs.declared.own.Own.{Own}
 use Rattle.tree.specs.declared.own.OwnRead.{OwnRead}
 use Rattle.tree.specs.declared.own.OwnRead.TheVariants.{Record, Refused}
 use Rattle.tree.specs.declared.parts.HeadRead.{HeadRead}

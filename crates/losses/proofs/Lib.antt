@@ -1,6 +1,5 @@
 pub mod Table
 pub mod Along
-pub mod Arms
 pub mod Comments
 pub mod Steps
 pub mod Records

@@ -5,7 +5,7 @@ use mathlib.Core.Path.{◌≡◌, refl, sym, ap, subst, ◌∙◌}
 use mathlib.Core.Logic.{◌⊎◌, inl, inr, ⊎_elim}
 use mathlib.Core.List.{List, [], ◌∷◌, ◌++◌}
 use mathlib.Core.Bool.{Bool, true, false, cond}
-use Prim.Native.Nat.{ℕ, ◌≤◌, ◌<◌}
+use Prim.Native.Nat.{ℕ, ◌≤◌}
 use native.Mathlib.Omega.{arith}
 use lib.Dec.{eqb, ltb}
 use borrow.Author.Tests.{le-ltb, ltb-false, ltb-true, eq-eqb, eqb-true}
@@ -20,8 +20,7 @@ use Rattle.losses.specs.Visits.{first_of}
 use Rattle.losses.specs.declared.firsts.First.{First}
 use Rattle.losses.specs.declared.firsts.First.TheVariants.{At, Never}
 use Rattle.losses.specs.declared.firsts.Firsts.{Firsts}
-use Rattle.losses.specs.declared.search.Loss.{Loss}
-use Rattle.losses.specs.declared.search.Loss.TheVariants.{Used, Unused, Refused}
+use Rattle.losses.specs.declared.search.Loss.TheVariants.{Used}
 use Rattle.losses.proofs.Telling.{at_never}
 
 -- ---- a first record within bounds

@@ -1,6 +1,6 @@
 -- The answer of `lost` has the number and value of document 01.
 --   lost_numbers_lem : loss ≡ lost_from from bytes → numbers_lost loss ≡ lost_numbers from bytes
-use mathlib.Core.Path.{◌≡◌, refl, sym, ap, ◌∙◌}
+use mathlib.Core.Path.{◌≡◌, refl, ap, ◌∙◌}
 use mathlib.Core.List.{List}
 use Prim.Native.Nat.{ℕ}
 use Rattle.answers.specs.Numbers.{numbers_checked, unless_refused}

@@ -2,14 +2,14 @@
 use mathlib.Core.Path.{◌≡◌, refl, sym, ap, ◌∙◌}
 use mathlib.Core.Logic.{⊎_elim}
 use mathlib.Core.List.{List, [], ◌∷◌}
-use mathlib.Core.Bool.{Bool, true, false, cond, not, ◌&&◌, ◌||◌, and-true, and-false}
-use Prim.Native.Nat.{ℕ, zero, suc, ◌-◌, ◌/◌, ◌%◌, ◌≤◌, ◌<◌}
+use mathlib.Core.Bool.{Bool, true, false, cond, not, ◌||◌, and-true, and-false}
+use Prim.Native.Nat.{ℕ, ◌-◌, ◌/◌, ◌%◌, ◌≤◌}
 use native.Mathlib.Omega.{arith}
 use native.Mathlib.Nat.{le_antisymm}
 use lib.ListN.{length, get_or}
 use lib.Seq.{slice, slice_empty, slice-cons}
 use lib.Dec.{eqb, ltb}
-use borrow.Author.Tests.{ne_eqb, ltb-true, ltb-false}
+use borrow.Author.Tests.{ltb-true, ltb-false}
 use Rattle.answers.specs.declared.Refusal.{Refusal}
 use Rattle.answers.specs.declared.Checked.TheVariants.{Passed}
 use Rattle.text.proofs.Choices.{by_test, true_false, and_true_left, and_true_right}
@@ -30,7 +30,7 @@ use Rattle.tree.specs.declared.parts.Skipped.{Skipped}
 use Rattle.tree.specs.declared.parts.Skipped.TheVariants.{Next, NotSkipped}
 use Rattle.tree.proofs.OwnBytes.{own_fits}
 use Rattle.tree.proofs.Cases.{both_passed}
-use Rattle.events.specs.Views.{view, token_number, stands_at, stands, index_of, bit_at}
+use Rattle.events.specs.Views.{view, token_number, stands_at, index_of, bit_at}
 use Rattle.events.proofs.Heads.{read_stands}
 use Rattle.events.proofs.OwnParts.{Fielded, record_parts, record_headed}
 use Rattle.leaves.proofs.Records.{read_record}
@@ -270,37 +270,37 @@ module _ (levels : ℕ) (bytes : List ℕ) (own : Own) where
       no_opening none = by_parts (λ trees held. next_unskipped (sym (opening_there held) ∙ none))
 
       module _ {rchar : ℕ} (rchar-is : opening ≡ Next rchar) {closing : Skipped} (closing-is : closing ≡ skipped below bytes Char rchar) where
-        rchar-there : {trees : List Tree} (held : Held trees) → rchar ≡ closes below bytes held
-        rchar-there held = same_next (sym rchar-is ∙ opening_there held)
+        rchar_there : {trees : List Tree} (held : Held trees) → rchar ≡ closes below bytes held
+        rchar_there held = same_next (sym rchar-is ∙ opening_there held)
 
-        closing-there : {trees : List Tree} (held : Held trees) → closing ≡ Next (printed below bytes held)
-        closing-there held = closing-is ∙ rw (rchar-there held) (closing_skipped below bytes held it_stands)
+        closing_there : {trees : List Tree} (held : Held trees) → closing ≡ Next (printed below bytes held)
+        closing_there held = closing-is ∙ rw (rchar_there held) (closing_skipped below bytes held it_stands)
 
-        pub no-closing : {seen : Seen} {before : Firsts} {from : ℕ} {why : Refusal} → closing ≡ NotSkipped why → TakesClosing seen before from levels bytes own
-        no-closing none = by_parts (λ trees held. next_unskipped (sym (closing-there held) ∙ none))
+        pub no_closing : {seen : Seen} {before : Firsts} {from : ℕ} {why : Refusal} → closing ≡ NotSkipped why → TakesClosing seen before from levels bytes own
+        no_closing none = by_parts (λ trees held. next_unskipped (sym (closing_there held) ∙ none))
 
         module _ {mode : ℕ} (mode-is : closing ≡ Next mode) {found : OwnRead} (found-is : found ≡ read_own bytes mode AddressingMode below) where
-          mode-there : {trees : List Tree} (held : Held trees) → read_own bytes (printed below bytes held) AddressingMode below ≡ found
-          mode-there held =
-              sym (found-is ∙ ap (λ (place : ℕ). read_own bytes place AddressingMode below) (same_next (sym mode-is ∙ closing-there held)))
+          mode_there : {trees : List Tree} (held : Held trees) → read_own bytes (printed below bytes held) AddressingMode below ≡ found
+          mode_there held =
+              sym (found-is ∙ ap (λ (place : ℕ). read_own bytes place AddressingMode below) (same_next (sym mode-is ∙ closing_there held)))
 
           pub no_mode : {seen : Seen} {before : Firsts} {from : ℕ} {why : Refusal} → found ≡ Refused why → TakesClosing seen before from levels bytes own
-          no_mode none = by_parts (λ trees held. own_unread below bytes AddressingMode (printed below bytes held) held.mode (mode-there held ∙ none))
+          no_mode none = by_parts (λ trees held. own_unread below bytes AddressingMode (printed below bytes held) held.mode (mode_there held ∙ none))
 
           -- the index that the leaf holds tells whether it counts
           module _ (leaf : Own) (leaf-is : found ≡ Record leaf) {index : ℕ} (index_is : index ≡ index_in bytes leaf) where
-            used-there : {trees : List Tree} (held : Held trees)
+            used_there : {trees : List Tree} (held : Held trees)
                 → at_closing_character (index_of (get_or trees 3 absent)) (get_or trees 2 absent) ≡ not (eqb index 3 || eqb index 4)
-            used-there held =
-                closing_used below bytes held it_stands leaf (mode-there held ∙ leaf-is) ∙ ap (λ (index : ℕ). not (eqb index 3 || eqb index 4)) (sym index_is)
+            used_there held =
+                closing_used below bytes held it_stands leaf (mode_there held ∙ leaf-is) ∙ ap (λ (index : ℕ). not (eqb index 3 || eqb index 4)) (sym index_is)
 
             -- the mode prints it
-            pub takes-printed : {before : Firsts} {from : ℕ} → (eqb index 3 || eqb index 4) ≡ true → TakesClosing (Shown before) before from levels bytes own
-            takes-printed prints = by_parts (λ trees held. shows_it (takes_unused (used-there held ∙ ap not prints)))
+            pub takes_printed : {before : Firsts} {from : ℕ} → (eqb index 3 || eqb index 4) ≡ true → TakesClosing (Shown before) before from levels bytes own
+            takes_printed prints = by_parts (λ trees held. shows_it (takes_unused (used_there held ∙ ap not prints)))
 
             -- or not
-            pub takes-closing : {after before : Firsts} {from : ℕ} → (eqb index 3 || eqb index 4) ≡ false → Takes after before from rchar 7
+            pub takes_closing : {after before : Firsts} {from : ℕ} → (eqb index 3 || eqb index 4) ≡ false → Takes after before from rchar 7
                 → TakesClosing (Shown after) before from levels bytes own
-            takes-closing omits takes =
+            takes_closing omits takes =
                 by_parts
-                (λ trees held. shows_it (rw (closing_at below bytes held it_stands ∙ sym (rchar-there held)) (takes_used (used-there held ∙ ap not omits) takes)))
+                (λ trees held. shows_it (rw (closing_at below bytes held it_stands ∙ sym (rchar_there held)) (takes_used (used_there held ∙ ap not omits) takes)))

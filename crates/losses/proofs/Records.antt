@@ -1,19 +1,19 @@
 -- The uses of a record: what it shows by itself, then those of its parts.
 use mathlib.Core.Path.{◌≡◌, refl, sym, ap, ◌∙◌}
 use mathlib.Core.Logic.{⊎_elim}
-use mathlib.Core.List.{List, [], ◌∷◌, ◌++◌, append-nil, append_assoc}
+use mathlib.Core.List.{List, [], ◌++◌, append-nil, append_assoc}
 use mathlib.Core.Bool.{Bool, true, false, cond, not, ◌&&◌, ◌||◌}
 use Prim.Native.Nat.{ℕ, ◌-◌, ◌/◌, ◌≤◌}
 use native.Mathlib.Omega.{arith}
 use native.Mathlib.Nat.{le_antisymm}
 use lib.ListN.{get_or}
-use lib.Dec.{eqb, leb}
+use lib.Dec.{eqb}
 use borrow.Author.Tests.{eqb-true, ne_eqb}
 use Rattle.text.proofs.Choices.{by_test, true_false}
-use Rattle.tree.specs.Grammar.{Slot, kind_of, rule, fields}
+use Rattle.tree.specs.Grammar.{kind_of, rule, fields}
 use Rattle.tree.specs.Own.{may_stand, read_own}
-use Rattle.tree.specs.Reading.{Due, trivia_of, text_of, fields_due, parts_due, Reader, read_parts, read}
-use Rattle.tree.specs.Tree.{Tree, Trivium, absent, node, built}
+use Rattle.tree.specs.Reading.{trivia_of, text_of, fields_due, parts_due, read}
+use Rattle.tree.specs.Tree.{Tree, absent, node, built}
 use Rattle.tree.specs.Rows.{class_number, class_of}
 use Rattle.tree.specs.Walk.{standing}
 use Rattle.tree.specs.declared.grammar.Kind.{Kind}
@@ -30,7 +30,7 @@ use Rattle.events.proofs.OwnParts.{Fielded, record_parts, record_headed, token_n
 use Rattle.leaves.proofs.Records.{read_record}
 use Rattle.leaves.proofs.Fielded.{standing_range}
 use Rattle.reading.specs.Places.{Use, has_comment, mark, places_in, opening_brace, label_colon, value_head, import_path, path_item, register_letter}
-use Rattle.losses.specs.Visits.{class_uses, seen_in, kind_uses, own_marks, head_marks, closing_marks, own_uses, listed_below, uses_along, part_trees, TokenClass}
+use Rattle.losses.specs.Visits.{seen_in, kind_uses, own_marks, head_marks, closing_marks, own_uses, listed_below, uses_along, part_trees, TokenClass}
 use Rattle.losses.proofs.Table.{kind_uses_lem}
 use Rattle.losses.proofs.Along.{fields_along, items_along}
 

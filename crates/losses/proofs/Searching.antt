@@ -1,13 +1,13 @@
 -- The loop over a record's parts: the plan that is left goes on with the search of the parts.
 use mathlib.Core.Path.{◌≡◌, refl, sym, ap, ◌∙◌}
-use mathlib.Core.List.{List, [], ◌∷◌, ◌++◌}
+use mathlib.Core.List.{List, []}
 use mathlib.Core.Bool.{Bool}
 use Prim.Native.Nat.{ℕ, ◌-◌}
 use lib.ListN.{get_or}
 use Rattle.answers.specs.declared.Refusal.{Refusal}
 use Rattle.answers.specs.declared.Checked.TheVariants.{Passed}
 use Rattle.tree.specs.Own.{read_own}
-use Rattle.tree.specs.Reading.{Due, Reading, Reader, parts_due, read_parts, read}
+use Rattle.tree.specs.Reading.{Due, Reading, Reader, parts_due, read}
 use Rattle.tree.specs.Walk.{Plans, standing, NextOf}
 use Rattle.tree.specs.declared.grammar.Class.{Class}
 use Rattle.tree.specs.declared.own.Own.{Own}
@@ -18,10 +18,9 @@ use Rattle.tree.specs.declared.check.Part.{Part}
 use Rattle.tree.specs.declared.check.Part.TheVariants.{Next, NoPart}
 use Rattle.tree.proofs.Cases.{both_passed}
 use Rattle.leaves.proofs.Records.{read_record}
-use Rattle.reading.specs.Places.{Spot, Use}
+use Rattle.reading.specs.Places.{Spot}
 use Rattle.losses.specs.Lost.{first_from}
 use Rattle.losses.specs.Visits.{first_of, seen_in, listed_below, uses_along, end_along, checked_along, TakesAll, TakesRecord, Finds, Searches}
-use Rattle.losses.specs.declared.firsts.First.{First}
 use Rattle.losses.specs.declared.firsts.Firsts.{Firsts}
 use Rattle.losses.specs.declared.uses.Seen.{Seen}
 use Rattle.losses.specs.declared.uses.Seen.TheVariants as seeing

@@ -1,17 +1,17 @@
 -- What a record shows by itself, step by step: a comment on it, on its head, and an operand's closing character.
-use mathlib.Core.Path.{◌≡◌, refl, sym, ap, ◌∙◌}
-use mathlib.Core.List.{List, [], ◌++◌}
-use mathlib.Core.Bool.{Bool, true, false, ◌||◌}
+use mathlib.Core.Path.{◌≡◌, refl, sym, ◌∙◌}
+use mathlib.Core.List.{List}
+use mathlib.Core.Bool.{Bool, false, ◌||◌}
 use Prim.Native.Nat.{ℕ}
 use lib.ListN.{get_or}
 use lib.Dec.{eqb}
-use borrow.Author.Tests.{eq-eqb, ne_eqb}
+use borrow.Author.Tests.{ne_eqb}
 use Rattle.answers.specs.declared.Refusal.{Refusal}
 use Rattle.answers.specs.declared.Checked.TheVariants.{Passed}
 use Rattle.text.proofs.Choices.{by_test}
 use Rattle.tree.specs.Grammar.{kind_of}
 use Rattle.tree.specs.Own.{read_own}
-use Rattle.tree.specs.Reading.{trivia_of, read}
+use Rattle.tree.specs.Reading.{read}
 use Rattle.tree.specs.Tree.{Tree}
 use Rattle.tree.specs.Rows.{class_number}
 use Rattle.tree.specs.declared.grammar.Class.{Class}
@@ -26,7 +26,7 @@ use Rattle.events.proofs.OwnParts.{record_headed}
 use Rattle.leaves.specs.Items.{items_at}
 use Rattle.leaves.proofs.Items.{items_kept}
 use Rattle.reading.specs.Places.{has_comment, closing_character}
-use Rattle.losses.specs.Visits.{own_spot, head_spot, own_marks, head_marks, closing_marks, part_trees}
+use Rattle.losses.specs.Visits.{own_spot, head_spot, own_marks, head_marks}
 use Rattle.losses.specs.Visits.{TakesIf, TakesAll, TakesHead, TakesClosing, TakesRecord}
 use Rattle.losses.specs.declared.firsts.Firsts.{Firsts}
 use Rattle.losses.specs.declared.uses.Seen.{Seen}

@@ -3,7 +3,7 @@
 --   first_never : first_in 0 spot tree ≡ Never → uses spot tree ≡ false
 use mathlib.Core.Path.{◌≡◌, refl, sym, ap, ◌∙◌}
 use mathlib.Core.List.{List, [], ◌∷◌}
-use mathlib.Core.Bool.{Bool, true, false, cond, ◌||◌}
+use mathlib.Core.Bool.{false}
 use Prim.Native.Nat.{ℕ}
 use native.Mathlib.Omega.{arith}
 use lib.Dec.{eqb, ltb}
@@ -14,12 +14,11 @@ use Rattle.tree.specs.Checking.{read_file, batch_checked}
 use Rattle.tree.specs.Tree.{Tree}
 use Rattle.reading.specs.Places.{Spot, Use, opening_brace, label_colon, value_head, import_path, path_item, register_letter, expression_head, closing_character}
 use Rattle.reading.specs.Places.{spot_number, places_in, among, uses, uses_place}
-use Rattle.losses.specs.Lost.{earlier_of, first_with, first_from, first_in, firsts_in, lesser_of, least_of, answer_with, lost_on, lost_from}
+use Rattle.losses.specs.Lost.{earlier_of, first_from, first_in, firsts_in, lesser_of, least_of, answer_with, lost_on, lost_from}
 use Rattle.losses.specs.declared.firsts.First.{First}
 use Rattle.losses.specs.declared.firsts.First.TheVariants.{At, Never}
 use Rattle.losses.specs.declared.firsts.Firsts.{Firsts}
-use Rattle.losses.specs.declared.search.Loss.{Loss}
-use Rattle.losses.specs.declared.search.Loss.TheVariants.{Used, Unused, Refused}
+use Rattle.losses.specs.declared.search.Loss.TheVariants.{Unused}
 
 -- ---- a first record stays one
 

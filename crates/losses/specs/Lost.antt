@@ -1,5 +1,5 @@
 -- `lost`: the first record at or after an offset that uses one of the eight places, with the letters of the places that it uses.
-use Rattle.std.specs.Prelude.{ℕ, ◌+◌, ◌*◌, ◌≤◌, List, [], ◌∷◌, Bool, false, cond, eqb, ltb}
+use Rattle.std.specs.Prelude.{ℕ, ◌+◌, ◌*◌, ◌≤◌, List, [], ◌∷◌, false, cond, eqb, ltb}
 use Rattle.answers.specs.Numbers.{numbers, unless_refused}
 use Rattle.answers.specs.declared.Answer.{Answer}
 use Rattle.answers.specs.declared.Answer.TheVariants as answer

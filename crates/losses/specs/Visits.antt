@@ -1,5 +1,5 @@
 -- Not part of the promise: the places as the search meets them, record by record, each by the class of the field that it stands in.
-use Rattle.std.specs.Prelude.{ℕ, ◌-◌, ◌/◌, ◌≡◌, List, [], ◌∷◌, ◌++◌, Bool, true, false, cond, not, ◌&&◌, ◌||◌, eqb, ltb, get_or}
+use Rattle.std.specs.Prelude.{ℕ, ◌-◌, ◌≡◌, List, [], ◌∷◌, ◌++◌, Bool, true, false, cond, not, ◌&&◌, ◌||◌, eqb, ltb, get_or}
 use Rattle.answers.specs.declared.Checked.{Checked}
 use Rattle.answers.specs.declared.Checked.TheVariants.{Passed, Failed}
 use Rattle.answers.specs.declared.Refusal.{Refusal}
@@ -9,7 +9,7 @@ use Rattle.tree.specs.Grammar.{rule, nodes}
 use Rattle.tree.specs.Own.{layout, read_own}
 use Rattle.tree.specs.Parts.{skipped}
 use Rattle.tree.specs.Reading.{Reader, parts_due, read_parts, read}
-use Rattle.tree.specs.Tree.{Tree, absent, built}
+use Rattle.tree.specs.Tree.{Tree, absent}
 use Rattle.tree.specs.Rows.{class_number}
 use Rattle.tree.specs.declared.grammar.Class.{Class}
 use Rattle.tree.specs.declared.grammar.Class.TheVariants.{OpenBrace, Colon, IndexRegister, BareToken, LocatedToken}

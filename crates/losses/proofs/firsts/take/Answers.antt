@@ -1,6 +1,5 @@
 -- Each place by itself.
 use Rattle.losses.proofs.Steps.{took}
-use borrow.Author.Rules.{rules}
 use Rattle.losses.proofs.firsts.take.Goals as goal
 
 pub returns : goal.returns

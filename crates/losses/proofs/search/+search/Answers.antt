@@ -1,43 +1,11 @@
 -- At the head of the loop the plan that is left goes on with the search of the record's parts; each part stands one level
 -- further down. Where the record passed no refusal is met: of its own bytes, of what it shows by itself, or of a part.
 use native.Mathlib.Omega.{arith}
-use borrow.Author.Rules.{rules}
-use Rattle.tree.specs.Reading.{read}
-use Rattle.tree.specs.Walk.{plan_size}
 use Rattle.tree.proofs.Planning.{next_of, rest_less, plan_due}
 use Rattle.tree.proofs.Records.{level_left}
-use Rattle.losses.proofs.Searching.{PartsLeft, parts_start, search_done, search_on, part_unread}
+use Rattle.losses.proofs.Searching.{parts_start, search_done, search_on, part_unread}
 use Rattle.losses.proofs.Searching.{search_refused, use_refused, part_refused, record_searched}
-use Prim.Native.Nat.{ℕ, ◌<◌, ◌-◌}
 use Rattle.losses.proofs.search.+search.Goals as goal
-
-abbrev search-claims : ℕ → search-lts.Claims
-search-claims t = (
-  read-own-reads.Asked,
-  read-own-reads.Learnt,
-  refusal-of-reads.Asked,
-  refusal-of-reads.Learnt,
-  record-uses-reads.Asked,
-  record-uses-reads.Learnt,
-  refused-use-reads.Asked,
-  refused-use-reads.Learnt,
-  byte-at-reads.Asked,
-  byte-at-reads.Learnt,
-  listed-below-reads.Asked,
-  listed-below-reads.Learnt,
-  plan-of-reads.Asked,
-  plan-of-reads.Learnt,
-  next-part-reads.Asked,
-  next-part-reads.Learnt,
-  search-below t,
-  search'.Post,
-)
-
-pub read_own-read-requires : goal.read_own-read-requires
-read_own-read-requires t c = tt
-
-pub refusal_of-requires : goal.refusal_of-requires
-refusal_of-requires t c = tt
 
 pub returns-in_default : goal.returns-in_default
 returns-in_default t c =
@@ -47,33 +15,18 @@ pub record_uses-used-requires : goal.record_uses-used-requires
 record_uses-used-requires t c =
     level_left _ _ _ _ _ c.read_own-read.ensures.answer _ c.in-Record.is
 
-pub refused_use-requires : goal.refused_use-requires
-refused_use-requires t c = tt
-
 pub returns-in_default-used : goal.returns-in_default-used
 returns-in_default-used t c =
     use_refused _ _ _ _ c.args.listed c.read_own-read.ensures.answer _ c.in-Record.is
     c.record_uses-used.ensures c.in_default-used.is
 
-pub byte_at-requires : goal.byte_at-requires
-byte_at-requires t c = tt
-
-pub listed_below-below-requires : goal.listed_below-below-requires
-listed_below-below-requires t c = tt
-
-pub plan_of-plan-requires : goal.plan_of-plan-requires
-plan_of-plan-requires t c = tt
-
 pub loop-field-init : goal.loop-field-init
 loop-field-init t c = parts_start _ _ _ _ _ _
-
-pub next_part-part-requires : goal.next_part-part-requires
-next_part-part-requires t c = tt
 
 pub returns-in_default-part : goal.returns-in_default-part
 returns-in_default-part t c =
     record_searched _ _ _ _ c.args.listed c.read_own-read.ensures.answer _ c.in-Record.is
-    c.record_uses-used.ensures c.in-Shown.is c.byte_at.ensures below.Listed-Below.ensures
+    c.record_uses-used.ensures c.in-Shown.is c.byte_at.ensures c.listed_below-below.ensures
     (search_done _ _ _ _ _ _ _ _ _ c.loop-field.invariant _ (next_of _ c.next_part-part.ensures) c.in_default-part.is _ (plan_due _ _ c.plan_of-plan.ensures))
 
 pub overflow_sub-levels : goal.overflow_sub-levels
@@ -82,7 +35,7 @@ overflow_sub-levels t c =
 
 pub search-searched-requires : goal.search-searched-requires
 search-searched-requires t c =
-    omega (arith, level_left _ _ _ _ _ c.read_own-read.ensures.answer _ c.in-Record.is, c.requires.0)
+    omega (arith, level_left _ _ _ _ _ c.read_own-read.ensures.answer _ c.in-Record.is)
 
 pub returns-in_default-searched : goal.returns-in_default-searched
 returns-in_default-searched t c =

@@ -1,7 +1,6 @@
 -- A refusal of the check; one of the search, which cannot be where the check passed; no use; and the first record that has one.
-use Rattle.losses.proofs.Answered.{lost_refused, search_unrefused, lost-none, lost-used}
+use Rattle.losses.proofs.Answered.{lost_refused, search_unrefused, lost_none, lost_used}
 use Rattle.losses.proofs.Inside.{narrow_lost}
-use borrow.Author.Rules.{rules}
 use Rattle.losses.proofs.search.lost.Goals as goal
 
 pub returns-in_default : goal.returns-in_default
@@ -17,13 +16,13 @@ returns-in_default-searched c =
 pub returns-in-Never : goal.returns-in-Never
 returns-in-Never c =
     let told = narrow_lost _ _ _
-    (lost-none _ _ c.check_tree-checked.ensures.answer c.in-Passed.is c.no_firsts.ensures c.search-searched.ensures
+    (lost_none _ _ c.check_tree-checked.ensures.answer c.in-Passed.is c.no_firsts.ensures c.search-searched.ensures
     c.in-Whole.is c.least-least.ensures c.in-Never.is) in
     record { answer = told.0; narrow = told.1.0; numbers = told.1.1 }
 
 pub returns-in-At : goal.returns-in-At
 returns-in-At c =
     let told = narrow_lost _ _ _
-    (lost-used _ _ c.check_tree-checked.ensures.answer c.in-Passed.is c.no_firsts.ensures c.search-searched.ensures
+    (lost_used _ _ c.check_tree-checked.ensures.answer c.in-Passed.is c.no_firsts.ensures c.search-searched.ensures
     c.in-Whole.is c.least-least.ensures c.in-At.is c.letters_at.ensures) in
     record { answer = told.0; narrow = told.1.0; numbers = told.1.1 }

@@ -1,10 +1,7 @@
 -- The loop's invariant: what is left of the items has a comment where all of them have one. The measure is how many are left.
-use mathlib.Core.Path.{◌≡◌, refl, sym, ◌∙◌}
+use mathlib.Core.Path.{◌≡◌}
 use Rattle.leaves.specs.Items.{items_at}
 use Rattle.reading.specs.Places.{has_comment}
-use Rattle.losses.proofs.Comments.{comment_none, comment_broken, comment_here, comment_later}
-use borrow.Author.Rules.{rules}
-use native.Mathlib.Omega.{arith}
 use Rattle.losses.proofs.uses.has_comment.Given as goal
 
 abbrev pub invariant-loop-left : goal.invariant-loop-left

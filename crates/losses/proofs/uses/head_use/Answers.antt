@@ -3,7 +3,6 @@ use mathlib.Core.Path.{refl}
 use Rattle.losses.proofs.Steps.{takes_none}
 use Rattle.losses.proofs.HeadFound.{head_missed, head_unread, head_taken}
 use Rattle.losses.proofs.Passed.{shows_it}
-use borrow.Author.Rules.{rules}
 use Rattle.losses.proofs.uses.head_use.Goals as goal
 
 pub returns-then-spot-eq-NONE : goal.returns-then-spot-eq-NONE

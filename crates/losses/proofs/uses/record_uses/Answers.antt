@@ -1,6 +1,5 @@
 -- A head that was refused, which cannot be where the record passed; a record that is an operand, and any other.
 use Rattle.losses.proofs.Shown.{head_stopped, operand_shown, record_shown}
-use borrow.Author.Rules.{rules}
 use Rattle.losses.proofs.uses.record_uses.Goals as goal
 
 pub returns-in_default : goal.returns-in_default

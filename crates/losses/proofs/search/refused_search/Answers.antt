@@ -1,6 +1,0 @@
--- The two cases of the definition.
-use borrow.Author.Rules.{rules}
-use Rattle.losses.proofs.search.refused_search.Goals as goal
-
-pub returns-in-Whole : goal.returns-in-Whole
-returns-in-Whole c = rw c.in-Whole.is
