@@ -13,5 +13,9 @@ packed-requires c =
 pub returns : goal.returns
 returns c =
     let said = c.chunks.ensures in
-    let told = (c.packed.ensures ∙ ap packed_of said.answer, (chunks_answer_lem _ _ _ _ _ refl said.stored, (said.stored, said.room))) in
-    record { answer = told.0; small = told.1.0; stored = told.1.1.0; room = told.1.1.1 }
+    record {
+      answer = c.packed.ensures ∙ ap packed_of said.answer;
+      small = chunks_answer_lem _ _ _ _ _ refl said.stored;
+      stored = said.stored;
+      room = said.room;
+    }

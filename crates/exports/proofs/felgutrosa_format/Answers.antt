@@ -13,5 +13,10 @@ packed-requires c =
 pub returns : goal.returns
 returns c =
     let said = c.format.ensures in
-    let told = (c.packed.ensures ∙ ap packed_of said.answer, (format_answer _ _ _ _ _ refl said.demands, (said.buffer, (said.work, said.demands)))) in
-    record { answer = told.0; small = told.1.0; buffer = told.1.1.0; work = told.1.1.1.0; demands = told.1.1.1.1 }
+    record {
+      answer = c.packed.ensures ∙ ap packed_of said.answer;
+      small = format_answer _ _ _ _ _ refl said.demands;
+      buffer = said.buffer;
+      work = said.work;
+      demands = said.demands;
+    }

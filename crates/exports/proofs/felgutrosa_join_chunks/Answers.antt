@@ -13,5 +13,9 @@ packed-requires c =
 pub returns : goal.returns
 returns c =
     let said = c.join_chunks.ensures in
-    let told = (c.packed.ensures ∙ ap packed_of said.answer, (join_answer _ _ _ _ refl said.demands, (said.buffer, said.demands))) in
-    record { answer = told.0; small = told.1.0; buffer = told.1.1.0; demands = told.1.1.1 }
+    record {
+      answer = c.packed.ensures ∙ ap packed_of said.answer;
+      small = join_answer _ _ _ _ refl said.demands;
+      buffer = said.buffer;
+      demands = said.demands;
+    }

@@ -17,5 +17,8 @@ returns c =
     let lost = c.lost-loss.ensures in
     let answered = c.loss_answer.ensures ∙ ap loss_answer lost.answer in
     let narrow = rw lost.answer at lost.narrow in
-    let told = (c.packed.ensures ∙ ap packed_of answered, (lost_answer _ _ _ refl narrow, narrow)) in
-    record { answer = told.0; small = told.1.0; narrow = told.1.1 }
+    record {
+      answer = c.packed.ensures ∙ ap packed_of answered;
+      small = lost_answer _ _ _ refl narrow;
+      narrow = narrow;
+    }
