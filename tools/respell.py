@@ -126,8 +126,14 @@ def defined_names(text):
             yield m.group("name")
 
 
+# Names that a file gives to modules and to what it binds by `let`.
+LOCAL = re.compile(r"(?:\blet |\bas )([a-z][a-z0-9_]*(?:-[a-z0-9_]+)+)(?=[\s;,}])")
+
+
 def respell(text, table, path):
     known = aliases(text)
+    words = set(TOKEN.findall(text))
+    table = {n: snake(n) + ("_here" if snake(n) in words else "") for n in LOCAL.findall(text)} | table
     strings = [m.span() for m in STRING.finditer(text)]
     out, last = [], 0
     for m in TOKEN.finditer(text):

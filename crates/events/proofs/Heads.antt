@@ -243,10 +243,10 @@ module _ (levels : ℕ) (bytes : List ℕ) (class : Class) (at : ℕ) (own : Own
         → head_of (built kind (text_of bytes own) part_trees) ≡ get_or part_trees 1 absent
         → HeadSays bytes (head_refusal record_tree) (head_of record_tree) (second_field levels next (skipped levels bytes field own.end))
     behind_says kind field next slots same due refusal head =
-        let slots-are : fields own.kind (rule class).value ≡ must field ∷ must next ∷ slots = ap (λ (kind : Kind). fields kind (rule class).value) same ∙ due in
-        let head-refusal = ap (λ (kind : Kind). head_refusal (built kind (text_of bytes own) part_trees)) same ∙ refusal in
+        let slots_are : fields own.kind (rule class).value ≡ must field ∷ must next ∷ slots = ap (λ (kind : Kind). fields kind (rule class).value) same ∙ due in
+        let head_refusal_here = ap (λ (kind : Kind). head_refusal (built kind (text_of bytes own) part_trees)) same ∙ refusal in
         let head_is = ap (λ (kind : Kind). head_of (built kind (text_of bytes own) part_trees)) same ∙ head in
-        rw (head-refusal, head_is, first_read field (must next ∷ slots) slots-are, second_read field next slots slots-are) (second_says levels bytes field next own.end)
+        rw (head_refusal_here, head_is, first_read field (must next ∷ slots) slots_are, second_read field next slots slots_are) (second_says levels bytes field next own.end)
 
     -- `Data`
     data_says : eqb (get_or bytes at 0) 5 ≡ true
@@ -360,10 +360,10 @@ module _ (bytes : List ℕ) (class : Class) (located : Bool) (tokens : rule clas
         → head_of (built kind (text_of bytes own) parts) ≡ head_of (get_or parts 0 absent)
         → HeadSays bytes (head_refusal token) (head_of token) (inner_head levels bytes field own.end)
     wrapped_says kind field nodal list leaf same due refusal head =
-        let slots-are : fields own.kind (rule class).value ≡ must field ∷ [] = ap (λ (kind : Kind). fields kind (rule class).value) same ∙ due in
-        let head-refusal = ap (λ (kind : Kind). head_refusal (built kind (text_of bytes own) parts)) same ∙ refusal in
+        let slots_are : fields own.kind (rule class).value ≡ must field ∷ [] = ap (λ (kind : Kind). fields kind (rule class).value) same ∙ due in
+        let head_refusal_here = ap (λ (kind : Kind). head_refusal (built kind (text_of bytes own) parts)) same ∙ refusal in
         let head_is = ap (λ (kind : Kind). head_of (built kind (text_of bytes own) parts)) same ∙ head in
-        rw (head-refusal, head_is, first_read levels bytes class at own is list leaf field [] slots-are) (inner_says levels bytes field own.end nodal)
+        rw (head_refusal_here, head_is, first_read levels bytes class at own is list leaf field [] slots_are) (inner_says levels bytes field own.end nodal)
 
     -- that of `Braces` and of `Config` is the block's
     block_says : (eqb (get_or bytes at 0) 2 || eqb (get_or bytes at 0) 3) ≡ true → HeadSays bytes (head_refusal token) (head_of token) (inner_head levels bytes BlockRecord own.end)

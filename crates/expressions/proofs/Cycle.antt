@@ -41,7 +41,7 @@ use Rattle.events.proofs.OwnParts.{record_headed}
 use Rattle.leaves.specs.Lists.{item_trees, items_end}
 use Rattle.leaves.specs.Records.{field_trees, fields_end, Opens}
 use Rattle.leaves.specs.declared.record.Opened.{Opened}
-use Rattle.leaves.specs.declared.record.Opened.TheVariants as opened-is
+use Rattle.leaves.specs.declared.record.Opened.TheVariants as opened_is
 use Rattle.leaves.proofs.Fielded.{opened_range, opened_by_number}
 use Rattle.leaves.proofs.Records.{read_refused, read_record}
 use Rattle.expressions.proofs.Stands.{field_stands}
@@ -73,12 +73,12 @@ factor_left false number range other = omega (arith, range.0, range.1, other)
 
 -- the number of a record that was opened may stand
 opened_standing : {context : Context} {shown : Bool} {levels : ℕ} {bytes : List ℕ} {class : Class} {on : Bool} {left room : List ℕ} {last : Printed} {opened : Opened}
-    {own : Own} {state : CodeFormatter} → Opens opened left last room context shown levels bytes class on → opened ≡ opened-is.Record own state
+    {own : Own} {state : CodeFormatter} → Opens opened left last room context shown levels bytes class on → opened ≡ opened_is.Record own state
     → may_stand (rule class) (kind_number own.kind) ≡ true
 opened_standing {context} {shown} {levels} {bytes} {class} {on} {left} {room} {last} {opened} {own} {state} opens is =
     let there = some_place last in
-    let open-there : Opens (opened-is.Record own state) left last room context shown levels bytes class on = rw is at opens in
-    let headed = (record_headed bytes there.0 class levels own (open-there.from there.0 there.1).1).1 in
+    let open_there : Opens (opened_is.Record own state) left last room context shown levels bytes class on = rw is at opens in
+    let headed = (record_headed bytes there.0 class levels own (open_there.from there.0 there.1).1).1 in
     rw (kind_number_lem (get_or bytes there.0 0) own.kind headed.kind_is) headed.standing
 
 -- where it is not named by its number, that of a list, it would be a star's
@@ -111,7 +111,7 @@ module _ {context : Context} {shown : Bool} {levels : ℕ} {bytes : List ℕ} {o
     {state : CodeFormatter}
   where
     -- of the expressions, where it is no binary one
-    pub factor_is : (located : Bool) → Opens opened left last room context shown levels bytes (expression_class located) on → opened ≡ opened-is.Record own state
+    pub factor_is : (located : Bool) → Opens opened left last room context shown levels bytes (expression_class located) on → opened ≡ opened_is.Record own state
         → (own.kind ≡ variant.BinaryExpression → ⊥) → own.kind ≡ variant.Factor
     unfolding kind_number stored_with built
     factor_is located opens is no_binary =
@@ -120,7 +120,7 @@ module _ {context : Context} {shown : Bool} {levels : ℕ} {bytes : List ℕ} {o
         opened_by_number opens is 29 variant.Factor number refl
 
     -- of the factor's cases, where it is none of those with an arm
-    pub counter_is : Opens opened left last room context shown levels bytes class.LocatedFactor on → opened ≡ opened-is.Record own state
+    pub counter_is : Opens opened left last room context shown levels bytes class.LocatedFactor on → opened ≡ opened_is.Record own state
         → (own.kind ≡ variant.ExprParens → ⊥) → (own.kind ≡ variant.FunctionCall → ⊥) → (own.kind ≡ variant.IdentifierValue → ⊥)
         → (own.kind ≡ variant.Number → ⊥) → (own.kind ≡ variant.StringFactor → ⊥) → own.kind ≡ variant.CurrentProgramCounter
     unfolding kind_number stored_with built
@@ -135,7 +135,7 @@ module _ {context : Context} {shown : Bool} {levels : ℕ} {bytes : List ℕ} {o
         opened_by_number opens is 30 variant.CurrentProgramCounter number refl
 
     -- of arguments, where it is no star
-    pub list_is : (of : Arguments) → Opens opened left last room context shown levels bytes (list_class of) on → opened ≡ opened-is.Record own state
+    pub list_is : (of : Arguments) → Opens opened left last room context shown levels bytes (list_class of) on → opened ≡ opened_is.Record own state
         → (own.kind ≡ variant.ImportAll → ⊥) → own.kind ≡ variant.Vec
     unfolding kind_number stored_with built
     list_is of opens is no_star =

@@ -151,8 +151,8 @@ module _ (context : Context) (levels : ℕ) (bytes : List ℕ) (at : ℕ) (rchar
       → Shown answer room (tail_events context rchar suffix (read levels bytes) at) before (tail_end rchar suffix (read levels bytes) at)
   unfolding first_refusal run view
   tail_shown {own = own} is read_as done =
-      let mode-is = mode_read bytes mode levels own (sym same ∙ is) in
-      rw (← there, mode-is.0, mode-is.1) (alike (λ x. refl) (rw read_as at done))
+      let mode_is = mode_read bytes mode levels own (sym same ∙ is) in
+      rw (← there, mode_is.0, mode_is.1) (alike (λ x. refl) (rw read_as at done))
 
   -- one that cannot be read ends the walk there
   pub tail_refused : {why said : Refusal} {state : CodeFormatter} → found ≡ own_is.Refused why → said ≡ refusal_of found

@@ -35,7 +35,7 @@ use Rattle.events.proofs.OwnParts.{record_headed}
 use Rattle.leaves.specs.Lists.{item_trees, items_end}
 use Rattle.leaves.specs.Records.{Opens}
 use Rattle.leaves.specs.declared.record.Opened.{Opened}
-use Rattle.leaves.specs.declared.record.Opened.TheVariants as opened-is
+use Rattle.leaves.specs.declared.record.Opened.TheVariants as opened_is
 use Rattle.leaves.proofs.Records.{read_record}
 use Rattle.leaves.proofs.Fielded.{opened_range, opened_by_number}
 
@@ -43,12 +43,12 @@ use Rattle.leaves.proofs.Fielded.{opened_range, opened_by_number}
 
 -- a string's items are a list
 pub opened_items : {context : Context} {shown : Bool} {levels : ℕ} {bytes : List ℕ} {stands : Bool} {left room : List ℕ} {last : Printed} {opened : Opened} {own : Own} {state : CodeFormatter}
-    → Opens opened left last room context shown levels bytes class.StringItems stands → opened ≡ opened-is.Record own state → own.kind ≡ variant.Vec
+    → Opens opened left last room context shown levels bytes class.StringItems stands → opened ≡ opened_is.Record own state → own.kind ≡ variant.Vec
 unfolding kind_number stored_with
 opened_items {context} {shown} {levels} {bytes} {stands} {left} {room} {last} {opened} {own} {state} opens is =
     let there = some_place last in
-    let own-opens : Opens (opened-is.Record own state) left last room context shown levels bytes class.StringItems stands = rw is at opens in
-    let headed = (record_headed bytes there.0 class.StringItems levels own (own-opens.from there.0 there.1).1).1 in
+    let own_opens : Opens (opened_is.Record own state) left last room context shown levels bytes class.StringItems stands = rw is at opens in
+    let headed = (record_headed bytes there.0 class.StringItems levels own (own_opens.from there.0 there.1).1).1 in
     let number = kind_number_lem (get_or bytes there.0 0) own.kind headed.kind_is in
     by_test (eqb (get_or bytes there.0 0) 24)
     (λ list. opened_by_number opens is 24 variant.Vec (number ∙ eqb-true _ _ list) refl)
@@ -62,7 +62,7 @@ opened_items {context} {shown} {levels} {bytes} {stands} {left} {room} {last} {o
 -- ---- an item
 
 module _ {context : Context} {shown : Bool} {levels : ℕ} {bytes : List ℕ} {stands : Bool} {left room : List ℕ} {last : Printed} {opened : Opened}
-    (opens : Opens opened left last room context shown levels bytes class.StringItem stands) {own : Own} {state : CodeFormatter} (is : opened ≡ opened-is.Record own state)
+    (opens : Opens opened left last room context shown levels bytes class.StringItem stands) {own : Own} {state : CodeFormatter} (is : opened ≡ opened_is.Record own state)
   where
     -- so an item that is no path is a text
     pub text_item : (own.kind ≡ variant.PathItem → ⊥) → own.kind ≡ variant.Leaf

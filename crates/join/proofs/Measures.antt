@@ -111,9 +111,9 @@ module _ {measure : Measure} {line : List ℕ} (known : Measured measure line) (
   between_ink {end} e inky =
       let ink : all_blank text ≡ false = end_ink text (λ none. inky (e ∙ none)) in
       let behind_ink : all_blank (text ++ spaces behind) ≡ false = blank_append text (spaces behind) ∙ rw ink in
-      let all-ink : all_blank between ≡ false = blank_append (spaces before) (text ++ spaces behind) ∙ rw (spaces_blank before, behind_ink) in
+      let all_ink : all_blank between ≡ false = blank_append (spaces before) (text ++ spaces behind) ∙ rw (spaces_blank before, behind_ink) in
       let trimmed : trim_end (line ++ between) ≡ line ++ (spaces before ++ trim_end text) =
-      trim_append_ink line between all-ink
+      trim_append_ink line between all_ink
       ∙ ap (λ (rest : List ℕ). line ++ rest) (trim_append_ink (spaces before) (text ++ spaces behind) behind_ink
       ∙ ap (λ (rest : List ℕ). spaces before ++ rest) (trim_append_blank text (spaces behind) (spaces_blank behind))) in
       record {

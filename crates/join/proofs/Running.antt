@@ -71,14 +71,14 @@ cut_written past cut bytes text text₁ text₂ start here room newline lead lin
     let part = slice cut.low cut.high bytes in
     let whole : before ++ part ≡ cut_bytes past cut bytes = append_assoc (front past.any) (spaces cut.lead) part in
     let front_end_lem : start ≡ n + length (front past.any) = here ∙ start_front past in
-    let before-length : length before ≡ length (front past.any) + cut.lead = length-append (front past.any) (spaces cut.lead) ∙ rw (length-replicate {A = ℕ} cut.lead 32) in
+    let before_length : length before ≡ length (front past.any) + cut.lead = length-append (front past.any) (spaces cut.lead) ∙ rw (length-replicate {A = ℕ} cut.lead 32) in
     let end : n + length before ≡ start + cut.lead = omega arith in
     let enough : n + length before ≤ length text = omega (arith, length-append before part, ap length whole) in
-    let fit-before : fits text n before ≡ true = le-leb _ _ enough in
+    let fit_before : fits text n before ≡ true = le-leb _ _ enough in
     let base : start + cut.lead + (0 - cut.low) ≡ start + cut.lead = omega arith in
     let low : cut.low - 0 ≡ cut.low = omega arith in
     let high : cut.high - 0 ≡ cut.high = omega arith in
-    let led : text₂ ≡ sets text n before = lead ∙ rw (newline, front_end_lem) (stored_append text n (front past.any) (spaces cut.lead) fit-before ∙ rw fit-before) in
+    let led : text₂ ≡ sets text n before = lead ∙ rw (newline, front_end_lem) (stored_append text n (front past.any) (spaces cut.lead) fit_before ∙ rw fit_before) in
     line ∙ puts_slice text₂ (record { base = start + cut.lead; low = cut.low; high = cut.high }) 0 bytes
     ∙ rw (base, low, high, led, ← end) (sym (sets_append text n before part) ∙ rw whole)
 
@@ -144,7 +144,7 @@ module _ (past : Past) (guess : Guess) (bytes text text₁ text₂ : List ℕ) {
       let part = slice guess.low far bytes in
       let cut : Cut = record { kept = true; standalone = false; lead = guess.lead; low = guess.low; high = far } in
       let whole : before ++ part ≡ cut_bytes past cut bytes = append_assoc (front past.any) (spaces guess.lead) part in
-      let before-length : length before ≡ length (front past.any) + guess.lead = length-append (front past.any) (spaces guess.lead) ∙ rw (length-replicate {A = ℕ} guess.lead 32) in
+      let before_length : length before ≡ length (front past.any) + guess.lead = length-append (front past.any) (spaces guess.lead) ∙ rw (length-replicate {A = ℕ} guess.lead 32) in
       let short = slice_short guess.low far bytes in
       let shown = take_slice guess.low high far bytes up (omega arith) in
       let enough : n + length (cut_bytes past cut bytes) ≤ length text = omega (arith, start_front past, length-append before part, ap length whole) in

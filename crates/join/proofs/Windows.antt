@@ -52,9 +52,9 @@ puts_slice text window at (b ∷ bytes) =
     (λ behind.
     let above = ltb-false at window.high behind in
     let to : window.high - at ≡ 0 = omega arith in
-    let to-next : window.high - (at + 1) ≡ 0 = omega arith in
+    let to_next : window.high - (at + 1) ≡ 0 = omega arith in
     rw (behind, and-false (leb window.low at))
-    (puts_slice text window (at + 1) bytes ∙ rw (to, to-next, drop-nil {A = ℕ} (window.low - at), drop-nil {A = ℕ} (window.low - (at + 1)))))
+    (puts_slice text window (at + 1) bytes ∙ rw (to, to_next, drop-nil {A = ℕ} (window.low - at), drop-nil {A = ℕ} (window.low - (at + 1)))))
 
 -- no more is taken than there is
 take_clipped : (n : ℕ) (bytes : List ℕ) → take (min n (length bytes)) bytes ≡ take n bytes

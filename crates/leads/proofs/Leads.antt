@@ -20,7 +20,7 @@ use Rattle.printing.specs.Running.{going, run, place_of, finished, Shown}
 use Rattle.printing.specs.declared.CodeFormatter.{CodeFormatter}
 use Rattle.printing.specs.declared.Context.{Context}
 use Rattle.printing.specs.declared.Printed.{Printed}
-use Rattle.printing.specs.declared.Printed.TheVariants as answer-is
+use Rattle.printing.specs.declared.Printed.TheVariants as answer_is
 use Rattle.printing.proofs.Running.{◌then◌, finish, stopped_there, handed_on, refused_before}
 use Rattle.events.specs.Views.{block_bit}
 use Rattle.events.specs.Refusals.{head_refusal}
@@ -43,7 +43,7 @@ module _ (levels : ℕ) (bytes : List ℕ) (at : ℕ) where
   module _ (context : Context) (drops : Bool) (before : Before) (room : List ℕ) (state : CodeFormatter) where
     -- a refusal ends the walk, whatever comes behind it
     pub lead_stopped : {why : Refusal} → head_refusal (read levels bytes BareToken at).tree ≡ Failed why → state.full ≡ 0 → (next : Events) (end : ℕ)
-        → Shown (answer-is.Refused why) room (lead_in context drops before (read levels bytes BareToken at).tree ▹ next) (going room state) end
+        → Shown (answer_is.Refused why) room (lead_in context drops before (read levels bytes BareToken at).tree ▹ next) (going room state) end
     lead_stopped met left next end = handed_on {end = at} (rw met (handed_on {end = at} (stopped_there left) refl)) refl
 
     -- nothing is met: the trivia of the head and the newline are run
@@ -77,7 +77,7 @@ module _ (levels : ℕ) (bytes : List ℕ) (at : ℕ) where
 
     -- where the brace's own bytes were refused
     pub closing_stopped : {own : OwnRead} {why said : Refusal} → own ≡ read_own bytes at CloseBrace levels → own ≡ Refused why → said ≡ refusal_of own → state.full ≡ 0
-        → Shown (answer-is.Refused said) room (closing_events context drops before (block_end (read levels bytes CloseBrace at).tree)) (going room state) at
+        → Shown (answer_is.Refused said) room (closing_events context drops before (block_end (read levels bytes CloseBrace at).tree)) (going room state) at
     closing_stopped {own} {why} same is says left =
         rw (says ∙ ap refusal_of is, own_refused levels bytes CloseBrace at why (sym same ∙ is)) (handed_on {end = at} (stopped_there left) refl)
 
@@ -97,14 +97,14 @@ module _ (levels : ℕ) (bytes : List ℕ) (at : ℕ) where
 
 module _ {levels : ℕ} {bytes : List ℕ} {context : Context} {drops : Bool} {before : Before} {last : Printed} {room : List ℕ} where
   -- what was refused stays refused
-  pub over_stays : {why : Refusal} → last ≡ answer-is.Refused why → LeadsIn (Over last) room last room context drops before levels bytes
+  pub over_stays : {why : Refusal} → last ≡ answer_is.Refused why → LeadsIn (Over last) room last room context drops before levels bytes
   over_stays is = record {
     from = λ at here next end.
         (refused_before {events = λ (at : ℕ). lead_in context drops before (read levels bytes BareToken at).tree ▹ next} {end = λ (at : ℕ). end} is).from at here;
   }
 
   -- what was done goes on
-  pub lead_from : {lead : Lead} {left : List ℕ} {state : CodeFormatter} {at : ℕ} → last ≡ answer-is.Done state at
+  pub lead_from : {lead : Lead} {left : List ℕ} {state : CodeFormatter} {at : ℕ} → last ≡ answer_is.Done state at
       → LeadsAt lead left (going room state) (lead_in context drops before (read levels bytes BareToken at).tree) levels bytes at
       → LeadsIn lead left last room context drops before levels bytes
   lead_from {at = at} is there = record {
@@ -113,12 +113,12 @@ module _ {levels : ℕ} {bytes : List ℕ} {context : Context} {drops : Bool} {b
         rw (← same, is) there;
   }
 
-  module _ {state : CodeFormatter} {at : ℕ} (is : last ≡ answer-is.Done state at) where
+  module _ {state : CodeFormatter} {at : ℕ} (is : last ≡ answer_is.Done state at) where
     -- a state that was full
     pub over_full : {answer : Printed} → answer ≡ finished state at → (state.full ≡ 0 → ⊥) → LeadsIn (Over answer) room last room context drops before levels bytes
     over_full answered full = lead_from is (λ next end. full_refused at answered full)
 
     -- a refusal on the way
     pub over_met : {why said : Refusal} → head_refusal (read levels bytes BareToken at).tree ≡ Failed why → said ≡ why → state.full ≡ 0
-        → LeadsIn (Over (answer-is.Refused said)) room last room context drops before levels bytes
+        → LeadsIn (Over (answer_is.Refused said)) room last room context drops before levels bytes
     over_met met says left = rw says (lead_from is (lead_stopped levels bytes at context drops before room state met left))

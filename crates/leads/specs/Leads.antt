@@ -18,7 +18,7 @@ use Rattle.printing.specs.Running.{numbers_printed, finish_numbers}
 use Rattle.printing.specs.declared.CodeFormatter.{CodeFormatter}
 use Rattle.printing.specs.declared.Context.{Context}
 use Rattle.printing.specs.declared.Printed.{Printed}
-use Rattle.printing.specs.declared.Printed.TheVariants as answer-is
+use Rattle.printing.specs.declared.Printed.TheVariants as answer_is
 use Rattle.events.specs.Views.{head_trivia, token_number, has_block}
 use Rattle.events.specs.Refusals.{head_refusal}
 use Rattle.events.specs.Trees.{stop_at, list_trivia, Before, first, behind, break_before}
@@ -59,8 +59,8 @@ head_own bytes (NoHead why) = Refused why
 
 abbrev pub led_on : Run → OwnRead → OwnRead → Lead
 led_on after (Record own) (Record head) = Ready own head (state_of after)
-led_on after (Record own) (Refused why) = Over (answer-is.Refused why)
-led_on after (Refused why) head = Over (answer-is.Refused why)
+led_on after (Record own) (Refused why) = Over (answer_is.Refused why)
+led_on after (Refused why) head = Over (answer_is.Refused why)
 
 abbrev pub room_on : Run → List ℕ → OwnRead → OwnRead → List ℕ
 room_on after room (Record own) (Record head) = room_of after
@@ -72,15 +72,15 @@ abbrev pub lead_run : List ℕ → CodeFormatter → Context → Bool → Before
 lead_run room state context drops before levels bytes at = run (lead_in context drops before (read levels bytes BareToken at).tree) (going room state)
 
 unfoldable pub lead_by : Printed → List ℕ → Context → Bool → Before → ℕ → List ℕ → Lead
-lead_by (answer-is.Refused why) room context drops before levels bytes = Over (answer-is.Refused why)
-lead_by (answer-is.Done state at) room context drops before levels bytes =
+lead_by (answer_is.Refused why) room context drops before levels bytes = Over (answer_is.Refused why)
+lead_by (answer_is.Done state at) room context drops before levels bytes =
     cond (eqb state.full 0)
     (led_on (lead_run room state context drops before levels bytes at) (read_own bytes at BareToken levels) (head_own bytes (head_at levels bytes BareToken at)))
     (Over (finished state at))
 
 unfoldable pub lead_room : Printed → List ℕ → Context → Bool → Before → ℕ → List ℕ → List ℕ
-lead_room (answer-is.Refused why) room context drops before levels bytes = room
-lead_room (answer-is.Done state at) room context drops before levels bytes =
+lead_room (answer_is.Refused why) room context drops before levels bytes = room
+lead_room (answer_is.Done state at) room context drops before levels bytes =
     cond (eqb state.full 0)
     (room_on (lead_run room state context drops before levels bytes at) room (read_own bytes at BareToken levels) (head_own bytes (head_at levels bytes BareToken at)))
     room
@@ -91,8 +91,8 @@ numbers_lead (Ready own head state) = (0, own.end)
 numbers_lead (Over answer) = numbers_printed answer
 
 unfoldable pub lead_numbers : Printed → ℕ → List ℕ → ℕ × ℕ
-lead_numbers (answer-is.Refused why) levels bytes = numbers_of why
-lead_numbers (answer-is.Done state at) levels bytes =
+lead_numbers (answer_is.Refused why) levels bytes = numbers_of why
+lead_numbers (answer_is.Done state at) levels bytes =
     let own = own_numbers bytes at BareToken levels in
     let head = numbers_own (head_own bytes (head_at levels bytes BareToken at)) in
     cond (eqb state.full 0) (unless_refused own (unless_refused head own)) (finish_numbers state at)

@@ -38,7 +38,7 @@ use Rattle.events.proofs.OwnParts.{Fielded, record_headed, record_parts}
 use Rattle.leaves.specs.Lists.{item_trees, items_end}
 use Rattle.leaves.specs.Records.{PrintsField, PrintsKind, field_trees, fields_end, Opens, closed_by}
 use Rattle.leaves.specs.declared.record.Opened.{Opened}
-use Rattle.leaves.specs.declared.record.Opened.TheVariants as opened-is
+use Rattle.leaves.specs.declared.record.Opened.TheVariants as opened_is
 use Rattle.leaves.proofs.Records.{read_record}
 
 -- ---- fields
@@ -163,16 +163,16 @@ module _ {context : Context} {shown : Bool} {levels : ℕ} {bytes : List ℕ} {c
     (opens : Opens opened left last room context shown levels bytes class stands)
   where
     -- where it was not opened
-    pub shown_closed : (place : Place) {answer said : Printed} → opened ≡ opened-is.Closed answer → said ≡ closed_by opened
+    pub shown_closed : (place : Place) {answer said : Printed} → opened ≡ opened_is.Closed answer → said ≡ closed_by opened
         → PrintsField said left last room context place shown levels bytes class stands
     shown_closed place {answer} {said} is says =
         let same : said ≡ answer = says ∙ ap closed_by is in
-        let shut : Opens (opened-is.Closed answer) left last room context shown levels bytes class stands = rw is at opens in
+        let shut : Opens (opened_is.Closed answer) left last room context shown levels bytes class stands = rw is at opens in
         record { from = λ at here. rw same (shut.from at here place) }
 
-    module _ {own : Own} {state : CodeFormatter} (is : opened ≡ opened-is.Record own state) where
+    module _ {own : Own} {state : CodeFormatter} (is : opened ≡ opened_is.Record own state) where
       -- its own bytes were read, and its trivia have been run
-      opened_own : Opens (opened-is.Record own state) left last room context shown levels bytes class stands
+      opened_own : Opens (opened_is.Record own state) left last room context shown levels bytes class stands
       opened_own = rw is at opens
 
       -- a level was left

@@ -27,7 +27,7 @@ use Rattle.printing.specs.Running.{Run, going, run, finished, Shown}
 use Rattle.printing.specs.declared.CodeFormatter.{CodeFormatter}
 use Rattle.printing.specs.declared.Context.{Context}
 use Rattle.printing.specs.declared.Printed.{Printed}
-use Rattle.printing.specs.declared.Printed.TheVariants as answer-is
+use Rattle.printing.specs.declared.Printed.TheVariants as answer_is
 use Rattle.printing.proofs.Running.{told, alike, stopped_there, full_before}
 use Rattle.events.specs.Printed.{Style, printed}
 use Rattle.events.specs.Trees.{word, trivia_events, leaf, events_in}
@@ -141,7 +141,7 @@ module _ (bytes : List ℕ) (class : Class) (at levels : ℕ) (context : Context
 
     -- own bytes that were refused
     pub refusal_shown : (why said : Refusal) {room : List ℕ} {state : CodeFormatter} → said ≡ refusal_of found → found ≡ Refused why → state.full ≡ 0
-        → Shown (answer-is.Refused said) room (own_events context style shown bytes (read_own bytes at class levels)) (going room state) (own_end at (read_own bytes at class levels))
+        → Shown (answer_is.Refused said) room (own_events context style shown bytes (read_own bytes at class levels)) (going room state) (own_end at (read_own bytes at class levels))
     refusal_shown why said says is left =
         rw (says ∙ ap refusal_of is)
         (told (ap (own_events context style shown bytes) (sym is ∙ same)) (ap (own_end at) (sym is ∙ same)) (stopped_there left))

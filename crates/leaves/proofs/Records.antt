@@ -23,7 +23,7 @@ use Rattle.printing.specs.Running.{Run, going, run, finished, outcome, place_of,
 use Rattle.printing.specs.declared.CodeFormatter.{CodeFormatter}
 use Rattle.printing.specs.declared.Context.{Context}
 use Rattle.printing.specs.declared.Printed.{Printed}
-use Rattle.printing.specs.declared.Printed.TheVariants as answer-is
+use Rattle.printing.specs.declared.Printed.TheVariants as answer_is
 use Rattle.printing.proofs.Running.{ran_nothing, finish, stopped_there, refused_before, done_before}
 use Rattle.events.specs.Views.{bit_at}
 use Rattle.events.specs.Refusals.{first_refusal}
@@ -32,7 +32,7 @@ use Rattle.events.proofs.Refusals.{skip_passed, skip_refused}
 use Rattle.leaves.specs.Items.{items_at}
 use Rattle.leaves.specs.Records.{OpensAt, Opens, Skips}
 use Rattle.leaves.specs.declared.record.Opened.{Opened}
-use Rattle.leaves.specs.declared.record.Opened.TheVariants as opened-is
+use Rattle.leaves.specs.declared.record.Opened.TheVariants as opened_is
 use Rattle.leaves.proofs.Leaves.{own_items, full_refused}
 
 -- ---- what reading gives of a record by its own bytes
@@ -69,42 +69,42 @@ bit_next bits (suc left) some = rw sub-one refl
 -- ---- from the last answer
 
 -- the place is the one where it ended
-there_is : {last : Printed} {state : CodeFormatter} {there : ℕ} → last ≡ answer-is.Done state there → (at : ℕ) → place_of last at ≡ at → there ≡ at
+there_is : {last : Printed} {state : CodeFormatter} {there : ℕ} → last ≡ answer_is.Done state there → (at : ℕ) → place_of last at ≡ at → there ≡ at
 there_is is at here = sym (ap (λ (a : Printed). place_of a at) is) ∙ here
 
 module _ {context : Context} {shown : Bool} {levels : ℕ} {bytes : List ℕ} {class : Class} {stands : Bool} where
   -- where it was refused
-  pub closed_stays : {last : Printed} {room : List ℕ} {why : Refusal} → last ≡ answer-is.Refused why
-      → Opens (opened-is.Closed last) room last room context shown levels bytes class stands
+  pub closed_stays : {last : Printed} {room : List ℕ} {why : Refusal} → last ≡ answer_is.Refused why
+      → Opens (opened_is.Closed last) room last room context shown levels bytes class stands
   closed_stays is = record {
     from = λ at here place.
         (refused_before {events = λ at. events_in context place shown (cond stands (read levels bytes class at).tree absent)}
         {end = λ at. cond stands (read levels bytes class at).end at} is).from at here;
   }
 
-  module _ {last : Printed} {state : CodeFormatter} {there : ℕ} (is : last ≡ answer-is.Done state there) where
+  module _ {last : Printed} {state : CodeFormatter} {there : ℕ} (is : last ≡ answer_is.Done state there) where
     -- what is closed at the place where it ended
     closed_there : {answer : Printed} {room : List ℕ}
         → ((place : Place) → Shown answer room (events_in context place shown (cond stands (read levels bytes class there).tree absent)) (going room state)
         (cond stands (read levels bytes class there).end there))
-        → Opens (opened-is.Closed answer) room last room context shown levels bytes class stands
+        → Opens (opened_is.Closed answer) room last room context shown levels bytes class stands
     closed_there shut = record { from = λ at here place. rw (← (there_is is at here), is) (shut place) }
 
     -- where the record does not stand
     pub closed_absent : {answer : Printed} {room : List ℕ} → stands ≡ false → answer ≡ finished state there
-        → Opens (opened-is.Closed answer) room last room context shown levels bytes class stands
+        → Opens (opened_is.Closed answer) room last room context shown levels bytes class stands
     unfolding events_in
     closed_absent none answered = closed_there (λ place. rw none (finish ran_nothing answered refl))
 
     -- where the state is full
     pub closed_full : {answer : Printed} {room : List ℕ} → answer ≡ finished state there → (state.full ≡ 0 → ⊥)
-        → Opens (opened-is.Closed answer) room last room context shown levels bytes class stands
+        → Opens (opened_is.Closed answer) room last room context shown levels bytes class stands
     closed_full answered full = closed_there (λ place. full_refused there answered full)
 
     module _ (some : stands ≡ true) {found : OwnRead} (same : found ≡ read_own bytes there class levels) where
       -- where own bytes were refused
       pub closed_refused : {why said : Refusal} {room : List ℕ} → said ≡ refusal_of found → found ≡ Refused why → state.full ≡ 0
-          → Opens (opened-is.Closed (answer-is.Refused said)) room last room context shown levels bytes class stands
+          → Opens (opened_is.Closed (answer_is.Refused said)) room last room context shown levels bytes class stands
       unfolding events_in
       closed_refused {why} says told left =
           let one = read_refused bytes class there levels why (sym same ∙ told) in
@@ -113,7 +113,7 @@ module _ {context : Context} {shown : Bool} {levels : ℕ} {bytes : List ℕ} {c
       -- where they were read
       pub opened_record : {own : Own} {room left : List ℕ} {next : CodeFormatter} → Fits bytes there found → found ≡ Record own
           → run (cond shown (trivia_events context (items_at bytes own.trivia own.trivia_count)) nothing) (going room state) ≡ going left next
-          → Opens (opened-is.Record own next) left last room context shown levels bytes class stands
+          → Opens (opened_is.Record own next) left last room context shown levels bytes class stands
       opened_record {own} {room} fits told ran =
           let items = own_items bytes there own fits told in
           record { from = λ at here. rw (← (there_is is at here), is) (some, sym same ∙ told, (rw told at fits), rw items at ran) }
@@ -122,10 +122,10 @@ module _ {context : Context} {shown : Bool} {levels : ℕ} {bytes : List ℕ} {c
 
 module _ {levels : ℕ} {bytes : List ℕ} {class : Class} {stands : Bool} where
   -- where the last answer was refused
-  pub skip_stays : {last : Printed} {why : Refusal} → last ≡ answer-is.Refused why → Skips last last levels bytes class stands
+  pub skip_stays : {last : Printed} {why : Refusal} → last ≡ answer_is.Refused why → Skips last last levels bytes class stands
   skip_stays is = record { from = λ room. refused_before is }
 
-  module _ {last : Printed} {state : CodeFormatter} {there : ℕ} (is : last ≡ answer-is.Done state there) where
+  module _ {last : Printed} {state : CodeFormatter} {there : ℕ} (is : last ≡ answer_is.Done state there) where
     -- where it does not stand
     pub skip_absent : {answer : Printed} → stands ≡ false → answer ≡ finished state there → Skips answer last levels bytes class stands
     unfolding first_refusal
@@ -138,7 +138,7 @@ module _ {levels : ℕ} {bytes : List ℕ} {class : Class} {stands : Bool} where
     module _ (some : stands ≡ true) {found : Skipped} (same : found ≡ skipped levels bytes class there) where
       -- where it holds a refusal
       pub skip_stopped : {why said : Refusal} → said ≡ refused_skip found → found ≡ NotSkipped why → state.full ≡ 0
-          → Skips (answer-is.Refused said) last levels bytes class stands
+          → Skips (answer_is.Refused said) last levels bytes class stands
       skip_stopped {why} says told left = record {
         from = λ room. done_before is
             (rw (some, says ∙ ap refused_skip told, skip_refused levels bytes class there why (sym same ∙ told)) (stopped_there left));

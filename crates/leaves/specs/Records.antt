@@ -17,7 +17,7 @@ use Rattle.printing.specs.Running.{numbers_printed, finish_numbers}
 use Rattle.printing.specs.declared.CodeFormatter.{CodeFormatter}
 use Rattle.printing.specs.declared.Context.{Context}
 use Rattle.printing.specs.declared.Printed.{Printed}
-use Rattle.printing.specs.declared.Printed.TheVariants as answer-is
+use Rattle.printing.specs.declared.Printed.TheVariants as answer_is
 use Rattle.events.specs.Printed.{plain}
 use Rattle.events.specs.Views.{bit_at}
 use Rattle.events.specs.Trees.{trivia_events, skipping, Place, leaf, events_in}
@@ -81,20 +81,20 @@ trivia_run room state context shown bytes own = run (cond shown (trivia_events c
 
 abbrev pub opened_on : List ℕ → CodeFormatter → Context → Bool → List ℕ → OwnRead → Opened
 opened_on room state context shown bytes (own_is.Record own) = Record own (state_of (trivia_run room state context shown bytes own))
-opened_on room state context shown bytes (own_is.Refused why) = Closed (answer-is.Refused why)
+opened_on room state context shown bytes (own_is.Refused why) = Closed (answer_is.Refused why)
 
 abbrev pub room_on : List ℕ → CodeFormatter → Context → Bool → List ℕ → OwnRead → List ℕ
 room_on room state context shown bytes (own_is.Record own) = room_of (trivia_run room state context shown bytes own)
 room_on room state context shown bytes (own_is.Refused why) = room
 
 unfoldable pub opened_by : Printed → List ℕ → Context → Bool → ℕ → List ℕ → Class → Bool → Opened
-opened_by (answer-is.Refused why) room context shown levels bytes class stands = Closed (answer-is.Refused why)
-opened_by (answer-is.Done state at) room context shown levels bytes class stands =
+opened_by (answer_is.Refused why) room context shown levels bytes class stands = Closed (answer_is.Refused why)
+opened_by (answer_is.Done state at) room context shown levels bytes class stands =
     cond (stands && eqb state.full 0) (opened_on room state context shown bytes (read_own bytes at class levels)) (Closed (finished state at))
 
 unfoldable pub opened_room : Printed → List ℕ → Context → Bool → ℕ → List ℕ → Class → Bool → List ℕ
-opened_room (answer-is.Refused why) room context shown levels bytes class stands = room
-opened_room (answer-is.Done state at) room context shown levels bytes class stands =
+opened_room (answer_is.Refused why) room context shown levels bytes class stands = room
+opened_room (answer_is.Done state at) room context shown levels bytes class stands =
     cond (stands && eqb state.full 0) (room_on room state context shown bytes (read_own bytes at class levels)) room
 
 -- in document 01's numbers: 0 with the place behind the own bytes, or those of the answer
@@ -103,8 +103,8 @@ numbers_opened (Record own state) = (0, own.end)
 numbers_opened (Closed answer) = numbers_printed answer
 
 unfoldable pub opened_numbers : Printed → ℕ → List ℕ → Class → Bool → ℕ × ℕ
-opened_numbers (answer-is.Refused why) levels bytes class stands = numbers_of why
-opened_numbers (answer-is.Done state at) levels bytes class stands =
+opened_numbers (answer_is.Refused why) levels bytes class stands = numbers_of why
+opened_numbers (answer_is.Done state at) levels bytes class stands =
     cond (stands && eqb state.full 0) (own_numbers bytes at class levels) (finish_numbers state at)
 
 abbrev pub closed_by : Opened → Printed

@@ -51,6 +51,6 @@ module _ (levels : ℕ) (bytes : List ℕ) (class : Class) (at : ℕ) {place : H
         → TakesHead (Shown after) before from levels bytes class at spot
     unfolding view
     head_taken own fits held takes passed token =
-        let head-tree = head_is bytes class token.0 token.1 levels at head (sym same ∙ is)
+        let head_tree = head_is bytes class token.0 token.1 levels at head (sym same ∙ is)
         ∙ node_read head.levels bytes head.class head.place own (sym read-own ∙ held) in
-        shows_it (rw head-tree (rw (own_items bytes head.place own fits held) at takes))
+        shows_it (rw head_tree (rw (own_items bytes head.place own fits held) at takes))

@@ -160,11 +160,11 @@ module _ (bytes : List ℕ) where
       let some : 0 < limit = omega (arith, here) in
       let head = head_stands bytes some levels class at (head_at levels bytes class at) refl passed in
       let closing = closing_below limit number parts (parts_stand bytes some (levels - 1) (parts_due class own) own.end 2) in
-      let own-uses = both_below limit (own_marks class number listed at used) _ (own_below limit class number listed at used here)
+      let own_uses_here = both_below limit (own_marks class number listed at used) _ (own_below limit class number listed at used here)
       (both_below limit (head_marks class number listed (stands_at (head_of tree)) (has_comment (own_trivia (head_of tree)))) (closing_marks number parts)
       (head_below limit class number listed (stands_at (head_of tree)) (has_comment (own_trivia (head_of tree))) head) closing) in
       rw (record_uses levels bytes class at own is listed)
-      (both_below limit (own_uses class listed tree at parts) _ own-uses
+      (both_below limit (own_uses class listed tree at parts) _ own_uses_here
       (along_below (levels - 1) below (listed_below (get_or bytes at 0) listed) (standing (parts_due class own)) own.end parts_passed))
 
   uses_below : (levels : ℕ) (class : Class) (at : ℕ) (listed : Bool) → (read levels bytes class at).checked ≡ Passed

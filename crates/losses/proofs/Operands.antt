@@ -110,24 +110,24 @@ module _ (reader : Reader) (bits at : ℕ) where
   unfolding bit_at
   operand_read fits passed =
       let stood = must_stand fits in
-      let behind-first = may Char ∷ may Char ∷ must AddressingMode ∷ may SuffixRecord ∷ [] in
-      let behind-second = may Char ∷ must AddressingMode ∷ may SuffixRecord ∷ [] in
-      let behind-third = must AddressingMode ∷ may SuffixRecord ∷ [] in
-      let first = first_passed reader (must LocatedExpression) behind-first bits at passed in
-      let second = first_passed reader (may Char) behind-second (bits / 2) lchar_at (rw stood.0 at first.1) in
-      let third = first_passed reader (may Char) behind-third (bits / 2 / 2) rchar_at second.1 in
+      let behind_first = may Char ∷ may Char ∷ must AddressingMode ∷ may SuffixRecord ∷ [] in
+      let behind_second = may Char ∷ must AddressingMode ∷ may SuffixRecord ∷ [] in
+      let behind_third = must AddressingMode ∷ may SuffixRecord ∷ [] in
+      let first = first_passed reader (must LocatedExpression) behind_first bits at passed in
+      let second = first_passed reader (may Char) behind_second (bits / 2) lchar_at (rw stood.0 at first.1) in
+      let third = first_passed reader (may Char) behind_third (bits / 2 / 2) rchar_at second.1 in
       let fourth = first_passed reader (must AddressingMode) (may SuffixRecord ∷ []) (bits / 2 / 2 / 2) mode_at third.1 in
-      let trees-first = rw stood.0 at (first_trees reader (must LocatedExpression) behind-first bits at) in
-      let trees-second = first_trees reader (may Char) behind-second (bits / 2) lchar_at in
-      let trees-third = first_trees reader (may Char) behind-third (bits / 2 / 2) rchar_at in
-      let trees-fourth = first_trees reader (must AddressingMode) (may SuffixRecord ∷ []) (bits / 2 / 2 / 2) mode_at in
+      let trees_first = rw stood.0 at (first_trees reader (must LocatedExpression) behind_first bits at) in
+      let trees_second = first_trees reader (may Char) behind_second (bits / 2) lchar_at in
+      let trees_third = first_trees reader (may Char) behind_third (bits / 2 / 2) rchar_at in
+      let trees_fourth = first_trees reader (must AddressingMode) (may SuffixRecord ∷ []) (bits / 2 / 2 / 2) mode_at in
       record {
         expression = first.0 stood.0;
         opening = second.0;
         closing = third.0;
         mode = fourth.0 stood.1;
-        rchar = part_of 2 trees-first ∙ part_of 1 trees-second ∙ part_of 0 trees-third;
-        index = part_of 3 trees-first ∙ part_of 2 trees-second ∙ part_of 1 trees-third ∙ part_of 0 (rw stood.1 at trees-fourth);
+        rchar = part_of 2 trees_first ∙ part_of 1 trees_second ∙ part_of 0 trees_third;
+        index = part_of 3 trees_first ∙ part_of 2 trees_second ∙ part_of 1 trees_third ∙ part_of 0 (rw stood.1 at trees_fourth);
       }
 
 -- ---- the index of a mode

@@ -89,5 +89,5 @@ module _ (levels : ℕ) (bytes : List ℕ) (class : Class) (at : ℕ) (own : Own
       -- it is none
       pub record_shown : (number ≡ 37 → ⊥) → TakesRecord (Shown by-head) before from levels bytes class at own listed
       record_shown other is passed =
-          let number-other : eqb (token_number (read levels bytes class at).tree) 37 ≡ false = rw (sym (number_is is passed)) (ne_eqb number 37 other) in
-          shows_it (all_then (own_all is passed) (all_then (head_all is passed held) (rw number-other all_none)))
+          let number_other : eqb (token_number (read levels bytes class at).tree) 37 ≡ false = rw (sym (number_is is passed)) (ne_eqb number 37 other) in
+          shows_it (all_then (own_all is passed) (all_then (head_all is passed held) (rw number_other all_none)))

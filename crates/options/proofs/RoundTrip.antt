@@ -181,8 +181,8 @@ stored_read fields fits =
     let held : fields_of stored ≡ fields = rw eight at (fields_read stored 0 fields left) in
     let passed : values_checked stored 0 8 ≡ Passed = rw eight at (values_passed stored 0 fields fits refl left) in
     let long : length stored ≡ place_of (map_of stored) 8 = rw eight at (left_last stored 0 fields left) in
-    let map-small : bits_of fields < 256 = rw eight at (bits_small fields) in (
-      one_more (bits_of fields) (values_of fields) map-small (values_bytes fits (small_bytes largest refl)),
+    let map_small : bits_of fields < 256 = rw eight at (bits_small fields) in (
+      one_more (bits_of fields) (values_of fields) map_small (values_bytes fits (small_bytes largest refl)),
       held,
       rw (ne_eqb (length stored) 0 (omega arith), eq-eqb (length stored) (1 + standing (map_of stored) 8) long, passed) (ap Options (held_options stored ∙ rw held)),
     )

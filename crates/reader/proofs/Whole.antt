@@ -22,7 +22,7 @@ use Rattle.tree.specs.Reading.{trivia_from, due, parts_due, fields_due, read_par
 use Rattle.tree.specs.Parts.{skipped_on, skipped}
 use Rattle.tree.specs.Tree.{built, chain}
 use Rattle.tree.specs.declared.grammar.Kind.{Kind}
-use Rattle.tree.specs.declared.grammar.Kind.TheVariants as kind-is
+use Rattle.tree.specs.declared.grammar.Kind.TheVariants as kind_is_here
 use Rattle.tree.specs.declared.grammar.KindRead.TheVariants.{Known}
 use Rattle.tree.specs.declared.grammar.Class.TheVariants.{BareToken, Tokens}
 use Rattle.tree.specs.declared.own.Own.{Own}
@@ -57,17 +57,17 @@ row_parts bytes at (suc count) =
 
 -- only a list may stand there
 list_headed : {bytes : List ℕ} {at : ℕ} {kind : Kind} {trivia : TriviaSpan} → Headed bytes at Tokens kind trivia
-    → kind ≡ kind-is.Vec
+    → kind ≡ kind_is_here.Vec
 list_headed {bytes} {at} {kind} headed =
     let is : get_or bytes at 0 ≡ 24 =
     by_test (eqb (get_or bytes at 0) 24) (λ q. eqb-true _ _ q)
     (λ other. no_other 24 _ (rw other at headed.standing)) in
-    let same : Known kind ≡ Known kind-is.Vec = sym headed.kind_is ∙ ap kind_of is in
+    let same : Known kind ≡ Known kind_is_here.Vec = sym headed.kind_is ∙ ap kind_of is in
     cc
 
-list_kind : (bytes : List ℕ) (own : Own) → read_own bytes 0 Tokens 64 ≡ Record own → own.kind ≡ kind-is.Vec
+list_kind : (bytes : List ℕ) (own : Own) → read_own bytes 0 Tokens 64 ≡ Record own → own.kind ≡ kind_is_here.Vec
 list_kind bytes own =
-    own_cases bytes 0 Tokens (λ (own : Own). own.kind ≡ kind-is.Vec)
+    own_cases bytes 0 Tokens (λ (own : Own). own.kind ≡ kind_is_here.Vec)
     (λ kind trivia headed number room. list_headed headed)
     (λ kind trivia end headed leaf stands text. list_headed headed)
     (λ kind trivia headed list no_text. list_headed headed) 64 own

@@ -41,7 +41,7 @@ use Rattle.events.proofs.OwnParts.{both_stand, record_headed, record_fields}
 use Rattle.leaves.specs.Lists.{item_trees, items_end}
 use Rattle.leaves.specs.Records.{PrintsField, PrintsKind, field_trees, fields_end, Opens}
 use Rattle.leaves.specs.declared.record.Opened.{Opened}
-use Rattle.leaves.specs.declared.record.Opened.TheVariants as opened-is
+use Rattle.leaves.specs.declared.record.Opened.TheVariants as opened_is
 use Rattle.leaves.proofs.Fielded.{bare, opened_range, opened_by_number, opened-list}
 use Rattle.leaves.proofs.Records.{read_record}
 use Rattle.leads.specs.Leads.{before_of}
@@ -186,7 +186,7 @@ module _ (context : Context) (levels : ℕ) (bytes : List ℕ) (bits at : ℕ) (
       (λ is. by_kind number 15 kind variant.Loop known is refl inner loop_in shown)
       (λ is. by_kind number 16 kind variant.MacroDefinition known is refl inner macro_in shown)
       (λ is. by_kind number 20 kind variant.Test known is refl inner test_in shown)
-      (λ none. let nothing-in : inside ≡ Nothing = sym inner ∙ none in rw nothing-in at shown)
+      (λ none. let nothing_in : inside ≡ Nothing = sym inner ∙ none in rw nothing_in at shown)
 
 -- ---- labels
 
@@ -218,7 +218,7 @@ sort Branches = 3
 
 -- something is not nothing
 some_inside : {P : Type 0} {inside : Inner} → 0 < sort inside → inside ≡ Nothing → P
-some_inside {inside = inside} some none = let zero-sort : sort inside ≡ 0 = ap sort none in absurd (omega (arith, some, zero-sort))
+some_inside {inside = inside} some none = let zero_sort : sort inside ≡ 0 = ap sort none in absurd (omega (arith, some, zero_sort))
 
 -- a bound is met or lowered
 at_most : {P : Type 0} (number bound : ℕ) → number ≤ suc bound → (number ≡ suc bound → P) → (number ≤ bound → P) → P
@@ -306,18 +306,18 @@ module _ {context : Context} {shown : Bool} {levels : ℕ} {bytes : List ℕ} {o
     {state : CodeFormatter}
   where
     -- its number is one of a token, and its map fits that
-    pub token_opened : (located : Bool) (at : ℕ) → Opens opened left last room context shown levels bytes (token_class located) on → opened ≡ opened-is.Record own state
+    pub token_opened : (located : Bool) (at : ℕ) → Opens opened left last room context shown levels bytes (token_class located) on → opened ≡ opened_is.Record own state
         → place_of last at ≡ at → TokenOpened bytes own at
     token_opened located at opens is here =
-        let open-there : Opens (opened-is.Record own state) left last room context shown levels bytes (token_class located) on = rw is at opens in
-        let read-there = (open-there.from at here).1 in
-        let headed = (record_headed bytes at (token_class located) levels own read-there).1 in
+        let open_there : Opens (opened_is.Record own state) left last room context shown levels bytes (token_class located) on = rw is at opens in
+        let read_there = (open_there.from at here).1 in
+        let headed = (record_headed bytes at (token_class located) levels own read_there).1 in
         let number = kind_number_lem (get_or bytes at 0) own.kind headed.kind_is in
         let range = (opened_range opens is (token_rule located).0).1 in
         let last23 = (token_rule located).1 in
         let small : get_or bytes at 0 ≤ 23 = omega (arith, number, range, last23) in
         let other = no_list (get_or bytes at 0) small in
-        let fits = (record_fields bytes at (token_class located) levels own read-there other.0).ends other.1 in
+        let fits = (record_fields bytes at (token_class located) levels own read_there other.0).ends other.1 in
         record {
           small = small;
           known = headed.kind_is;
@@ -342,30 +342,30 @@ tokens_end bytes at levels own is same =
 
 module _ {context : Context} {levels : ℕ} {bytes : List ℕ} {left room : List ℕ} {last : Printed} {opened : Opened} {own : Own} {state : CodeFormatter} where
   -- so what was opened is one
-  list_is : Opens opened left last room context true levels bytes Tokens true → opened ≡ opened-is.Record own state → own.kind ≡ variant.Vec
+  list_is : Opens opened left last room context true levels bytes Tokens true → opened ≡ opened_is.Record own state → own.kind ≡ variant.Vec
   list_is opens is =
       let there = some_place last in
-      let open-there : Opens (opened-is.Record own state) left last room context true levels bytes Tokens true = rw is at opens in
-      let headed = (record_headed bytes there.0 Tokens levels own (open-there.from there.0 there.1).1).1 in
+      let open_there : Opens (opened_is.Record own state) left last room context true levels bytes Tokens true = rw is at opens in
+      let headed = (record_headed bytes there.0 Tokens levels own (open_there.from there.0 there.1).1).1 in
       let number = kind_number_lem (get_or bytes there.0 0) own.kind headed.kind_is in
       let same : get_or bytes there.0 0 ≡ 24 =
       by_test (eqb (get_or bytes there.0 0) 24) (λ q. eqb-true _ _ q) (λ other. no_other 24 _ (rw other at headed.standing)) in
       opened_by_number opens is 24 variant.Vec (number ∙ same) refl
 
   -- what is shown of its tokens is shown of the list
-  pub tokens_shown : {answer : Printed} {after : List ℕ} (block : Bool) → Opens opened left last room context true levels bytes Tokens true → opened ≡ opened-is.Record own state
+  pub tokens_shown : {answer : Printed} {after : List ℕ} (block : Bool) → Opens opened left last room context true levels bytes Tokens true → opened ≡ opened_is.Record own state
       → Prints answer after (Done state own.end) left (λ at. each_events context block levels bytes own.count at)
       (λ at. items_end (read (levels - 1) bytes) BareToken own.count at)
       → PrintsTokens answer after last room context block levels bytes
   tokens_shown {answer} {after} block opens is done =
-      let open-there : Opens (opened-is.Record own state) left last room context true levels bytes Tokens true = rw is at opens in
+      let open_there : Opens (opened_is.Record own state) left last room context true levels bytes Tokens true = rw is at opens in
       let vec = list_is opens is in
       record {
         from = λ at here.
             let end = items_end (read (levels - 1) bytes) BareToken own.count own.end in
             let list = (opened-list opens is (tokens block first (closing_at block levels bytes end)) {answer = answer} {after = after} BareToken vec refl
             (record { from = λ place same. rw (← same) (done.from own.end refl) })).from at here in
-            let ends = tokens_end bytes at levels own (open-there.from at here).1 vec in
+            let ends = tokens_end bytes at levels own (open_there.from at here).1 vec in
             rw (← ends) at list;
       }
 

@@ -23,7 +23,7 @@ use Rattle.printing.proofs.Running.{alike}
 use Rattle.events.specs.Trees.{blank, newline, opening, labelled, events_in}
 use Rattle.leaves.specs.Records.{Opens, PrintsRecord}
 use Rattle.leaves.specs.declared.record.Opened.{Opened}
-use Rattle.leaves.specs.declared.record.Opened.TheVariants as opened-is
+use Rattle.leaves.specs.declared.record.Opened.TheVariants as opened_is
 use Rattle.leaves.proofs.Classes.{word_leaf}
 use Rattle.leaves.proofs.Leaves.{own_leaf}
 use Rattle.leaves.proofs.Records.{read_record}
@@ -42,13 +42,13 @@ id_shown bytes levels own context at is done =
 
 -- what is shown from its own bytes on is shown of the record that was opened
 pub id_opened : {context : Context} {levels : ℕ} {bytes left room after : List ℕ} {last answer : Printed} {opened : Opened} {own : Own} {state : CodeFormatter}
-    → Opens opened left last room context false levels bytes class.Word true → opened ≡ opened-is.Record own state
+    → Opens opened left last room context false levels bytes class.Word true → opened ≡ opened_is.Record own state
     → ((at : ℕ) → read_own bytes at class.Word levels ≡ own_is.Record own → PrintsRecord answer after (Done state at) left context labelled false levels bytes class.Word)
     → PrintsRecord answer after last room context labelled false levels bytes class.Word
 unfolding run
 id_opened {context} {levels} {bytes} {left} {room} {last = last} {own = own} {state = state} opens is shown =
-    let open-there : Opens (opened-is.Record own state) left last room context false levels bytes class.Word true = rw is at opens in
-    record { from = λ at here. let there = open-there.from at here in rw there.3 ((shown at there.1).from at refl) }
+    let open_there : Opens (opened_is.Record own state) left last room context false levels bytes class.Word true = rw is at opens in
+    record { from = λ at here. let there = open_there.from at here in rw there.3 ((shown at there.1).from at refl) }
 
 -- ---- the position of braces
 

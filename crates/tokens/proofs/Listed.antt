@@ -35,7 +35,7 @@ use Rattle.events.specs.Trees.{Before, leaf}
 use Rattle.events.specs.Views.{token_number}
 use Rattle.events.proofs.Heads.{number_read}
 use Rattle.leaves.specs.Records.{Opens, PrintsField, PrintsKind}
-use Rattle.leaves.specs.declared.record.Opened.TheVariants as opened-is
+use Rattle.leaves.specs.declared.record.Opened.TheVariants as opened_is
 use Rattle.leaves.proofs.Fielded.{bare, opened-kind}
 use Rattle.leads.specs.Leads.{before_of, lead_in, Led, LeadsIn}
 use Rattle.leads.specs.declared.Before as code
@@ -86,7 +86,7 @@ module _ {context : Context} {drops : Bool} {before : Before} {levels : ℕ} {by
           ready.from at here
 
       -- so its record is open
-      pub listed_opens : Opens (opened-is.Record own state) left (Done state at) left context false levels bytes BareToken true
+      pub listed_opens : Opens (opened_is.Record own state) left (Done state at) left context false levels bytes BareToken true
       unfolding run
       listed_opens = record {
         from = λ place same. rw (← same) (refl, led.token, own_fits bytes at BareToken levels own led.token, refl);

@@ -14,7 +14,7 @@ use Rattle.answers.specs.declared.Checked.TheVariants.{Passed, Failed}
 use Rattle.answers.specs.declared.Refusal.{Refusal}
 use Rattle.options.specs.Types.{Narrow}
 use Rattle.options.specs.declared.FormattingOptions.{FormattingOptions}
-use Rattle.options.specs.declared.OptionsRead.TheVariants as options-are
+use Rattle.options.specs.declared.OptionsRead.TheVariants as options_are
 use Rattle.text.proofs.Choices.{true_false, and_true_left, and_true_right}
 use Rattle.tree.specs.Checking.{read_file, plain_tree, length_checked, end_checked, batch_checked}
 use Rattle.tree.specs.declared.grammar.Class.TheVariants.{Tokens}
@@ -33,9 +33,9 @@ use Rattle.tokens.proofs.Whole.{whole_walked}
 
 -- what is promised under given options
 pub record OnePass (options : FormattingOptions) (tree room : List ℕ) (said : Answer) (left : List ℕ) : Type 0 where
-  pub answered : said ≡ chunks_answer (held_with (options-are.Options options) tree (length room))
-  pub holds : RoomHolds (held_with (options-are.Options options) tree (length room)) left
-  pub whole : left ≡ one_pass_with (options-are.Options options) tree room
+  pub answered : said ≡ chunks_answer (held_with (options_are.Options options) tree (length room))
+  pub holds : RoomHolds (held_with (options_are.Options options) tree (length room)) left
+  pub whole : left ≡ one_pass_with (options_are.Options options) tree room
 
 -- the room of an answer
 room_of_lem : (printed : Printed) (left : List ℕ) → left ≡ room_of (outcome printed left)
@@ -57,7 +57,7 @@ module _ (options : FormattingOptions) (tree room : List ℕ) where
 
   module _ (narrow : Narrow options) (sized : length_checked 65535 tree ≡ Passed) {printed : Printed} {left : List ℕ} (walks : Walks printed left options tree room) where
     -- the room is as the run leaves it
-    run_left : left ≡ one_pass_with (options-are.Options options) tree room
+    run_left : left ≡ one_pass_with (options_are.Options options) tree room
     run_left = rw sized (room_of_lem printed left ∙ ap room_of walks.state)
 
     -- the check refuses the tree

@@ -12,7 +12,7 @@ use Rattle.answers.specs.declared.Checked.TheVariants.{Passed, Failed}
 use Rattle.answers.specs.declared.Refusal.{Refusal}
 use Rattle.options.specs.Types.{Narrow}
 use Rattle.options.specs.declared.FormattingOptions.{FormattingOptions}
-use Rattle.options.specs.declared.OptionsRead.TheVariants as options-are
+use Rattle.options.specs.declared.OptionsRead.TheVariants as options_are
 use Rattle.chunks.specs.Stored.{stored_list}
 use Rattle.tree.specs.Checking.{batch_checked}
 use Rattle.tree.proofs.Limits.{length_passed}
@@ -30,9 +30,9 @@ use Rattle.tokens.specs.Settling.{Walks, printed_answer}
 
 -- what is promised under given options
 pub record Whole (options : FormattingOptions) (tree room : List ℕ) (said : Answer) (left : List ℕ) : Type 0 where
-  pub answered : said ≡ chunks_answer (held_with (options-are.Options options) tree (length room))
-  pub holds : RoomHolds (held_with (options-are.Options options) tree (length room)) left
-  pub whole : left ≡ room_with (options-are.Options options) tree room
+  pub answered : said ≡ chunks_answer (held_with (options_are.Options options) tree (length room))
+  pub holds : RoomHolds (held_with (options_are.Options options) tree (length room)) left
+  pub whole : left ≡ room_with (options_are.Options options) tree room
 
 module _ (options : FormattingOptions) (tree room : List ℕ) where
   -- a tree that was not accepted leaves the room as it was

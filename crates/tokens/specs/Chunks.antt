@@ -8,7 +8,7 @@ use Rattle.answers.specs.declared.Checked.TheVariants.{Passed, Failed}
 use Rattle.options.specs.Stored.{read_options}
 use Rattle.options.specs.declared.FormattingOptions.{FormattingOptions}
 use Rattle.options.specs.declared.OptionsRead.{OptionsRead}
-use Rattle.options.specs.declared.OptionsRead.TheVariants as options-are
+use Rattle.options.specs.declared.OptionsRead.TheVariants as options_are
 use Rattle.chunks.specs.Stored.{Chunk, stored_list}
 use Rattle.tree.specs.Checking.{read_file, length_checked, batch_checked}
 use Rattle.printing.specs.Events.{Events}
@@ -28,8 +28,8 @@ held_unless Passed chunks = chunks
 held_unless (Failed why) chunks = refused why
 
 abbrev pub held_with : OptionsRead → List ℕ → ℕ → Held
-held_with (options-are.Options options) tree size = held_unless (batch_checked tree) (hold size (file_events options tree) (held [] false))
-held_with (options-are.Refused why) tree size = refused why
+held_with (options_are.Options options) tree size = held_unless (batch_checked tree) (hold size (file_events options tree) (held [] false))
+held_with (options_are.Refused why) tree size = refused why
 
 -- "Answer numbers, in checking order": options, then the tree, then the room of so many bytes
 unfoldable pub chunks_held : List ℕ → List ℕ → ℕ → Held
@@ -57,8 +57,8 @@ room_unless Passed walked room = walked
 room_unless (Failed why) walked room = room
 
 abbrev pub room_with : OptionsRead → List ℕ → List ℕ → List ℕ
-room_with (options-are.Options options) tree room = room_unless (batch_checked tree) (room_of (settled (run (file_events options tree) (going room at_start)))) room
-room_with (options-are.Refused why) tree room = room
+room_with (options_are.Options options) tree room = room_unless (batch_checked tree) (room_of (settled (run (file_events options tree) (going room at_start)))) room
+room_with (options_are.Refused why) tree room = room
 
 unfoldable pub chunks_room : List ℕ → List ℕ → List ℕ → List ℕ
 chunks_room tree options room = room_with (read_options options) tree room
@@ -67,9 +67,9 @@ chunks_room tree options room = room_with (read_options options) tree room
 
 -- the whole room: untouched after 1 to 3, else as the run of the events leaves it
 abbrev pub one_pass_with : OptionsRead → List ℕ → List ℕ → List ℕ
-one_pass_with (options-are.Options options) tree room =
+one_pass_with (options_are.Options options) tree room =
     room_unless (length_checked 65535 tree) (room_of (settled (run (file_events options tree) (going room at_start)))) room
-one_pass_with (options-are.Refused why) tree room = room
+one_pass_with (options_are.Refused why) tree room = room
 
 unfoldable pub one_pass_room : List ℕ → List ℕ → List ℕ → List ℕ
 one_pass_room tree options room = one_pass_with (read_options options) tree room

@@ -4,7 +4,7 @@
 ghost use Rattle.std.specs.Prelude.{◌≡◌, length};
 ghost use Rattle.answers.specs.Numbers.{numbers};
 ghost use Rattle.options.specs.Types.{Narrow};
-ghost use Rattle.options.specs.declared.OptionsRead.TheVariants as options-are;
+ghost use Rattle.options.specs.declared.OptionsRead.TheVariants as options_are;
 ghost use Rattle.tokens.specs.Chunks.{held_with, room_with, one_pass_with, chunks_held, chunks_answer, RoomHolds, chunks_room, one_pass_room};
 ghost use Rattle.tokens.specs.Chunks.{numbers_held};
 ghost use Rattle.tokens.specs.Settling.{Walks, printed_answer, settles};
@@ -44,11 +44,11 @@ fn printed_answer(printed: Printed) -> Answer
 // The walk under given options: refusals 3, 4, 5, 7 and 8.
 fn chunks_with(tree: &[u8], options: FormattingOptions, room: &mut [u8]) -> Answer
     requires { Narrow options }
-    ensures answer { let held = held_with (options-are.Options options) tree.now (length room.old) in
+    ensures answer { let held = held_with (options_are.Options options) tree.now (length room.old) in
         result ≡ chunks_answer held }
-    ensures stored { let held = held_with (options-are.Options options) tree.now (length room.old) in
+    ensures stored { let held = held_with (options_are.Options options) tree.now (length room.old) in
         RoomHolds held room.new }
-    ensures room { room.new ≡ room_with (options-are.Options options) tree.now room.old }
+    ensures room { room.new ≡ room_with (options_are.Options options) tree.now room.old }
 {
     let checked = tree::check_tree(tree);
     if let Checked::Failed(refusal) = checked {
@@ -92,11 +92,11 @@ fn settles(tree: &[u8], printed: Printed) -> bool
 // The walk under given options before the check: refusals 3, 4, 5, 7 and 8.
 fn one_pass_with(tree: &[u8], options: FormattingOptions, room: &mut [u8]) -> Answer
     requires { Narrow options }
-    ensures answer { let held = held_with (options-are.Options options) tree.now (length room.old) in
+    ensures answer { let held = held_with (options_are.Options options) tree.now (length room.old) in
         result ≡ chunks_answer held }
-    ensures stored { let held = held_with (options-are.Options options) tree.now (length room.old) in
+    ensures stored { let held = held_with (options_are.Options options) tree.now (length room.old) in
         RoomHolds held room.new }
-    ensures room { room.new ≡ one_pass_with (options-are.Options options) tree.now room.old }
+    ensures room { room.new ≡ one_pass_with (options_are.Options options) tree.now room.old }
 {
     // a tree of a wrong length, however long, is refused without a look at its bytes
     let sized = check::check_length(tree, 65535);

@@ -164,7 +164,7 @@ module _ (bytes : List ℕ) where
       own_cases bytes at class (λ (own : Own). (text : Placed) → Memᴰ text (texts_of bytes own) → Stands bytes text)
       (λ kind trivia headed number room. own_texts at class kind trivia headed _ (empty_text bytes (trivia.end + 2) (trivia.end + 2)))
       (λ kind trivia end headed leaf stands held.
-      let held-trivia = trivia_of_lem headed in
+      let held_trivia = trivia_of_lem headed in
       own_texts at class kind trivia headed _
       (rw (length-slice (trivia.end + 2) end bytes held.inside) (λ some. (omega arith, omega (arith, held.inside), (end, refl)))))
       (λ kind trivia headed list leaf. own_texts at class kind trivia headed _ (empty_text bytes trivia.end trivia.end))

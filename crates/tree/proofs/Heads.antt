@@ -27,7 +27,7 @@ use Rattle.tree.specs.declared.own.OwnRead.TheVariants.{Record, Refused}
 use Rattle.tree.specs.declared.own.Span.{Span}
 use Rattle.tree.specs.declared.own.Span.TheVariants.{Behind, Broken}
 use Rattle.tree.specs.declared.check.RecordRead.{RecordRead}
-use Rattle.tree.specs.declared.check.RecordRead.TheVariants as record-read
+use Rattle.tree.specs.declared.check.RecordRead.TheVariants as record_read_here
 use Rattle.tree.specs.declared.parts.Skipped.{Skipped}
 use Rattle.tree.specs.declared.parts.Skipped.TheVariants.{Next, NotSkipped}
 use Rattle.tree.specs.declared.parts.TriviumSpan.{TriviumSpan}
@@ -42,8 +42,8 @@ use Rattle.tree.proofs.Records.{level_left}
 
 -- what a record that was read says of it
 abbrev pub skipped_of : RecordRead → Skipped
-skipped_of (record-read.Whole end fault) = Next end
-skipped_of (record-read.Refused refusal) = NotSkipped refusal
+skipped_of (record_read_here.Whole end fault) = Next end
+skipped_of (record_read_here.Refused refusal) = NotSkipped refusal
 
 -- it is the end of what was read, or the refusal met
 skip_on : (bytes : List ℕ) (fault end : ℕ) (texts : List Placed) (checked : Checked) → skipped_of (record_on bytes fault end texts checked) ≡ skipped_on end checked
@@ -93,7 +93,7 @@ item_here : (bytes : List ℕ) (at end : ℕ) → trivium_end bytes at ≡ Behin
     → ItemRead bytes at (item_to bytes at end)
 item_here bytes at end is =
     let held = item_held bytes at end is in
-    let item-end = held.0.inside in
+    let item_end = held.0.inside in
     by_test (eqb (get_or bytes at 0) 1)
     (λ t. record {
       code = refl;
@@ -103,10 +103,10 @@ item_here bytes at end is =
       behind = sym held.1;
     })
     (λ t.
-    let behind-text : end ≡ at + 3 + number_at bytes (at + 1) = rw t at (sym held.1) in
+    let behind_text : end ≡ at + 3 + number_at bytes (at + 1) = rw t at (sym held.1) in
     record {
       code = refl;
-      text = rw t (ap (λ (behind : ℕ). slice (at + 3) behind bytes) behind-text);
+      text = rw t (ap (λ (behind : ℕ). slice (at + 3) behind bytes) behind_text);
       order = rw t (omega arith);
       inside = omega arith;
       behind = sym held.1;

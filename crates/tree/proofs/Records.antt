@@ -134,8 +134,8 @@ module _ (walker : Walker) (plan : Plan) (place fault : ℕ) (later : Plan) (beh
     unfolding walked
     walk_next parts plans =
         let now = left.walk parts plans in
-        let behind-part = others now.0 now.1 in
-        (behind-part.0, behind-part.2, now.2 ∙ ap (λ (classes : List Class). walked walker classes behind found) behind-part.1)
+        let behind_part = others now.0 now.1 in
+        (behind_part.0, behind_part.2, now.2 ∙ ap (λ (classes : List Class). walked walker classes behind found) behind_part.1)
 
     -- it is refused
     pub walk_refused : (refusal : Refusal) (read : RecordRead) → read ≡ walker class behind found → read ≡ Refused refusal

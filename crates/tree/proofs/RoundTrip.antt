@@ -274,11 +274,11 @@ module _ (bytes : List ℕ) (small : (i : ℕ) → get_or bytes i 0 < 256) (read
       let items : List Trivium = trivia_from bytes trivia.first trivia.count in
       let letters : List ℕ = slice text end bytes in
       let head = head_stands bytes small at class kind trivia headed in
-      let as-leaf = leaf_stored number kind (rule class).value items letters [] leaf headed.kind_is in
-      let no_parts : parts_due class (own_of kind (get_or bytes (at + 1) 0) trivia text end 0) ≡ [] = rw (as-leaf.1, no_items (rule class).items) in
+      let as_leaf = leaf_stored number kind (rule class).value items letters [] leaf headed.kind_is in
+      let no_parts : parts_due class (own_of kind (get_or bytes (at + 1) 0) trivia text end 0) ≡ [] = rw (as_leaf.1, no_items (rule class).items) in
       let flags : trivia_bit items + 2 * part_bits (stored_text letters ∷ []) ≡ get_or bytes (at + 1) 0 = omega (arith, head.1, bits) in
       rw no_parts (λ passed.
-      (rw (as-leaf.0, flags, append-nil (stored_text letters)) (both_stand head.0 stands), omega (arith, stands.onward)))
+      (rw (as_leaf.0, flags, append-nil (stored_text letters)) (both_stand head.0 stands), omega (arith, stands.onward)))
 
   -- a leaf with its text
   text_laid : (kind : Kind) (trivia : TriviaSpan) (end : ℕ) → Headed bytes at class kind trivia → leaf_number (get_or bytes at 0) ≡ true
@@ -310,13 +310,13 @@ module _ (bytes : List ℕ) (small : (i : ℕ) → get_or bytes i 0 < 256) (read
       rw (no_items (rule class).items) (append-nil (fields_due slots (flags / 2))) in
       let trees : List Tree = (read_parts reader (fields_due slots (flags / 2)) end).trees in
       let counted : length trees ≡ length slots = trees_counted reader (fields_due slots (flags / 2)) end ∙ fields_counted slots (flags / 2) in
-      let as-node = node_stored kind (rule class).value items (slice end end bytes) trees (rw is list) (rw is leaf) in
+      let as_node = node_stored kind (rule class).value items (slice end end bytes) trees (rw is list) (rw is leaf) in
       rw only_fields (λ passed.
       let parts = parts_stand bytes reader below (fields_due slots (flags / 2)) end head.0.inside passed in
       let bits = fields_bits bytes reader below slots (flags / 2) end
       (node_fits (rule class) number kind flags headed.fits list leaf).1 passed in
       let byte : trivia_bit items + 2 * part_bits (map stored trees) ≡ flags = omega (arith, head.1, bits) in
-      (rw (as-node, is, ← counted, forms_all trees, byte) (both_stand head.0 parts), omega (arith, parts.onward)))
+      (rw (as_node, is, ← counted, forms_all trees, byte) (both_stand head.0 parts), omega (arith, parts.onward)))
 
   -- a record with neither a count nor a text
   other_laid : (kind : Kind) (trivia : TriviaSpan) → Headed bytes at class kind trivia → eqb (get_or bytes at 0) 24 ≡ false

@@ -97,9 +97,9 @@ same_bit (byte ∷ first) (other_byte ∷ second) one other = omega arith
 fourth_fifth : (first second third fourth fifth : List ℕ) → (length fourth ≡ 0 → length fifth ≡ 0) → (length fifth ≡ 0 → length fourth ≡ 0)
     → part_bits (first ∷ second ∷ third ∷ fourth ∷ fifth ∷ []) / 8 % 2 ≡ part_bits (first ∷ second ∷ third ∷ fourth ∷ fifth ∷ []) / 16 % 2
 fourth_fifth first second third fourth fifth one other =
-    let one-behind = bits_behind first (second ∷ third ∷ fourth ∷ fifth ∷ []) in
-    let two-behind = bits_behind second (third ∷ fourth ∷ fifth ∷ []) in
-    let three-behind = bits_behind third (fourth ∷ fifth ∷ []) in
+    let one_behind = bits_behind first (second ∷ third ∷ fourth ∷ fifth ∷ []) in
+    let two_behind = bits_behind second (third ∷ fourth ∷ fifth ∷ []) in
+    let three_behind = bits_behind third (fourth ∷ fifth ∷ []) in
     let eighth : part_bits (first ∷ second ∷ third ∷ fourth ∷ fifth ∷ []) / 8 ≡ part_bits (fourth ∷ fifth ∷ []) = omega arith in
     let sixteenth : part_bits (first ∷ second ∷ third ∷ fourth ∷ fifth ∷ []) / 16 ≡ part_bits (fifth ∷ []) = omega (arith, bits_behind fourth (fifth ∷ [])) in
     rw (eighth, sixteenth) (same_bit fourth fifth one other)
@@ -281,7 +281,7 @@ else_may : (number : ℕ) (kind : Kind) (bits : ℕ) → kind_of number ≡ Know
 else_may number kind bits known together =
     by_test (eqb number 10)
     (λ q.
-    let if-known : kind_of 10 ≡ Known kind = rw (eqb-true number 10 q) at known in
+    let if_known : kind_of 10 ≡ Known kind = rw (eqb-true number 10 q) at known in
     let is : kind ≡ variant.If = cc in
     rw q (eq-eqb (bits / 8 % 2) (bits / 16 % 2) (together is)))
     (λ q. rw q)
@@ -354,11 +354,11 @@ module _ (bytes : List ℕ) (levels : ℕ) (class : Class) (at : ℕ) where
       let bits : ℕ = part_bits (stored_text text ∷ []) in
       let flags : ℕ = trivia_bit trivia + 2 * bits in
       let below = bit_below trivia bits in
-      let not-list = leaf_other number leaf in
+      let not_list = leaf_other number leaf in
       let head = head_read number flags trivia (stored_text text) trivia-fit (rw (append-nil (stored_text text)) at here) in
-      let stands : may_stand (rule class) number ≡ true = rw (not-list, le-leb (rule class).first number within.0, le-leb number (rule class).last within.1) in
+      let stands : may_stand (rule class) number ≡ true = rw (not_list, le-leb (rule class).first number within.0, le-leb number (rule class).last within.1) in
       let fits : map_fits (rule class) number kind flags ≡ true =
-      rw (not-list, leaf, trivia_may trivia-fit ((rule class).located || eqb number 26) where-located (flags % 2) below.0, below.1) (text_bit_fits text text-fit) in
+      rw (not_list, leaf, trivia_may trivia-fit ((rule class).located || eqb number 26) where-located (flags % 2) below.0, below.1) (text_bit_fits text text-fit) in
       text_found text text-fit head refl leaf known
       (rw (head.number_is, head.flags_are) at (own_read levels (headed class kind head below.0 known stands fits)))
 
@@ -381,10 +381,10 @@ module _ (bytes : List ℕ) (levels : ℕ) (class : Class) (at : ℕ) where
           let some = some_bytes levels in
           let head = head_read number flags trivia (flat (map stored parts)) trivia-fit here in
           let stands : may_stand (rule class) number ≡ true = rw (tests.0, le-leb (rule class).first number within.0, le-leb number (rule class).last within.1) in
-          let else-fit : else_fits number bits ≡ true =
+          let else_fit : else_fits number bits ≡ true =
           else_may number kind bits known (λ is. else_fits_lem (WellFormed levels) some (rule class).value (rw is at fields_fit) (rw is at together)) in
           let fits : map_fits (rule class) number kind flags ≡ true =
-          rw (tests.0, tests.1, trivia_may trivia-fit ((rule class).located || eqb number 26) (λ e. rw e) (flags % 2) parted.0, parted.1, else-fit)
+          rw (tests.0, tests.1, trivia_may trivia-fit ((rule class).located || eqb number 26) (λ e. rw e) (flags % 2) parted.0, parted.1, else_fit)
           (bits_fit (WellFormed levels) some fields_fit) in
           let own = rw (head.number_is, head.flags_are) at (own_read levels (headed class kind head parted.0 known stands fits)) in
           let place : ℕ = at + 2 + length (stored_trivia trivia) in

@@ -120,15 +120,15 @@ module _ (bytes : List ℕ) (small : AllBytes bytes) where
       record { each = well.none; counted = refl; long = omega arith }
   items_formed at (suc count) end e accepted =
       let item : Trivium = record { code = get_or bytes at 0; text = trivium_text bytes at } in
-      let behind-it : ℕ = trivium_behind bytes at in
-      let texts = texts_one _ (trivia_texts bytes behind-it count) accepted in
+      let behind_it : ℕ = trivium_behind bytes at in
+      let texts = texts_one _ (trivia_texts bytes behind_it count) accepted in
       let first = first_read bytes at count end e in
       let one = item_formed at first.0 first.1 texts.0 in
-      let rest = items_formed behind-it count end (items_held bytes at count end e).1 texts.1 in
+      let rest = items_formed behind_it count end (items_held bytes at count end e).1 texts.1 in
       record {
         each = well.next one.0 rest.each;
         counted = ap suc rest.counted;
-        long = omega (arith, length-append (stored_trivium item) (stored_items (trivia_from bytes behind-it count)), one.1, rest.long);
+        long = omega (arith, length-append (stored_trivium item) (stored_items (trivia_from bytes behind_it count)), one.1, rest.long);
       }
 
   -- trivia that were read fit where they may stand, and end where the record goes on
@@ -402,8 +402,8 @@ module _ (bytes : List ℕ) (small : AllBytes bytes) (levels : ℕ) (below : (cl
         let items = list_formed listed.0 count (trivia.end + 2) (rw (same, listed.1) at passed) (rw (same, listed.1) at texts.parts) in
         let trees : List Tree = (read_parts (read levels bytes) (replicate count (due listed.0)) (trivia.end + 2)).trees in
         let few : length trees ≤ 65535 = rw items.1 (number_small bytes small trivia.end) in
-        let behind-count : trivia.end + 2 ≡ at + 4 = omega arith in
-        let fit : ItemsFit (WellFormed levels) listed.0 (at + 4) trees = subst (λ (place : ℕ). ItemsFit (WellFormed levels) listed.0 place trees) behind-count items.0 in
+        let behind_count : trivia.end + 2 ≡ at + 4 = omega arith in
+        let fit : ItemsFit (WellFormed levels) listed.0 (at + 4) trees = subst (λ (place : ℕ). ItemsFit (WellFormed levels) listed.0 place trees) behind_count items.0 in
         rw (same, no_items, listed.1) (well.list listed.1 few fit)
 
     -- a leaf or path item whose text fits
@@ -422,9 +422,9 @@ module _ (bytes : List ℕ) (small : AllBytes bytes) (levels : ℕ) (below : (cl
         let is : number ≡ 25 = eqb-true number 25 q in
         let known : kind_of 25 ≡ Known kind = rw is at headed.kind_is in
         let same : kind ≡ variant.Leaf = cc in
-        let trivia-fit = trivia_formed bytes small (at + 2) (flags % 2) (rule class).located
+        let trivia_fit = trivia_formed bytes small (at + 2) (flags % 2) (rule class).located
         (λ some. or_left (rule class).located (eqb number 26) (trivia_told (rule class) number flags told.0 some) (rw is)) trivia headed.trivia_is accepted in
-        rw same (well.leaf (rw is at within) trivia-fit.0 fits))
+        rw same (well.leaf (rw is at within) trivia_fit.0 fits))
         (λ q.
         let is : number ≡ 26 = eqb-true number 26 (rw q at leaf) in
         let known : kind_of 26 ≡ Known kind = rw is at headed.kind_is in
@@ -454,15 +454,15 @@ module _ (bytes : List ℕ) (small : AllBytes bytes) (levels : ℕ) (below : (cl
         let told = map_told (rule class) number kind flags headed.fits list in
         let fits = told.2 leaf in
         let only = only_fields class (own_of kind flags trivia trivia.end trivia.end 0) refl in
-        let passed-fields : (read_parts (read levels bytes) (fields_due slots (flags / 2)) trivia.end).checked ≡ Passed = rw only at passed in
-        let trivia-fit = trivia_formed bytes small (at + 2) (flags % 2) (rule class).located
+        let passed_fields : (read_parts (read levels bytes) (fields_due slots (flags / 2)) trivia.end).checked ≡ Passed = rw only at passed in
+        let trivia_fit = trivia_formed bytes small (at + 2) (flags % 2) (rule class).located
         (λ some. or_left (rule class).located (eqb number 26) (trivia_told (rule class) number flags told.0 some) (leaf_told number leaf).1) trivia headed.trivia_is texts.trivia in
         let trees : List Tree = (read_parts (read levels bytes) (fields_due slots (flags / 2)) trivia.end).trees in
-        let parts-fit : FieldsFit (WellFormed levels) slots (at + 2 + length (stored_trivia (trivia_from bytes trivia.first trivia.count))) trees =
-        rw trivia-fit.1 (fields_formed slots (flags / 2) trivia.end fits.1 passed-fields (rw only at texts.parts)) in
+        let parts_fit : FieldsFit (WellFormed levels) slots (at + 2 + length (stored_trivia (trivia_from bytes trivia.first trivia.count))) trees =
+        rw trivia_fit.1 (fields_formed slots (flags / 2) trivia.end fits.1 passed_fields (rw only at texts.parts)) in
         rw (only, slice_empty trivia.end bytes)
-        (well.fielded headed.kind_is (other_told number list leaf) (within_told class number headed.standing list) trivia-fit.0 parts-fit
-        (else_formed number kind (rule class).value (flags / 2) trivia.end headed.kind_is fits.0 passed-fields))
+        (well.fielded headed.kind_is (other_told number list leaf) (within_told class number headed.standing list) trivia_fit.0 parts_fit
+        (else_formed number kind (rule class).value (flags / 2) trivia.end headed.kind_is fits.0 passed_fields))
 
     -- any other record
     other_own : (kind : Kind) (trivia : TriviaSpan) → Headed bytes at class kind trivia → eqb (get_or bytes at 0) 24 ≡ false

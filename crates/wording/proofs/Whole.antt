@@ -46,7 +46,7 @@ whole (piece ∷ pieces) buffer at room =
     let size : length (sets buffer at piece) ≡ length buffer = length-sets buffer at piece in
     let rest : Whole pieces (line_in (sets buffer at piece) (at + length piece)) = whole pieces (sets buffer at piece) (at + length piece) (omega (arith, more, size)) in
     let front : take (at + length piece) (sets buffer at piece) ≡ take at buffer ++ piece = stored_front buffer at piece (omega (arith, more)) in
-    let on-used : (puts (piece ∷ pieces) (line_in buffer at)).used ≡ at + length piece + length (flat pieces) = rw put_on rest.used in
-    let on-bytes : take (at + length piece + length (flat pieces)) (puts (piece ∷ pieces) (line_in buffer at)).buffer ≡ (take at buffer ++ piece) ++ flat pieces =
+    let on_used : (puts (piece ∷ pieces) (line_in buffer at)).used ≡ at + length piece + length (flat pieces) = rw put_on rest.used in
+    let on_bytes : take (at + length piece + length (flat pieces)) (puts (piece ∷ pieces) (line_in buffer at)).buffer ≡ (take at buffer ++ piece) ++ flat pieces =
     rw (put_on, ← front) rest.bytes in
-    record { used = rw same on-used; bytes = rw same (on-bytes ∙ append_assoc (take at buffer) piece (flat pieces)) }
+    record { used = rw same on_used; bytes = rw same (on_bytes ∙ append_assoc (take at buffer) piece (flat pieces)) }

@@ -30,16 +30,25 @@ returns-then-map-lt4 c =
     record { answer = same; fits = rw same (chunk_fits c.args.list.now c.args.at (λ i. omega (arith, c.type_inv.list i))) }
 
 pub returns-in_default : goal.returns-in_default
-returns-in_default c = record { answer = sym (chunk_indented c.args.list.now c.args.at c.if-list-at.false c.wide-map.ensures.0 c.if-map-gt7.false
-    c.if-bits-eq3.false c.if-map-lt4.false (sym c.read_number-number.ensures ∙ c.in_default.is)); fits = tt }
+returns-in_default c = record {
+  answer = sym (chunk_indented c.args.list.now c.args.at c.if-list-at.false c.wide-map.ensures.0 c.if-map-gt7.false
+      c.if-bits-eq3.false c.if-map-lt4.false (sym c.read_number-number.ensures ∙ c.in_default.is));
+  fits = tt;
+}
 
 pub returns-then-indent-eq0 : goal.returns-then-indent-eq0
-returns-then-indent-eq0 c = record { answer = sym (chunk_indented c.args.list.now c.args.at c.if-list-at.false c.wide-map.ensures.0 c.if-map-gt7.false
-    c.if-bits-eq3.false c.if-map-lt4.false (sym c.read_number-number.ensures ∙ c.in-Read.is) ∙ indent_zero _ _ _ _ c.if-indent-eq0.true); fits = tt }
+returns-then-indent-eq0 c = record {
+  answer = sym (chunk_indented c.args.list.now c.args.at c.if-list-at.false c.wide-map.ensures.0 c.if-map-gt7.false
+      c.if-bits-eq3.false c.if-map-lt4.false (sym c.read_number-number.ensures ∙ c.in-Read.is) ∙ indent_zero _ _ _ _ c.if-indent-eq0.true);
+  fits = tt;
+}
 
 pub returns-then-indent-gt4096 : goal.returns-then-indent-gt4096
-returns-then-indent-gt4096 c = record { answer = sym (chunk_indented c.args.list.now c.args.at c.if-list-at.false c.wide-map.ensures.0 c.if-map-gt7.false
-    c.if-bits-eq3.false c.if-map-lt4.false (sym c.read_number-number.ensures ∙ c.in-Read.is) ∙ indent_deep _ _ _ _ c.if-indent-gt4096.true); fits = tt }
+returns-then-indent-gt4096 c = record {
+  answer = sym (chunk_indented c.args.list.now c.args.at c.if-list-at.false c.wide-map.ensures.0 c.if-map-gt7.false
+      c.if-bits-eq3.false c.if-map-lt4.false (sym c.read_number-number.ensures ∙ c.in-Read.is) ∙ indent_deep _ _ _ _ c.if-indent-gt4096.true);
+  fits = tt;
+}
 
 pub returns : goal.returns
 returns c =

@@ -46,8 +46,8 @@ format_argument-overflow_sub-inner t c =
 
 pub format_argument-format_value-value-requires : goal.format_argument-format_value-value-requires
 format_argument-format_value-value-requires t c =
-    let levels-left = opened_levels c.open-opened.ensures.opens c.in-Record.is in
-    (omega (arith, levels-left), tt)
+    let levels_left = opened_levels c.open-opened.ensures.opens c.in-Record.is in
+    (omega (arith, levels_left), tt)
 
 pub format_argument-returns : goal.format_argument-returns
 unfolding built field_trees fields_end events_in bit_at kind_number stored_with
@@ -89,8 +89,8 @@ format_arguments-overflow_sub-levels-in_default-kind t c =
 
 pub format_arguments-format_each_argument-requires : goal.format_arguments-format_each_argument-requires
 format_arguments-format_each_argument-requires t c =
-    let levels-left = opened_levels c.open-opened.ensures.opens c.in-Record.is in
-    (omega (arith, levels-left), tt)
+    let levels_left = opened_levels c.open-opened.ensures.opens c.in-Record.is in
+    (omega (arith, levels_left), tt)
 
 pub format_arguments-returns-in-ImportAll : goal.format_arguments-returns-in-ImportAll
 unfolding built field_trees fields_end events_in bit_at kind_number stored_with
@@ -240,8 +240,8 @@ format_expression-overflow_sub-levels t c =
 
 pub format_expression-format_binary_expression-requires : goal.format_expression-format_binary_expression-requires
 format_expression-format_binary_expression-requires t c =
-    let levels-left = opened_levels c.open-opened.ensures.opens c.in-Record.is in
-    (omega (arith, levels-left), tt)
+    let levels_left = opened_levels c.open-opened.ensures.opens c.in-Record.is in
+    (omega (arith, levels_left), tt)
 
 pub format_expression-overflow_sub-levels-in_default-kind : goal.format_expression-overflow_sub-levels-in_default-kind
 format_expression-overflow_sub-levels-in_default-kind t c =
@@ -249,8 +249,8 @@ format_expression-overflow_sub-levels-in_default-kind t c =
 
 pub format_expression-format_factor-requires : goal.format_expression-format_factor-requires
 format_expression-format_factor-requires t c =
-    let levels-left = opened_levels c.open-opened.ensures.opens c.in-Record.is in
-    (omega (arith, levels-left), tt)
+    let levels_left = opened_levels c.open-opened.ensures.opens c.in-Record.is in
+    (omega (arith, levels_left), tt)
 
 pub format_expression-returns-in-BinaryExpression : goal.format_expression-returns-in-BinaryExpression
 unfolding built field_trees fields_end events_in bit_at kind_number stored_with
@@ -289,13 +289,13 @@ format_expression_factor-overflow_sub-inner t c =
 
 pub format_expression_factor-format_parens-requires : goal.format_expression_factor-format_parens-requires
 format_expression_factor-format_parens-requires t c =
-    let levels-left = opened_levels c.open-opened.ensures.opens c.in-Record.is in
-    (omega (arith, levels-left), tt)
+    let levels_left = opened_levels c.open-opened.ensures.opens c.in-Record.is in
+    (omega (arith, levels_left), tt)
 
 pub format_expression_factor-format_call-requires : goal.format_expression_factor-format_call-requires
 format_expression_factor-format_call-requires t c =
-    let levels-left = opened_levels c.open-opened.ensures.opens c.in-Record.is in
-    (omega (arith, levels-left), tt)
+    let levels_left = opened_levels c.open-opened.ensures.opens c.in-Record.is in
+    (omega (arith, levels_left), tt)
 
 pub format_expression_factor-returns-in-ExprParens : goal.format_expression_factor-returns-in-ExprParens
 unfolding built field_trees fields_end events_in bit_at kind_number stored_with

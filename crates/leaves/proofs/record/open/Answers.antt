@@ -54,8 +54,8 @@ returns c =
     let told = c.in-Record.is in
     let fits = c.read_own-found.ensures.fits in
     let left = eq-eqb _ _ c.if-state-ne0.false in
-    let some-own = sym c.read_own-found.ensures.answer ∙ told in
+    let some_own = sym c.read_own-found.ensures.answer ∙ told in
     let trivia = rw (own_items _ _ _ fits told) at c.shown_trivia-next.ensures in
     let told = opened_known (opened_record is some c.read_own-found.ensures.answer fits told c.shown_trivia-next.ensures)
-    (rw (is, some, left, some-own, trivia) refl) (rw (is, some, left, some-own, trivia) refl) in
+    (rw (is, some, left, some_own, trivia) refl) (rw (is, some, left, some_own, trivia) refl) in
     record { opens = told.0; answer = told.1.0; room = told.1.1.0; numbers = told.1.1.1 }

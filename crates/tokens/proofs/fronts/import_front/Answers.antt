@@ -21,10 +21,10 @@ returns c =
           let tag = c.bare_word-tag.ensures.from at here in
           let gap = c.push-behind.ensures.from _ tag.next in
           let imported = c.format_arguments-args.ensures.from _ gap.next in
-          let imported-gap = c.push-gap.ensures.from _ imported.next in
-          let source = c.word-source.ensures.from _ imported-gap.next in
-          let source-gap = c.push-space.ensures.from _ source.next in
-          let filename = c.format_string-filename.ensures.from _ source-gap.next in
+          let imported_gap = c.push-gap.ensures.from _ imported.next in
+          let source = c.word-source.ensures.from _ imported_gap.next in
+          let source_gap = c.push-space.ensures.from _ source.next in
+          let filename = c.format_string-filename.ensures.from _ source_gap.next in
           let pending = (c.spc_if_next.ensures _).from _ filename.next in
-          tag thence gap thence imported thence imported-gap thence source thence source-gap thence filename thence pending;
+          tag thence gap thence imported thence imported_gap thence source thence source_gap thence filename thence pending;
     }

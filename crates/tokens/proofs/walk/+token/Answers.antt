@@ -44,9 +44,9 @@ format_block-overflow_sub-levels t c =
 
 pub format_block-deeper-requires : goal.format_block-deeper-requires
 format_block-deeper-requires t c =
-    let levels-left = opened_levels c.open-opened.ensures.opens c.in-Record.is in
+    let levels_left = opened_levels c.open-opened.ensures.opens c.in-Record.is in
     let narrow = c.requires in
-    (narrow.0, omega (arith, levels-left, narrow.1))
+    (narrow.0, omega (arith, levels_left, narrow.1))
 
 pub format_block-overflow_sub-levels-2 : goal.format_block-overflow_sub-levels-2
 format_block-overflow_sub-levels-2 t c =
@@ -54,9 +54,9 @@ format_block-overflow_sub-levels-2 t c =
 
 pub format_block-format_tokens-inner-requires : goal.format_block-format_tokens-inner-requires
 format_block-format_tokens-inner-requires t c =
-    let levels-left = opened_levels c.open-opened.ensures.opens c.in-Record.is in
+    let levels_left = opened_levels c.open-opened.ensures.opens c.in-Record.is in
     let narrow = c.requires in
-    (omega (arith, levels-left), (rw c.deeper.ensures (narrow.0, omega (arith, levels-left, narrow.0, narrow.1))))
+    (omega (arith, levels_left), (rw c.deeper.ensures (narrow.0, omega (arith, levels_left, narrow.0, narrow.1))))
 
 pub format_block-overflow_sub-levels-3 : goal.format_block-overflow_sub-levels-3
 format_block-overflow_sub-levels-3 t c =
@@ -134,8 +134,8 @@ format_each_token-overflow_sub-levels t c =
 pub format_each_token-format_listed_token-answer-requires : goal.format_each_token-format_listed_token-answer-requires
 format_each_token-format_listed_token-answer-requires t c =
     let narrow = c.requires.narrow in
-    let levels-left = c.requires.levels_nonzero in
-    (omega (arith, levels-left), (narrow.0, omega (arith, narrow.1)))
+    let levels_left = c.requires.levels_nonzero in
+    (omega (arith, levels_left), (narrow.0, omega (arith, narrow.1)))
 
 pub format_each_token-overflow_sub-left : goal.format_each_token-overflow_sub-left
 format_each_token-overflow_sub-left t c =
@@ -151,8 +151,8 @@ format_each_token-loop-left-preserved t c =
     let stood = c.loop-left.before in
     let count = c.loop-left.left in
     let drops : c.if-block.drops ≡ (args.block && stood.first) = elim c.if-block.branch [
-      format_each_token-then-block w ↦ only_in args.block _ _ (w.if-block.true, w.drops-is)
-    | format_each_token-else-block w ↦ not_in args.block _ _ (w.if-block.false, w.drops-is)
+      | format_each_token-then-block w ↦ only_in args.block _ _ (w.if-block.true, w.drops-is)
+      | format_each_token-else-block w ↦ not_in args.block _ _ (w.if-block.false, w.drops-is)
     ] in
     let listed = (rw drops at c.format_listed_token-answer.ensures).from _ refl in (
       c.format_listed_token-answer.auto.room ∙ c.loop-left.invariant.0,
@@ -196,8 +196,8 @@ format_each_token-returns t c =
 
 pub format_inner-returns-in-Nothing : goal.format_inner-returns-in-Nothing
 format_inner-returns-in-Nothing t c =
-    let nothing-in = sym c.inner_of-inner.ensures ∙ c.in-Nothing.is in
-    λ small kind known. c.format_plain_token.ensures (plain_number _ _ small nothing-in) kind known
+    let nothing_in = sym c.inner_of-inner.ensures ∙ c.in-Nothing.is in
+    λ small kind known. c.format_plain_token.ensures (plain_number _ _ small nothing_in) kind known
 
 pub format_inner-format_block-requires : goal.format_inner-format_block-requires
 format_inner-format_block-requires t c =
@@ -223,23 +223,23 @@ format_inner-returns-in-Block t c =
 
 pub format_inner-returns-in-Token : goal.format_inner-returns-in-Token
 format_inner-returns-in-Token t c =
-    let token-in = sym c.inner_of-inner.ensures ∙ c.in-Token.is in
+    let token_in = sym c.inner_of-inner.ensures ∙ c.in-Token.is in
     λ small kind known. record {
       from = λ at here.
           let front = c.format_token_front-front.ensures.from at here in
           let token = c.format_token.ensures.from _ front.next in
-          inside_shown _ _ _ _ _ _ _ _ _ kind known c.requires.ends token-in (front thence token);
+          inside_shown _ _ _ _ _ _ _ _ _ kind known c.requires.ends token_in (front thence token);
     }
 
 pub format_inner-returns-in-Branches : goal.format_inner-returns-in-Branches
 format_inner-returns-in-Branches t c =
-    let branches-in = sym c.inner_of-inner.ensures ∙ c.in-Branches.is in
+    let branches_in = sym c.inner_of-inner.ensures ∙ c.in-Branches.is in
     let both = rw c.stands.ensures at c.format_branches.ensures in
     λ small kind known. record {
       from = λ at here.
           let front = c.format_token_front-front.ensures.from at here in
           let branches = both.from _ front.next in
-          inside_shown _ _ _ _ _ _ _ _ _ kind known c.requires.ends branches-in (front thence branches);
+          inside_shown _ _ _ _ _ _ _ _ _ kind known c.requires.ends branches_in (front thence branches);
     }
 
 pub format_inner-returns-in-Nothing-inner : goal.format_inner-returns-in-Nothing-inner
@@ -295,9 +295,9 @@ format_listed_token-returns-then-not-stands t c =
 pub format_listed_token-format_block-requires : goal.format_listed_token-format_block-requires
 format_listed_token-format_block-requires t c =
     let opens = listed_opens c.format_lead_in-lead.ensures.leads c.in-Ready.is _ refl in
-    let levels-left = opened_levels opens refl in
+    let levels_left = opened_levels opens refl in
     let narrow = c.requires in
-    (omega (arith, levels-left), (narrow.0, omega (arith, narrow.1)))
+    (omega (arith, levels_left), (narrow.0, omega (arith, narrow.1)))
 
 pub format_listed_token-returns-then-number-eq-LABEL : goal.format_listed_token-returns-then-number-eq-LABEL
 format_listed_token-returns-then-number-eq-LABEL t c =
@@ -310,10 +310,10 @@ format_listed_token-returns-then-number-eq-LABEL t c =
 pub format_listed_token-format_inner-requires : goal.format_listed_token-format_inner-requires
 format_listed_token-format_inner-requires t c =
     let opens = listed_opens c.format_lead_in-lead.ensures.leads c.in-Ready.is _ refl in
-    let levels-left = opened_levels opens refl in
+    let levels_left = opened_levels opens refl in
     let token = token_opened false _ opens refl refl in
     let narrow = c.requires in
-    (omega (arith, levels-left), ((narrow.0, omega (arith, narrow.1)), rw c.byte_at-number.ensures token.ends))
+    (omega (arith, levels_left), ((narrow.0, omega (arith, narrow.1)), rw c.byte_at-number.ensures token.ends))
 
 pub format_listed_token-returns : goal.format_listed_token-returns
 format_listed_token-returns t c =
@@ -344,10 +344,10 @@ format_token-format_inner-requires t c =
     let located = c.args.located in
     let opens = rw c.token_class-class.ensures at c.open-opened.ensures.opens in
     let is = c.in-Record.is in
-    let levels-left = opened_levels opens is in
+    let levels_left = opened_levels opens is in
     let token = token_opened located _ opens is refl in
     let narrow = c.requires in
-    (omega (arith, levels-left), ((narrow.0, omega (arith, narrow.1)), rw c.byte_at-number.ensures token.ends))
+    (omega (arith, levels_left), ((narrow.0, omega (arith, narrow.1)), rw c.byte_at-number.ensures token.ends))
 
 pub format_token-returns : goal.format_token-returns
 format_token-returns t c =
@@ -367,8 +367,8 @@ format_tokens-returns-in_default t c =
 
 pub format_tokens-format_each_token-requires : goal.format_tokens-format_each_token-requires
 format_tokens-format_each_token-requires t c =
-    let levels-left = opened_levels c.open-opened.ensures.opens c.in-Record.is in
-    (omega (arith, levels-left), (c.requires, levels-left))
+    let levels_left = opened_levels c.open-opened.ensures.opens c.in-Record.is in
+    (omega (arith, levels_left), (c.requires, levels_left))
 
 pub format_tokens-returns : goal.format_tokens-returns
 format_tokens-returns t c =
