@@ -3,7 +3,6 @@ use Rattle.std.specs.Prelude.{ℕ, ◌+◌, ◌≤◌, List, [], ◌∷◌, Bool
 use Rattle.std.proofs.Math.Seq.{slice}
 use Rattle.text.specs.Numbers.{number_at}
 use Rattle.text.specs.Accepted.{fault_at}
-use Rattle.chunks.specs.declared.stored.StoredChunk.{StoredChunk}
 use Rattle.chunks.specs.declared.stored.ChunkAt.{ChunkAt}
 use Rattle.chunks.specs.declared.stored.ChunkAt.TheVariants.{Found, NoChunk}
 

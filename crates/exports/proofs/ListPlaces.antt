@@ -2,7 +2,7 @@
 --   list_within : (list : List ℕ) → Within 1048576 (chunks_checked list)
 --   options_within : (stored : List ℕ) → ReadWithin (read_options stored)
 use mathlib.Core.Path.{◌≡◌, refl}
-use mathlib.Core.List.{List, [], ◌∷◌}
+use mathlib.Core.List.{List}
 use Prim.Native.Nat.{ℕ, zero, suc, ◌+◌, ◌≤◌}
 use native.Mathlib.Omega.{arith}
 use lib.ListN.{length}
@@ -12,7 +12,7 @@ use borrow.Author.Tests.{ltb-false}
 use Rattle.answers.specs.declared.Checked.{Checked}
 use Rattle.answers.specs.declared.Checked.TheVariants.{Passed, Failed}
 use Rattle.answers.specs.Numbers.{and_then}
-use Rattle.text.specs.Accepted.{accepted_text, fault_at}
+use Rattle.text.specs.Accepted.{accepted_text}
 use Rattle.text.proofs.Accepted.{fault_some}
 use Rattle.text.proofs.Choices.{cond_both}
 use Rattle.chunks.specs.Reading.{chunk_at, rest_on, chunks_from, stored_chunks}
@@ -21,11 +21,11 @@ use Rattle.chunks.specs.declared.stored.ChunkAt.{ChunkAt}
 use Rattle.chunks.specs.declared.stored.ChunkAt.TheVariants.{Found, NoChunk}
 use Rattle.chunks.specs.declared.stored.StoredChunk.{StoredChunk}
 use Rattle.chunks.proofs.Reading.{LaidAs, chunk_laid}
-use Rattle.options.specs.Stored.{bit, standing, map_of, too_large, values_checked, length_wrong, stored_options, accepted, read_options}
+use Rattle.options.specs.Stored.{standing, map_of, too_large, values_checked, length_wrong, stored_options, accepted, read_options}
 use Rattle.options.specs.declared.OptionsRead.{OptionsRead}
 use Rattle.options.specs.declared.OptionsRead.TheVariants.{Options, Refused}
 use Rattle.options.proofs.Values.{indent_small}
-use Rattle.exports.proofs.Within.{Within, both_within, wider}
+use Rattle.exports.proofs.Within.{Within, wider}
 
 -- ---- a chunk list
 

@@ -5,8 +5,8 @@ use Prim.Native.Nat.{ℕ, ◌<◌, ◌≤◌}
 use native.Mathlib.Omega.{arith}
 use lib.ListN.{length}
 use lib.Dec.{leb}
-use Rattle.answers.specs.Numbers.{numbers, answer_of}
-use Rattle.answers.specs.Texts.{Outcome, text, refusal, answer_in}
+use Rattle.answers.specs.Numbers.{answer_of}
+use Rattle.answers.specs.Texts.{text, answer_in}
 use Rattle.answers.specs.declared.Answer.{Answer}
 use Rattle.answers.specs.declared.Checked.{Checked}
 use Rattle.answers.specs.declared.Checked.TheVariants.{Passed, Failed}

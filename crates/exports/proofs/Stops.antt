@@ -2,7 +2,7 @@
 --   file_free : (bytes : List ℕ) (options : FormattingOptions) → batch_checked bytes ≡ Passed → Free (file_events options bytes)
 use mathlib.Core.Path.{◌≡◌, ◌∙◌}
 use mathlib.Core.List.{List, [], ◌∷◌}
-use mathlib.Core.Bool.{Bool, true, false, cond, not, ◌||◌}
+use mathlib.Core.Bool.{Bool, true, false, cond, ◌||◌}
 use Prim.Native.Nat.{ℕ}
 use lib.ListN.{get_or}
 use lib.Dec.{eqb}

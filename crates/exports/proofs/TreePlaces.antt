@@ -1,6 +1,5 @@
 -- The place of a tree's refusal is at most 65,535.
 --   tree_within : (bytes : List ℕ) → Within 65535 (batch_checked bytes)
-use mathlib.Core.Path.{◌≡◌}
 use mathlib.Core.List.{List, [], ◌∷◌, Memᴰ}
 use Prim.Native.Nat.{ℕ, zero, suc, ◌+◌, ◌%◌, ◌≤◌}
 use native.Mathlib.Omega.{arith}
@@ -10,9 +9,8 @@ use lib.ListN.{length, get_or}
 use lib.Dec.{eqb, ltb, leb}
 use borrow.Author.Tests.{ltb-true, ltb-false, leb-false}
 use Rattle.answers.specs.declared.Checked.{Checked}
-use Rattle.answers.specs.declared.Checked.TheVariants.{Passed, Failed}
 use Rattle.answers.specs.Numbers.{and_then}
-use Rattle.text.specs.Accepted.{accepted_text, fault_at}
+use Rattle.text.specs.Accepted.{accepted_text}
 use Rattle.text.specs.Numbers.{read_number}
 use Rattle.text.specs.declared.numbers.Number.{Number}
 use Rattle.text.specs.declared.numbers.Number.TheVariants.{Read, Missing}

@@ -1,5 +1,4 @@
 -- A refusal whose place is at most a limit.
-use mathlib.Core.Path.{◌≡◌}
 use Prim.Native.Nat.{ℕ, ◌≤◌}
 use native.Mathlib.Omega.{arith}
 use Rattle.answers.specs.declared.Checked.{Checked}

@@ -1,33 +1,26 @@
 -- Laws of the expressions' printers: which kind is left where no other stands, what is shown of fields that are printed in another order than they are stored, and
 -- what is shown of a list item by item.
-use mathlib.Core.Path.{◌≡◌, refl, sym, ◌∙◌}
-use mathlib.Core.Logic.{⊎_elim}
-use mathlib.Core.List.{List, [], ◌∷◌}
+use mathlib.Core.Path.{◌≡◌, refl, sym}
+use mathlib.Core.List.{List, []}
 use mathlib.Core.Bool.{Bool, true, false, cond, ◌&&◌, ◌||◌}
 use Prim.Native.Nat.{ℕ, zero, suc, ◌-◌, ◌/◌, ◌%◌, ◌<◌, ◌≤◌}
 use lib.ListN.{get_or}
 use lib.Dec.{eqb, leb}
 use native.Mathlib.Omega.{arith}
 use native.Mathlib.Numerals.{sub-one}
-use borrow.Author.Tests.{eqb-true, eqb-false, eq-eqb, leb-true, leb-false}
-use denote.Enum.Declared.{tag_of}
-use types.Run.{OneOf}
+use borrow.Author.Tests.{eqb-true, leb-true}
 use Rattle.text.proofs.Choices.{by_test, true_false, and_true_left, and_true_right, neither}
-use Rattle.tree.specs.Tree.{absent, built, chain}
+use Rattle.tree.specs.Tree.{built, chain}
 use Rattle.tree.specs.Grammar.{rule, fields}
-use Rattle.tree.specs.Own.{read_own, may_stand}
+use Rattle.tree.specs.Own.{may_stand}
 use Rattle.tree.specs.Reading.{Reader, read}
 use Rattle.tree.specs.Stored.{stored_with}
 use Rattle.tree.specs.declared.grammar.Class.{Class}
 use Rattle.tree.specs.declared.grammar.Class.TheVariants as class
 use Rattle.tree.specs.declared.grammar.Items.TheVariants.{NoList, ListOf}
-use Rattle.tree.specs.declared.grammar.Kind.{Kind}
 use Rattle.tree.specs.declared.grammar.Kind.TheVariants as variant
 use Rattle.tree.specs.declared.own.Own.{Own}
-use Rattle.tree.specs.declared.own.OwnRead.{OwnRead}
-use Rattle.tree.specs.declared.own.OwnRead.TheVariants as own_is
 use Rattle.tree.proofs.KindLayout.{kind_number, kind_number_lem}
-use Rattle.tree.specs.contracts.grammar.Kind as kinds
 use Rattle.printing.specs.Events.{nothing, clear, ◌▹◌}
 use Rattle.printing.specs.Running.{Run, run, outcome, Shown}
 use Rattle.printing.specs.declared.CodeFormatter.{CodeFormatter}
@@ -35,7 +28,7 @@ use Rattle.printing.specs.declared.Context.{Context}
 use Rattle.printing.specs.declared.Printed.{Printed}
 use Rattle.printing.proofs.Running.{alike, ◌thence◌, some_place}
 use Rattle.events.specs.Printed.{plain, operator}
-use Rattle.events.specs.Trees.{one_of, leaf, blank, skipping, events_in}
+use Rattle.events.specs.Trees.{leaf, blank, skipping, events_in}
 use Rattle.events.specs.Views.{view, bit_at}
 use Rattle.events.proofs.OwnParts.{record_headed}
 use Rattle.leaves.specs.Lists.{item_trees, items_end}
@@ -43,7 +36,6 @@ use Rattle.leaves.specs.Records.{field_trees, fields_end, Opens}
 use Rattle.leaves.specs.declared.record.Opened.{Opened}
 use Rattle.leaves.specs.declared.record.Opened.TheVariants as opened_is
 use Rattle.leaves.proofs.Fielded.{opened_range, opened_by_number}
-use Rattle.leaves.proofs.Records.{read_refused, read_record}
 use Rattle.expressions.proofs.Stands.{field_stands}
 use Rattle.expressions.specs.Expressions.{expression_class, list_class, item_class, value_class, list_place, tag_events, tags_end}
 use Rattle.expressions.specs.declared.expression.Arguments.{Arguments}

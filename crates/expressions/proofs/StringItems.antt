@@ -1,6 +1,6 @@
 -- Laws of strings: a list's kind, an item by its kind, and the items one behind the other.
 use mathlib.Core.Path.{◌≡◌, refl, ◌∙◌}
-use mathlib.Core.List.{List, [], ◌∷◌}
+use mathlib.Core.List.{List}
 use mathlib.Core.Bool.{Bool, true, false, ◌&&◌}
 use Prim.Native.Nat.{ℕ, zero, suc, ◌-◌, ◌≤◌, ◌<◌}
 use native.Mathlib.Omega.{arith}
@@ -9,19 +9,15 @@ use lib.Dec.{eqb, leb}
 use lib.ListN.{get_or}
 use lib.Seq.{slice}
 use borrow.Author.Tests.{eqb-true, eqb-false, leb-true}
-use types.Run.{OneOf, miss}
-use denote.Enum.Declared.{tag_of}
 use Rattle.text.proofs.Choices.{by_test, and_true_left, and_true_right}
 use Rattle.tree.specs.Tree.{node, built, chain, Leaf, PathItem}
 use Rattle.tree.specs.Own.{read_own}
 use Rattle.tree.specs.Reading.{trivia_of, fields_due, parts_due, read_parts, read}
 use Rattle.tree.specs.Stored.{stored_with}
 use Rattle.tree.specs.declared.grammar.Class.TheVariants as class
-use Rattle.tree.specs.declared.grammar.Kind.{Kind}
 use Rattle.tree.specs.declared.grammar.Kind.TheVariants as variant
 use Rattle.tree.specs.declared.own.Own.{Own}
 use Rattle.tree.specs.declared.own.OwnRead.TheVariants as own_is
-use Rattle.tree.specs.contracts.grammar.Kind.{the_type}
 use Rattle.tree.proofs.KindLayout.{kind_number, kind_number_lem}
 use Rattle.printing.specs.Events.{nothing, ◌▹◌}
 use Rattle.printing.specs.Running.{Run, Shown}

@@ -6,7 +6,7 @@ use mathlib.Core.Bool.{Bool, false}
 use Prim.Native.Nat.{ℕ, ◌≤◌}
 use native.Mathlib.Omega.{arith}
 use lib.ListN.{length, take, length-take}
-use Rattle.answers.specs.Texts.{Outcome, text, refusal, answer_in, buffer_after}
+use Rattle.answers.specs.Texts.{refusal, answer_in, buffer_after}
 use Rattle.answers.specs.declared.Answer.{Answer}
 use Rattle.answers.specs.declared.Answer.TheVariants as answer
 use Rattle.answers.specs.declared.Checked.{Checked}
@@ -19,16 +19,16 @@ use Rattle.options.specs.declared.OptionsRead.TheVariants.{Options, Refused}
 use Rattle.text.specs.Ink.{inks}
 use Rattle.chunks.specs.Stored.{Chunk, stored_list}
 use Rattle.chunks.specs.Reading.{chunks_of}
-use Rattle.tree.specs.Checking.{read_file, batch_checked}
+use Rattle.tree.specs.Checking.{batch_checked}
 use Rattle.tree.proofs.Readings.{file_passed}
-use Rattle.printing.specs.Holding.{Held, held, refused, hold, held_texts}
+use Rattle.printing.specs.Holding.{Held, held, refused, hold}
 use Rattle.printing.proofs.Held.{hold_ink}
 use Rattle.events.specs.Accepted.{Acceptable}
 use Rattle.reading.proofs.Files.{file_ink, file_ink_eight}
-use Rattle.columns.specs.Setting.{margins_of, text_of, join_outcome}
+use Rattle.columns.specs.Setting.{join_outcome}
 use Rattle.columns.specs.Promise.{Promised, Faithful}
 use Rattle.tokens.specs.Chunks.{file_events, held_unless, chunks_held, chunks_answer, RoomHolds}
-use Rattle.formatting.specs.Formatting.{outcome_of, formatted}
+use Rattle.formatting.specs.Formatting.{formatted}
 use Rattle.formatting.specs.Demands.{Kept, LessonUnder, Lesson}
 
 -- two answers, or two that are held, of different cases are not equal

@@ -7,7 +7,7 @@ use Prim.Native.Nat.{ℕ}
 use lib.Dec.{eqb}
 use Rattle.answers.specs.Numbers.{unless_refused}
 use Rattle.answers.proofs.Numbers.{refused_number}
-use Rattle.tree.specs.Own.{read_own, numbers_own, own_numbers}
+use Rattle.tree.specs.Own.{read_own, numbers_own}
 use Rattle.tree.specs.Parts.{head_at}
 use Rattle.tree.proofs.Numbers.{own_numbers_lem}
 use Rattle.tree.specs.declared.grammar.Class.TheVariants.{BareToken}
@@ -21,7 +21,7 @@ use Rattle.printing.specs.declared.Printed.TheVariants.{Done, Refused}
 use Rattle.events.specs.Trees.{Before}
 use Rattle.leads.specs.Leads.{head_own, led_on, lead_run, lead_by, lead_room, numbers_lead, lead_numbers, LeadsIn}
 use Rattle.leads.specs.declared.Lead.{Lead}
-use Rattle.leads.specs.declared.Lead.TheVariants.{Ready, Over}
+use Rattle.leads.specs.declared.Lead.TheVariants.{Over}
 
 led_numbers : (after : Run) (own head : OwnRead) → numbers_lead (led_on after own head) ≡ unless_refused (numbers_own own) (unless_refused (numbers_own head) (numbers_own own))
 led_numbers after (own_is.Record own) (own_is.Record head) = refl

@@ -4,7 +4,7 @@
 use mathlib.Core.Path.{◌≡◌, refl, sym, ap, ◌∙◌}
 use mathlib.Core.Logic.{⊎_elim}
 use mathlib.Core.List.{List, [], ◌∷◌}
-use mathlib.Core.Bool.{Bool, true, false, cond, ◌&&◌, ◌||◌}
+use mathlib.Core.Bool.{Bool, true, false, ◌&&◌, ◌||◌}
 use Prim.Native.Nat.{ℕ, zero, suc, ◌-◌, ◌/◌, ◌%◌, ◌<◌, ◌≤◌}
 use lib.ListN.{length, get_or, replicate}
 use native.Mathlib.Omega.{arith}
@@ -31,10 +31,10 @@ use Rattle.printing.specs.declared.CodeFormatter.{CodeFormatter}
 use Rattle.printing.specs.declared.Context.{Context}
 use Rattle.printing.specs.declared.Printed.{Printed}
 use Rattle.printing.specs.declared.Printed.TheVariants.{Done}
-use Rattle.printing.proofs.Running.{told, ◌then◌, some_place}
+use Rattle.printing.proofs.Running.{◌then◌, some_place}
 use Rattle.events.specs.Views.{bit_at}
 use Rattle.events.specs.Trees.{Place, events_in}
-use Rattle.events.proofs.OwnParts.{Fielded, record_headed, record_parts}
+use Rattle.events.proofs.OwnParts.{record_headed, record_parts}
 use Rattle.leaves.specs.Lists.{item_trees, items_end}
 use Rattle.leaves.specs.Records.{PrintsField, PrintsKind, field_trees, fields_end, Opens, closed_by}
 use Rattle.leaves.specs.declared.record.Opened.{Opened}

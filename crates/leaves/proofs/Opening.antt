@@ -5,7 +5,7 @@ use mathlib.Core.List.{List}
 use mathlib.Core.Bool.{Bool, true, false, cond, ◌&&◌}
 use Prim.Native.Nat.{ℕ}
 use lib.Dec.{eqb}
-use Rattle.tree.specs.Own.{read_own, numbers_own, own_numbers}
+use Rattle.tree.specs.Own.{read_own, numbers_own}
 use Rattle.tree.proofs.Numbers.{own_numbers_lem}
 use Rattle.tree.specs.declared.grammar.Class.{Class}
 use Rattle.tree.specs.declared.own.OwnRead.{OwnRead}
@@ -18,7 +18,7 @@ use Rattle.printing.specs.declared.Printed.{Printed}
 use Rattle.printing.specs.declared.Printed.TheVariants.{Done, Refused}
 use Rattle.leaves.specs.Records.{Opens, opened_on, opened_by, opened_room, numbers_opened, opened_numbers}
 use Rattle.leaves.specs.declared.record.Opened.{Opened}
-use Rattle.leaves.specs.declared.record.Opened.TheVariants.{Record, Closed}
+use Rattle.leaves.specs.declared.record.Opened.TheVariants.{Closed}
 
 own_opened : (room : List ℕ) (state : CodeFormatter) (context : Context) (shown : Bool) (bytes : List ℕ) (found : OwnRead)
     → numbers_opened (opened_on room state context shown bytes found) ≡ numbers_own found

@@ -1,15 +1,15 @@
 -- Laws of records: what reading gives of one by its own bytes, and what is shown of one that was opened or skipped.
 use mathlib.Core.Path.{◌≡◌, refl, sym, ap, ◌∙◌}
 use mathlib.Core.List.{List}
-use mathlib.Core.Bool.{Bool, true, false, cond, not}
+use mathlib.Core.Bool.{Bool, true, false, cond}
 use Prim.Native.Nat.{ℕ, zero, suc, ◌-◌, ◌/◌, ◌%◌, ◌<◌, ◌≤◌}
 use native.Mathlib.Omega.{arith}
 use lib.Dec.{eqb}
 use native.Mathlib.Numerals.{sub-one}
 use Rattle.answers.specs.declared.Refusal.{Refusal}
-use Rattle.tree.specs.Tree.{Tree, absent, refused}
-use Rattle.tree.specs.Own.{read_own, refusal_of, Fits, OwnFits}
-use Rattle.tree.specs.Reading.{Reading, parts_due, read_parts, record_of, read_on, unread, trivia_of, read}
+use Rattle.tree.specs.Tree.{absent, refused}
+use Rattle.tree.specs.Own.{read_own, refusal_of, Fits}
+use Rattle.tree.specs.Reading.{parts_due, read_parts, record_of, read}
 use Rattle.tree.specs.declared.grammar.Class.{Class}
 use Rattle.tree.specs.declared.own.Own.{Own}
 use Rattle.tree.specs.declared.own.OwnRead.{OwnRead}
@@ -18,8 +18,8 @@ use Rattle.tree.specs.Parts.{skipped, refused_skip}
 use Rattle.tree.specs.declared.parts.Skipped.{Skipped}
 use Rattle.tree.specs.declared.parts.Skipped.TheVariants.{Next, NotSkipped}
 use Rattle.tree.proofs.Readings.{no_record}
-use Rattle.printing.specs.Events.{Events, nothing}
-use Rattle.printing.specs.Running.{Run, going, run, finished, outcome, place_of, Shown, Prints}
+use Rattle.printing.specs.Events.{nothing}
+use Rattle.printing.specs.Running.{going, run, finished, place_of, Shown}
 use Rattle.printing.specs.declared.CodeFormatter.{CodeFormatter}
 use Rattle.printing.specs.declared.Context.{Context}
 use Rattle.printing.specs.declared.Printed.{Printed}
@@ -27,11 +27,10 @@ use Rattle.printing.specs.declared.Printed.TheVariants as answer_is
 use Rattle.printing.proofs.Running.{ran_nothing, finish, stopped_there, refused_before, done_before}
 use Rattle.events.specs.Views.{bit_at}
 use Rattle.events.specs.Refusals.{first_refusal}
-use Rattle.events.specs.Trees.{trivia_events, skipping, Place, events_in}
+use Rattle.events.specs.Trees.{trivia_events, Place, events_in}
 use Rattle.events.proofs.Refusals.{skip_passed, skip_refused}
 use Rattle.leaves.specs.Items.{items_at}
-use Rattle.leaves.specs.Records.{OpensAt, Opens, Skips}
-use Rattle.leaves.specs.declared.record.Opened.{Opened}
+use Rattle.leaves.specs.Records.{Opens, Skips}
 use Rattle.leaves.specs.declared.record.Opened.TheVariants as opened_is
 use Rattle.leaves.proofs.Leaves.{own_items, full_refused}
 

@@ -1,5 +1,5 @@
 -- What printers of records promise: the events of the record at the place where the last answer ended, whatever bytes stand there.
-use Rattle.std.specs.Prelude.{ℕ, ◌/◌, ◌≡◌, List, [], ◌∷◌, Bool, true, false, cond, ◌&&◌, eqb}
+use Rattle.std.specs.Prelude.{ℕ, ◌/◌, ◌≡◌, List, [], ◌∷◌, Bool, true, cond, ◌&&◌, eqb}
 use Rattle.answers.specs.Numbers.{numbers_of}
 use Rattle.tree.specs.Tree.{Tree, absent, built}
 use Rattle.tree.specs.Grammar.{Slot, must, may, fields}

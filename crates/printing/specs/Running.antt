@@ -1,5 +1,5 @@
 -- The same events on the work room and the formatter's state, byte by byte.
-use Rattle.std.specs.Prelude.{ℕ, ◌≡◌, List, Bool, true, false, cond, not, ◌||◌, length, eqb}
+use Rattle.std.specs.Prelude.{ℕ, ◌≡◌, List, Bool, cond, not, ◌||◌, length, eqb}
 use Rattle.answers.specs.Numbers.{numbers_of}
 use Rattle.answers.specs.declared.Refusal.{Refusal}
 use Rattle.answers.specs.declared.Reason.TheVariants.{WorkRoom}

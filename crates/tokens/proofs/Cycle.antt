@@ -1,8 +1,7 @@
 -- Laws of the tokens' printers: what is shown of a token is what stands before the part inside it and that part; what is shown of a token list item by item;
 -- and what the own bytes of a token say of it.
 use mathlib.Core.Path.{◌≡◌, refl, sym, ap, ◌∙◌}
-use mathlib.Core.Logic.{⊎_elim}
-use mathlib.Core.List.{List, [], ◌∷◌}
+use mathlib.Core.List.{List, []}
 use mathlib.Core.Bool.{Bool, true, false, cond, ◌&&◌}
 use Prim.Native.Nat.{ℕ, zero, suc, ◌-◌, ◌/◌, ◌%◌, ◌<◌, ◌≤◌}
 use lib.ListN.{get_or, replicate}
@@ -52,7 +51,6 @@ use Rattle.tokens.specs.Inner.{token_class, inner_of, Ends, else_front, branch_e
 use Rattle.tokens.specs.Tokens.{closing_at, PrintsTokens, each_events}
 use Rattle.tokens.specs.declared.walk.Inner.{Inner}
 use Rattle.tokens.specs.declared.walk.Inner.TheVariants.{Nothing, Block, Token, Branches}
-use Rattle.tokens.specs.contracts.walk.Inner as inners
 
 -- ---- a run that has ended
 

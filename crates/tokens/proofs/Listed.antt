@@ -7,7 +7,6 @@ use lib.Dec.{eqb}
 use lib.ListN.{length, get_or}
 use borrow.Author.Tests.{eqb-true, eqb-false}
 use Rattle.text.proofs.Choices.{by_test}
-use Rattle.answers.specs.declared.Refusal.{Refusal}
 use Rattle.tree.specs.Tree.{built}
 use Rattle.tree.specs.Grammar.{kind_of, fields}
 use Rattle.tree.specs.Own.{read_own}

@@ -9,7 +9,7 @@ use Rattle.options.specs.Stored.{read_options}
 use Rattle.options.specs.declared.FormattingOptions.{FormattingOptions}
 use Rattle.options.specs.declared.OptionsRead.{OptionsRead}
 use Rattle.options.specs.declared.OptionsRead.TheVariants as options_are
-use Rattle.chunks.specs.Stored.{Chunk, stored_list}
+use Rattle.chunks.specs.Stored.{stored_list}
 use Rattle.tree.specs.Checking.{read_file, length_checked, batch_checked}
 use Rattle.printing.specs.Events.{Events}
 use Rattle.printing.specs.Running.{going, at_start, run, settled, room_of}

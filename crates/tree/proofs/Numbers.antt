@@ -19,7 +19,7 @@ use Rattle.tree.specs.Own.{may_stand, map_fits, trivia_read, text_end, leaf_on, 
 use Rattle.tree.specs.Own.{Fits, numbers_own, was_read, own_end, own_numbers}
 use Rattle.tree.specs.Reading.{Placed, read}
 use Rattle.tree.specs.Checking.{read_file, length_checked, end_checked, texts_checked, tree_checked}
-use Rattle.tree.specs.Checking.{length_numbers, end_numbers, texts_numbers, tree_numbers}
+use Rattle.tree.specs.Checking.{length_numbers, texts_numbers, tree_numbers}
 use Rattle.tree.specs.Parts.{skipped_on, skipped, second_field, field_head, inner_on, inner_head, head_on, head_behind, head_at}
 use Rattle.tree.specs.Parts.{numbers_skipped, read_numbers, numbers_head, field_numbers, inner_numbers, token_numbers, behind_numbers, head_numbers_on, head_numbers}
 use Rattle.tree.specs.declared.grammar.Class.{Class}

@@ -1,9 +1,8 @@
 -- Laws of what leaves show: the code's tables are what is told of each enum, and all other classes show their text.
 use mathlib.Core.Path.{◌≡◌, refl}
-use mathlib.Core.List.{List, [], ◌∷◌, ◌++◌, map}
+use mathlib.Core.List.{List, [], ◌∷◌, ◌++◌}
 use Prim.Native.Nat.{ℕ, ◌≤◌}
-use native.Mathlib.Omega.{arith}
-use lib.ListN.{length, get_or, get_or-eq_default}
+use lib.ListN.{get_or, get_or-eq_default}
 use Rattle.text.specs.Literals.{ascii}
 use Rattle.options.specs.Casings.{cased}
 use Rattle.tree.specs.declared.grammar.Class.{Class}

@@ -1,5 +1,5 @@
 -- Laws of the texts of tables: names that stand one behind the other, cut at the places where they begin and end.
-use mathlib.Core.Path.{◌≡◌, refl, ◌∙◌}
+use mathlib.Core.Path.{◌≡◌, refl}
 use mathlib.Core.List.{List, [], ◌∷◌, ◌++◌, map}
 use Prim.Native.Nat.{ℕ, ◌+◌, ◌-◌, ◌<◌}
 use Prim.Native.String.{String}

@@ -3,7 +3,6 @@ use mathlib.Core.Path.{refl, ap, ◌∙◌}
 use Rattle.answers.specs.Numbers.{answer_of}
 use Rattle.exports.specs.Packed.{packed_of}
 use Rattle.exports.proofs.Small.{check_answer}
-use borrow.Author.Rules.{rules}
 use Rattle.exports.proofs.felgutrosa_check_tree.Goals as goal
 
 pub packed-requires : goal.packed-requires

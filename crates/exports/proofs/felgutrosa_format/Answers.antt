@@ -2,7 +2,6 @@
 use mathlib.Core.Path.{refl, ap, ◌∙◌}
 use Rattle.exports.specs.Packed.{packed_of}
 use Rattle.exports.proofs.Small.{format_answer}
-use borrow.Author.Rules.{rules}
 use Rattle.exports.proofs.felgutrosa_format.Goals as goal
 
 pub packed-requires : goal.packed-requires

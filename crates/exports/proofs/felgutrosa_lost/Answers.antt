@@ -1,9 +1,8 @@
 -- The loss as an answer, packed.
-use mathlib.Core.Path.{refl, sym, ap, ◌∙◌}
+use mathlib.Core.Path.{refl, ap, ◌∙◌}
 use Rattle.losses.specs.Lost.{loss_answer}
 use Rattle.exports.specs.Packed.{packed_of}
 use Rattle.exports.proofs.Small.{lost_answer}
-use borrow.Author.Rules.{rules}
 use Rattle.exports.proofs.felgutrosa_lost.Goals as goal
 
 pub loss_answer-requires : goal.loss_answer-requires

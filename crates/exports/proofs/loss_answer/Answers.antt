@@ -1,7 +1,6 @@
 -- A record, whose offset and letters are small; none; a refusal.
 use mathlib.Core.Path.{refl}
 use native.Mathlib.Omega.{arith}
-use borrow.Author.Rules.{rules}
 use Rattle.exports.proofs.Small.{used_narrow}
 use Rattle.exports.proofs.loss_answer.Goals as goal
 

@@ -1,6 +1,5 @@
 -- The number is at most 9, and the value is below 2^32: their sum stays below 2^64.
 use native.Mathlib.Omega.{arith}
-use borrow.Author.Rules.{rules}
 use Rattle.exports.proofs.Numbers.{number_small}
 use Rattle.exports.proofs.packed.Goals as goal
 

@@ -2,7 +2,6 @@
 use mathlib.Core.Path.{ap, ◌∙◌}
 use Rattle.answers.proofs.Numbers.{numbers_in_lem}
 use Rattle.text.specs.Stores.{zeros}
-use borrow.Author.Rules.{rules}
 use Rattle.formatting.proofs.format.Goals as goal
 
 pub returns : goal.returns

@@ -1,8 +1,5 @@
 -- A refusal of the walk is handed on; else the setter is given the chunks that the walk holds, and its promise is the call's.
-use native.Mathlib.Omega.{arith}
-use lib.ListN.{length-take}
 use Rattle.formatting.proofs.Lessons.{refused_lesson, used_fits, joined_lesson}
-use borrow.Author.Rules.{rules}
 use Rattle.formatting.proofs.format_in.Goals as goal
 
 pub returns-in_default : goal.returns-in_default

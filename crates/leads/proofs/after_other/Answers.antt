@@ -1,7 +1,6 @@
 -- The tests of the definition.
 use mathlib.Core.Path.{refl}
-use borrow.Author.Tests.{eq-eqb, ne_eqb}
-use borrow.Author.Rules.{rules}
+use borrow.Author.Tests.{ne_eqb}
 use Rattle.leads.proofs.after_other.Goals as goal
 
 pub returns-then-block : goal.returns-then-block

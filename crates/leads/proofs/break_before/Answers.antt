@@ -2,7 +2,6 @@
 use mathlib.Core.Path.{refl, sym, ◌∙◌}
 use Rattle.printing.specs.Running.{run}
 use Rattle.printing.proofs.Running.{ran_push}
-use borrow.Author.Rules.{rules}
 use Rattle.leads.proofs.break_before.Goals as goal
 
 pub returns-then-stood : goal.returns-then-stood

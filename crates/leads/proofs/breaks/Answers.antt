@@ -1,7 +1,6 @@
 -- The tests of the definition.
 use mathlib.Core.Path.{refl}
 use borrow.Author.Tests.{eq-eqb, ne_eqb}
-use borrow.Author.Rules.{rules}
 use Rattle.leads.proofs.breaks.Goals as goal
 
 pub returns-then-number-eq-ERROR : goal.returns-then-number-eq-ERROR

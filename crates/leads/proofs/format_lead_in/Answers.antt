@@ -11,7 +11,6 @@ use Rattle.leads.proofs.Ready.{lead_known}
 use Rattle.leads.proofs.Leads.{token_missing, lead_ready, over_stays, lead_from, over_full, over_met}
 use Rattle.tree.proofs.Heads.{head_behind_read}
 use borrow.Author.Tests.{eq-eqb, ne_eqb}
-use borrow.Author.Rules.{rules}
 use Rattle.leads.proofs.format_lead_in.Goals as goal
 
 pub returns-in_default : goal.returns-in_default

@@ -3,7 +3,6 @@ use Rattle.printing.proofs.Running.{refused_before, done_before}
 use Rattle.leads.specs.Leads.{before_of}
 use Rattle.leaves.proofs.Leaves.{own_items, full_refused}
 use Rattle.leads.proofs.Leads.{closing_stopped, closing_shown}
-use borrow.Author.Rules.{rules}
 use Rattle.leads.proofs.format_lead_out.Goals as goal
 
 pub returns-in_default : goal.returns-in_default

@@ -4,7 +4,6 @@ use mathlib.Core.List.{[], ◌∷◌}
 use borrow.Author.Tests.{ne_eqb}
 use Rattle.events.specs.Trees.{one_of}
 use Rattle.leads.proofs.Groups.{only_first, only_second, only_third, only_none}
-use borrow.Author.Rules.{rules}
 use Rattle.leads.proofs.grouped.Goals as goal
 
 pub returns-in-1 : goal.returns-in-1

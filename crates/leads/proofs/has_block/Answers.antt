@@ -1,7 +1,6 @@
 -- The two kinds, and all others.
 use mathlib.Core.Path.{refl}
 use borrow.Author.Tests.{ne_eqb}
-use borrow.Author.Rules.{rules}
 use Rattle.leads.proofs.has_block.Goals as goal
 
 pub returns-then-number-eq-IMPORT : goal.returns-then-number-eq-IMPORT

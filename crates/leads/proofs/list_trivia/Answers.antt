@@ -1,5 +1,4 @@
 -- The two cases of the definition.
-use borrow.Author.Rules.{rules}
 use Rattle.leads.proofs.list_trivia.Goals as goal
 
 pub returns-then-drops : goal.returns-then-drops

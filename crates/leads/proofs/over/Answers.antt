@@ -1,7 +1,6 @@
 -- The two cases of the definition.
 use mathlib.Core.Path.{refl}
 use Rattle.leads.specs.Leads.{over_numbers}
-use borrow.Author.Rules.{rules}
 use Rattle.leads.proofs.over.Goals as goal
 
 pub returns-in-Over : goal.returns-in-Over

@@ -1,7 +1,6 @@
 -- Below the length the byte is read, and past it `get_or` gives its default.
 use mathlib.Core.Path.{refl, sym}
 use native.Mathlib.Omega.{arith}
-use borrow.Author.Rules.{rules}
 use lib.ListN.{get_or-eq_default}
 use Rattle.options.proofs.byte_at.Goals as goal
 

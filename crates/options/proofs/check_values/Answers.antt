@@ -1,8 +1,6 @@
 -- The loop's invariant: the check of all eight fields is that of the fields from field k on.
-use Prim.Native.Nat.{◌-◌, ◌≤◌}
-use mathlib.Core.Path.{◌≡◌, refl, sym, ◌∙◌}
+use mathlib.Core.Path.{refl, sym, ◌∙◌}
 use native.Mathlib.Omega.{arith}
-use Rattle.options.specs.Stored.{values_checked}
 use Rattle.options.proofs.Values.{checked_step, checked_none}
 use Rattle.options.proofs.check_values.Goals as goal
 

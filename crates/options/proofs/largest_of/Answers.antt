@@ -1,6 +1,5 @@
 -- The table of the code is the definition's.
 use mathlib.Core.Path.{refl}
-use borrow.Author.Rules.{rules}
 use Rattle.options.proofs.largest_of.Goals as goal
 
 pub returns : goal.returns

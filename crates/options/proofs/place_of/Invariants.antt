@@ -1,9 +1,7 @@
 -- The loop's invariant: the place is that of field i. Bit i, added, makes it that of field i + 1.
 use Prim.Native.Nat.{◌+◌, ◌-◌, ◌≤◌}
-use mathlib.Core.Path.{◌≡◌, refl}
-use native.Mathlib.Omega.{arith}
-use Rattle.options.specs.Stored.{standing, place_of}
-use Rattle.options.proofs.Values.{standing_step}
+use mathlib.Core.Path.{◌≡◌}
+use Rattle.options.specs.Stored.{place_of}
 use Rattle.options.proofs.place_of.Given as goal
 
 abbrev pub invariant-loop-i : goal.invariant-loop-i

@@ -1,6 +1,5 @@
 -- The returns follow the checks in the definition's order: the length, the values, and the options. The indent of options whose values are passed is at most 64.
 use mathlib.Core.Path.{sym, ◌∙◌}
-use borrow.Author.Rules.{rules}
 use borrow.Author.Tests.{eq-eqb, ne_eqb}
 use Rattle.options.specs.Stored.{read_options, stored_options}
 use Rattle.options.proofs.Values.{indent_small, read_numbers_lem}

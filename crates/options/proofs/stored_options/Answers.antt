@@ -1,6 +1,5 @@
 -- Each field is made of what `value_of` gives for it, and that is a byte.
 use native.Mathlib.Omega.{arith}
-use borrow.Author.Rules.{rules}
 use Rattle.options.specs.Stored.{stored_options}
 use Rattle.options.proofs.stored_options.Goals as goal
 

@@ -1,7 +1,6 @@
 -- The bit is 0 or 1: where it is 0 the definition's first test fails, and else the second decides.
 use mathlib.Core.Path.{◌≡◌}
 use native.Mathlib.Omega.{arith}
-use borrow.Author.Rules.{rules}
 use Rattle.options.proofs.too_large.Goals as goal
 
 pub returns-then-bit-eq0 : goal.returns-then-bit-eq0

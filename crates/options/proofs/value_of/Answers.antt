@@ -1,5 +1,4 @@
 -- Where the bit stands the value is the byte at the field's place, and else the default.
-use borrow.Author.Rules.{rules}
 use borrow.Author.Tests.{eq-eqb, ne_eqb}
 use Rattle.options.proofs.value_of.Goals as goal
 

@@ -1,5 +1,4 @@
 -- Only a text of one byte can be a newline.
-use borrow.Author.Rules.{rules}
 use Rattle.printing.proofs.Pushing.{newline_one, newline_other}
 use Rattle.printing.proofs.is_newline.Goals as goal
 

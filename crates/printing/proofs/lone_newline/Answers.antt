@@ -1,5 +1,4 @@
 -- A text behind a space is no newline, nor is one before a colon.
-use borrow.Author.Rules.{rules}
 use Rattle.printing.proofs.Pushing.{newline_spaced, newline_colon}
 use Rattle.printing.proofs.lone_newline.Goals as goal
 

@@ -1,8 +1,5 @@
 -- The loop's invariant: what is left of the tokens ends where all of them do. The measure is how many are left.
-use mathlib.Core.Path.{◌≡◌, refl, sym, ◌∙◌}
-use native.Mathlib.Omega.{arith}
-use borrow.Author.Rules.{rules}
-use Rattle.reader.specs.Tokens.{behind_row}
+use mathlib.Core.Path.{refl, sym, ◌∙◌}
 use Rattle.reader.proofs.Rows.{row_none, row_next}
 use Rattle.reader.proofs.behind_row.Goals as goal
 

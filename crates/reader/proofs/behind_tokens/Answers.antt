@@ -3,7 +3,6 @@ use mathlib.Core.Path.{ap, ◌∙◌}
 use Rattle.answers.specs.declared.Refusal.{Refusal}
 use Rattle.tree.specs.Own.{refusal_of}
 use Rattle.tree.specs.declared.parts.Skipped.TheVariants.{NotSkipped}
-use borrow.Author.Rules.{rules}
 use Rattle.reader.specs.Tokens.{behind_row}
 use Rattle.reader.proofs.Rows.{list_read, tokens_known}
 use Rattle.reader.proofs.behind_tokens.Goals as goal

@@ -2,7 +2,6 @@
 use mathlib.Core.Path.{refl, sym, ◌∙◌}
 use Rattle.tokens.specs.Chunks.{chunks_held, chunks_room}
 use Rattle.tokens.proofs.Numbers.{held_numbers}
-use borrow.Author.Rules.{rules}
 use Rattle.tokens.proofs.chunks.Goals as goal
 
 pub chunks_with-requires : goal.chunks_with-requires

@@ -2,7 +2,6 @@
 use mathlib.Core.Path.{refl, sym, ◌∙◌}
 use Rattle.tokens.specs.Chunks.{chunks_held, one_pass_room}
 use Rattle.tokens.proofs.Numbers.{held_numbers}
-use borrow.Author.Rules.{rules}
 use Rattle.tokens.proofs.chunks_in_one_pass.Goals as goal
 
 pub one_pass_with-requires : goal.one_pass_with-requires

@@ -1,7 +1,6 @@
 -- A tree that is not accepted is refused before anything is pushed; else the walk showed what is held.
 use mathlib.Core.Path.{sym, ◌∙◌}
 use Rattle.tokens.proofs.Whole.{whole_failed, whole_walked}
-use borrow.Author.Rules.{rules}
 use Rattle.tokens.proofs.chunks_with.Goals as goal
 
 pub returns-in-Failed : goal.returns-in-Failed

@@ -1,7 +1,6 @@
 -- The walk showed the file's events. Where that settles that the tree is accepted, or the check passes it, they are what is held.
 use mathlib.Core.Path.{sym, ◌∙◌}
 use Rattle.tokens.proofs.OnePass.{pass_unsized, pass_failed, pass_passed, pass_settled}
-use borrow.Author.Rules.{rules}
 use Rattle.tokens.proofs.one_pass_with.Goals as goal
 
 pub returns-in-Failed : goal.returns-in-Failed

@@ -1,7 +1,6 @@
 -- The two cases of the definition.
 use mathlib.Core.Path.{sym, ap}
 use Rattle.tokens.specs.Settling.{printed_answer}
-use borrow.Author.Rules.{rules}
 use Rattle.tokens.proofs.printed_answer.Goals as goal
 
 pub returns-in-Done : goal.returns-in-Done

@@ -2,7 +2,6 @@
 use mathlib.Core.Path.{refl}
 use borrow.Author.Tests.{eq-eqb, ne_eqb}
 use Rattle.tokens.specs.Settling.{settles}
-use borrow.Author.Rules.{rules}
 use Rattle.tokens.proofs.settles.Goals as goal
 
 pub returns-in_default : goal.returns-in_default

@@ -2,7 +2,6 @@
 use mathlib.Core.Path.{refl}
 use native.Mathlib.Omega.{arith}
 use Rattle.printing.proofs.Running.{shows}
-use borrow.Author.Rules.{rules}
 use Rattle.tokens.proofs.walk_file.Goals as goal
 
 pub format_tokens-requires : goal.format_tokens-requires

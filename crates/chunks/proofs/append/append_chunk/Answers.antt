@@ -1,7 +1,6 @@
 -- Each answer is the one that the definition has after the same tests, and the head and the text, stored one behind the other, are the chunk stored.
 use Rattle.std.proofs.Common.{ℕ, ◌≤◌, ◌≢◌, Bool, List, length, arith}
 use Rattle.chunks.specs.declared.stored.ChunkType.{ChunkType}
-use borrow.Author.Rules.{rules}
 use Rattle.chunks.specs.Stored.{Chunk, WellFormed}
 use Rattle.chunks.specs.Appending.{with_space, with_colon}
 use Rattle.chunks.proofs.Forms.{indent_length, head_length, chunk_length}

@@ -1,6 +1,5 @@
 -- The type's bits, and the indent's bit where there is an indent.
 use native.Mathlib.Omega.{arith}
-use borrow.Author.Rules.{rules}
 use Rattle.chunks.proofs.Forms.{type_bits_small, indent_bit_lem}
 use Rattle.chunks.proofs.append.map_byte.Goals as goal
 

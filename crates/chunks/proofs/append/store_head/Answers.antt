@@ -2,7 +2,6 @@
 use mathlib.Core.Path.{◌∙◌}
 use native.Mathlib.Omega.{arith}
 use lib.ListN.{length-set}
-use borrow.Author.Rules.{rules}
 use Rattle.chunks.proofs.Forms.{head_length}
 use Rattle.chunks.proofs.Storing.{head_stores}
 use Rattle.chunks.proofs.append.store_head.Goals as goal

@@ -1,7 +1,6 @@
 -- Where the flag is set there is room for the byte, and elsewhere nothing is stored.
 use mathlib.Core.Path.{refl}
 use native.Mathlib.Omega.{arith}
-use borrow.Author.Rules.{rules}
 use Rattle.chunks.proofs.append.store_if.Goals as goal
 
 pub bounds-room-at : goal.bounds-room-at

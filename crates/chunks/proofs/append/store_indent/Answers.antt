@@ -3,7 +3,6 @@ use Prim.Native.Nat.{◌+◌, ◌≤◌}
 use mathlib.Core.Path.{refl, ap, ◌∙◌}
 use native.Mathlib.Omega.{arith}
 use lib.ListN.{length}
-use borrow.Author.Rules.{rules}
 use Rattle.chunks.specs.Stored.{stored_indent}
 use Rattle.chunks.proofs.Forms.{indent_stored}
 use Rattle.chunks.proofs.Storing.{number_fits}

@@ -1,6 +1,5 @@
 -- The space, the text and the colon, stored one behind the other, are the whole text stored.
 use native.Mathlib.Omega.{arith}
-use borrow.Author.Rules.{rules}
 use Rattle.chunks.proofs.Storing.{text_length, text_stores}
 use Rattle.chunks.proofs.append.store_text.Goals as goal
 

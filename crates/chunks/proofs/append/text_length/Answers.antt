@@ -1,6 +1,5 @@
 -- A space and a colon are one byte each.
 use native.Mathlib.Omega.{arith}
-use borrow.Author.Rules.{rules}
 use Rattle.chunks.proofs.Storing.{byte_length, text_length}
 use Rattle.chunks.proofs.append.text_length.Goals as goal
 

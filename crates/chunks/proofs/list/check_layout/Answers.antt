@@ -1,5 +1,4 @@
 -- No text of accepted bytes is refused, so the list is judged by where its chunks end.
-use borrow.Author.Rules.{rules}
 use mathlib.Core.Path.{sym}
 use Rattle.chunks.proofs.Judging.{layout_passed, layout_failed}
 use Rattle.chunks.proofs.list.check_layout.Goals as goal

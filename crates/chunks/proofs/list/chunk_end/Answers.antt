@@ -1,5 +1,4 @@
 -- A chunk without indent ends with its text, any other where it is found to.
-use borrow.Author.Rules.{rules}
 use mathlib.Core.Path.{sym, ap, ◌∙◌}
 use native.Mathlib.Omega.{arith}
 use Rattle.chunks.specs.Steps.{end_on}

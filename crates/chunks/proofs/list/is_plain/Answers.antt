@@ -1,5 +1,4 @@
 -- Each test that fails says no; where all hold a chunk without indent stands there.
-use borrow.Author.Rules.{rules}
 use mathlib.Core.Path.{sym, ◌∙◌}
 use native.Mathlib.Omega.{arith}
 use borrow.Author.Tests.{leb-true}

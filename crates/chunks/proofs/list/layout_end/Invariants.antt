@@ -1,9 +1,7 @@
 -- The chunks from the start on lead to each place where the pass stands, so they end where no chunk leads on.
-use mathlib.Core.Path.{refl, sym, ◌∙◌}
 use Prim.Native.Nat.{◌-◌}
-use native.Mathlib.Omega.{arith}
 use lib.ListN.{length}
-use Rattle.chunks.proofs.Judging.{Ending, ending_on, ending_none, ending_all}
+use Rattle.chunks.proofs.Judging.{Ending}
 use Rattle.chunks.proofs.list.layout_end.Given as goal
 
 abbrev pub invariant-loop-at : goal.invariant-loop-at

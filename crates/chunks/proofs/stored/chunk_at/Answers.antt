@@ -1,11 +1,9 @@
 -- Each answer is the one that the definition has after the same tests; what is found fits since every element is a byte.
-use Prim.Native.Nat.{◌+◌, ◌%◌}
+use Prim.Native.Nat.{◌+◌}
 use mathlib.Core.Path.{◌≡◌, sym, ◌∙◌}
 use native.Mathlib.Omega.{arith}
 use borrow.Author.Tests.{lt-ltb, le-ltb, le-leb, lt-leb, eq-eqb}
-use borrow.Author.Rules.{rules}
-use Rattle.text.specs.declared.numbers.Number.{Number}
-use Rattle.chunks.specs.Reading.{type_of, indent_on, chunk_at, Fits}
+use Rattle.chunks.specs.Reading.{chunk_at}
 use Rattle.chunks.proofs.Reading.{chunk_plain, chunk_indented, indent_zero, indent_deep, indent_text, chunk_fits}
 use Rattle.chunks.proofs.stored.chunk_at.Goals as goal
 

@@ -1,12 +1,9 @@
 -- The number that is read decides, as in the definition.
-use Prim.Native.Nat.{ℕ, ◌+◌, ◌<◌, ◌≤◌}
-use mathlib.Core.Path.{◌≡◌, sym, ◌∙◌}
+use Prim.Native.Nat.{◌+◌, ◌<◌, ◌≤◌}
+use mathlib.Core.Path.{sym, ◌∙◌}
 use native.Mathlib.Omega.{arith}
 use lib.ListN.{length}
 use borrow.Author.Tests.{lt-ltb, le-ltb, eq-eqb, ne_eqb}
-use borrow.Author.Rules.{rules}
-use Rattle.text.specs.declared.numbers.Number.TheVariants.{Read}
-use Rattle.chunks.specs.Reading.{text_on, text_at}
 use Rattle.chunks.proofs.Reading.{read_inside, text_read}
 use Rattle.chunks.proofs.stored.text_at.Goals as goal
 

@@ -1,31 +1,22 @@
 -- Every printer goes on from the last answer, so what one shows is what its calls show one behind the other; each call is of fewer levels, or of the same levels
 -- from a printer of fields to one of records.
-use mathlib.Core.Path.{◌≡◌, refl, sym, ◌∙◌}
+use mathlib.Core.Path.{◌≡◌, refl, ◌∙◌}
 use mathlib.Core.Logic.{⊎_elim}
-use mathlib.Core.List.{List}
 use mathlib.Core.Bool.{true, false, ◌||◌}
-use lib.ListN.{length}
 use native.Mathlib.Omega.{arith}
-use borrow.Author.Rules.{rules}
-use borrow.Author.Tests.{not-true, not-false}
-use Rattle.tree.specs.Tree.{built, chain}
-use Rattle.tree.specs.Reading.{read}
+use Rattle.tree.specs.Tree.{built}
 use Rattle.tree.specs.Stored.{stored_with}
 use Rattle.tree.specs.declared.grammar.Kind.TheVariants as variant
 use Rattle.tree.proofs.KindLayout.{kind_number}
-use Rattle.printing.specs.Running.{place_of, outcome, Shown}
-use Rattle.printing.specs.declared.Printed.{Printed}
 use Rattle.printing.proofs.Running.{◌then◌, ◌thence◌, ran_printer, place_behind, refused_before, done_before, handed_on, stays_refused}
 use Rattle.events.specs.Printed.{plain}
 use Rattle.events.specs.Views.{bit_at}
 use Rattle.events.specs.Trees.{leaf, events_in}
-use Rattle.leaves.specs.Lists.{item_trees, items_end}
 use Rattle.leaves.specs.Records.{field_trees, fields_end}
 use Rattle.leaves.proofs.Fielded.{opened_levels, opened_one, opened-kind, opened-list, shown_closed}
 use Rattle.expressions.specs.Expressions.{item_class, list_place}
 use Rattle.expressions.proofs.Cycle.{item_rule, factor_is, counter_is, list_is, list_items}
-use Rattle.expressions.proofs.Cycle.{or_first, or_second, unsigned_shown, signed_shown, binary_shown, none_left, one_left}
-use Prim.Native.Nat.{ℕ, ◌<◌, ◌+◌, ◌*◌}
+use Rattle.expressions.proofs.Cycle.{unsigned_shown, signed_shown, binary_shown, none_left, one_left}
 use Rattle.expressions.proofs.expression.+expression.Goals as goal
 
 -- ---- format_argument: the value, its comma and a space to come are the events of the record that was opened

@@ -1,9 +1,7 @@
 -- Without a modifier the path is a leaf; with one, the path is skipped on the way to it and printed behind it.
 use mathlib.Core.Path.{refl}
-use borrow.Author.Tests.{not-true, not-false}
 use Rattle.printing.proofs.Running.{◌thence◌, ◌then◌, ran_printer, handed_on, place_behind, refused_before, done_before}
 use Rattle.expressions.proofs.Operands.{moved_back, path_bare, path_modified}
-use borrow.Author.Rules.{rules}
 use Rattle.expressions.proofs.expression.format_identifier_value.Goals as goal
 
 pub returns-in_default : goal.returns-in_default

@@ -1,5 +1,4 @@
 -- The closing character is a leaf.
-use borrow.Author.Rules.{rules}
 use Rattle.expressions.proofs.operand.format_closing.Goals as goal
 
 pub returns : goal.returns

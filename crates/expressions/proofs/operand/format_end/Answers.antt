@@ -2,7 +2,6 @@
 use mathlib.Core.Path.{refl}
 use Rattle.printing.proofs.Running.{◌thence◌, ◌then◌, ran_printer, told, place_behind, refused_before, done_before}
 use Rattle.expressions.proofs.Operands.{shown_as_lem, moved_first, moved_last, end_outer, end_inner, end_bare, end_refused}
-use borrow.Author.Rules.{rules}
 use Rattle.expressions.proofs.operand.format_end.Goals as goal
 
 pub returns-in_default : goal.returns-in_default

@@ -9,7 +9,6 @@ use Rattle.events.specs.Printed.{plain}
 use Rattle.events.specs.Trees.{leaf}
 use Rattle.leaves.proofs.Fielded.{opened_levels, opened_one, opened-kind, shown_closed}
 use Rattle.expressions.proofs.Operands.{operand_shown}
-use borrow.Author.Rules.{rules}
 use Rattle.expressions.proofs.operand.format_operand.Goals as goal
 
 pub returns-in_default : goal.returns-in_default

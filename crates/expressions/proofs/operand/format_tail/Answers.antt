@@ -3,7 +3,6 @@ use mathlib.Core.Path.{refl}
 use Rattle.printing.proofs.Running.{◌then◌, ran_printer, room_left, handed_on, place_behind, refused_before, done_before}
 use Rattle.leaves.proofs.Leaves.{own_text}
 use Rattle.expressions.proofs.Operands.{tail_shown, tail_refused}
-use borrow.Author.Rules.{rules}
 use Rattle.expressions.proofs.operand.format_tail.Goals as goal
 
 pub returns-in_default : goal.returns-in_default

@@ -1,6 +1,5 @@
 -- The text is empty, or its first byte is the one at its place.
 use Rattle.expressions.proofs.Operands.{mode_none, mode_byte}
-use borrow.Author.Rules.{rules}
 use Rattle.expressions.proofs.operand.mode_of.Goals as goal
 
 pub returns-then-start-own : goal.returns-then-start-own

@@ -1,20 +1,16 @@
 -- The loop's invariant: whoever shows what is left from here has shown all the items. The measure is how many are left.
-use mathlib.Core.Path.{◌≡◌, refl, ◌∙◌}
+use mathlib.Core.Path.{◌≡◌}
 use mathlib.Core.List.{List}
 use mathlib.Core.Bool.{true}
 use Prim.Native.Nat.{ℕ}
-use native.Mathlib.Omega.{arith}
 use lib.ListN.{length}
 use Rattle.tree.specs.Tree.{chain}
 use Rattle.tree.specs.Reading.{read}
 use Rattle.tree.specs.declared.grammar.Class.TheVariants.{StringItem}
 use Rattle.printing.specs.Running.{place_of, outcome, Shown}
 use Rattle.printing.specs.declared.Printed.{Printed}
-use Rattle.printing.proofs.Running.{◌thence◌, stays_refused}
 use Rattle.events.specs.Trees.{in_string, events_in}
 use Rattle.leaves.specs.Lists.{item_trees, items_end}
-use Rattle.expressions.proofs.StringItems.{items_none, items_next}
-use borrow.Author.Rules.{rules}
 use Rattle.expressions.proofs.strings.format_each_item.Given as goal
 
 abbrev pub invariant-loop-left : goal.invariant-loop-left

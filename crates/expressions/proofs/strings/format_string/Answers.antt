@@ -10,7 +10,6 @@ use Rattle.leaves.proofs.Fielded.{opened_levels, opened_one, opened-kind, shown_
 use Rattle.tree.specs.Stored.{stored_with}
 use Rattle.tree.specs.declared.grammar.Kind.TheVariants as variant
 use Rattle.tree.proofs.KindLayout.{kind_number}
-use borrow.Author.Rules.{rules}
 use Rattle.expressions.proofs.strings.format_string.Goals as goal
 
 pub returns-in_default : goal.returns-in_default

@@ -7,7 +7,6 @@ use Rattle.events.specs.Printed.{plain, printed}
 use Rattle.events.specs.Trees.{leaf, events_in}
 use Rattle.leaves.proofs.Fielded.{opened_fits, opened-as, shown_closed}
 use Rattle.expressions.proofs.StringItems.{text_item, text_read, path_read}
-use borrow.Author.Rules.{rules}
 use Rattle.expressions.proofs.strings.format_string_item.Goals as goal
 
 pub returns-in_default : goal.returns-in_default

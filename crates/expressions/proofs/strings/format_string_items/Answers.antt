@@ -4,7 +4,6 @@ use Rattle.tree.specs.declared.grammar.Class.TheVariants.{StringItem}
 use Rattle.events.specs.Trees.{in_string}
 use Rattle.leaves.proofs.Fielded.{opened_levels, opened-list, shown_closed}
 use Rattle.expressions.proofs.StringItems.{opened_items}
-use borrow.Author.Rules.{rules}
 use Rattle.expressions.proofs.strings.format_string_items.Goals as goal
 
 pub returns-in_default : goal.returns-in_default

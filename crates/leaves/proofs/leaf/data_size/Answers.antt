@@ -1,6 +1,5 @@
 -- The leaf printer's promise, of a class whose records are leaves.
 use Rattle.leaves.proofs.Classes.{data_size_leaf}
-use borrow.Author.Rules.{rules}
 use Rattle.leaves.proofs.leaf.data_size.Goals as goal
 
 pub returns : goal.returns

@@ -1,6 +1,5 @@
 -- A state goes on with the leaf at its place, and a refusal stays.
 use Rattle.printing.proofs.Running.{refused_anew, done_before}
-use borrow.Author.Rules.{rules}
 use Rattle.leaves.proofs.leaf.format_leaf.Goals as goal
 
 pub returns-in-Done : goal.returns-in-Done

@@ -2,7 +2,6 @@
 use mathlib.Core.Path.{refl}
 use Rattle.printing.proofs.Running.{ran_nothing, finish, refused_before, done_before}
 use Rattle.events.specs.Trees.{events_in}
-use borrow.Author.Rules.{rules}
 use Rattle.leaves.proofs.leaf.format_optional_leaf.Goals as goal
 
 pub returns-in_default : goal.returns-in_default

@@ -1,7 +1,6 @@
 -- The trivia have been run, then the text, and the record ends there.
 use mathlib.Core.Path.{refl}
 use Rattle.printing.proofs.Running.{◌then◌, finish}
-use borrow.Author.Rules.{rules}
 use Rattle.leaves.proofs.leaf.format_own.Goals as goal
 
 pub returns : goal.returns

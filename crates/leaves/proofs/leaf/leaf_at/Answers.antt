@@ -1,6 +1,5 @@
 -- A full state is refused first, then own bytes that are; own bytes that were read are printed by `format_own`.
 use Rattle.leaves.proofs.Leaves.{own_text, full_refused, own_and_leaf, own_shown, refusal_shown}
-use borrow.Author.Rules.{rules}
 use Rattle.leaves.proofs.leaf.leaf_at.Goals as goal
 
 pub returns-then-state-ne0 : goal.returns-then-state-ne0

@@ -1,6 +1,5 @@
 -- The leaf printer's promise, of a class whose records are leaves.
 use Rattle.leaves.proofs.Classes.{open_brace_leaf}
-use borrow.Author.Rules.{rules}
 use Rattle.leaves.proofs.leaf.open_brace.Goals as goal
 
 pub returns : goal.returns

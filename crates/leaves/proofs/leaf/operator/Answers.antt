@@ -1,6 +1,5 @@
 -- The leaf printer's promise, of a class whose records are leaves.
 use Rattle.leaves.proofs.Classes.{binary_op_leaf}
-use borrow.Author.Rules.{rules}
 use Rattle.leaves.proofs.leaf.operator.Goals as goal
 
 pub returns : goal.returns

@@ -8,7 +8,6 @@ use Rattle.printing.specs.Running.{Run, run}
 use Rattle.printing.specs.declared.Context.{Context}
 use Rattle.events.specs.Trees.{trivia_events}
 use Rattle.leaves.specs.Items.{items_at}
-use borrow.Author.Rules.{rules}
 use Rattle.leaves.proofs.leaf.shown_trivia.Goals as goal
 
 none_there : (shown : Bool) (context : Context) (bytes : List ℕ) (at count : ℕ) (before : Run) → count ≡ 0

@@ -1,7 +1,6 @@
 -- The two cases of the definition.
 use mathlib.Core.Path.{refl}
 use Rattle.leaves.specs.Records.{closed_numbers}
-use borrow.Author.Rules.{rules}
 use Rattle.leaves.proofs.record.closed.Goals as goal
 
 pub returns-in-Closed : goal.returns-in-Closed

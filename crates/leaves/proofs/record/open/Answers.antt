@@ -4,9 +4,8 @@ use Rattle.tree.specs.Own.{refusal_of}
 use Rattle.leaves.specs.Records.{opened_by, opened_room}
 use Rattle.leaves.proofs.Leaves.{own_items}
 use Rattle.leaves.proofs.Opening.{opened_known}
-use borrow.Author.Tests.{not-true, not-false, eq-eqb, ne_eqb}
+use borrow.Author.Tests.{eq-eqb, ne_eqb}
 use Rattle.leaves.proofs.Records.{closed_stays, closed_absent, closed_full, closed_refused, opened_record}
-use borrow.Author.Rules.{rules}
 use Rattle.leaves.proofs.record.open.Goals as goal
 
 pub returns-in_default : goal.returns-in_default

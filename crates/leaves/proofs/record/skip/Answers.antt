@@ -1,7 +1,5 @@
 -- A refusal stays; a record that does not stand, or a full state, is gone on from at once; what skipping met ends the walk.
-use borrow.Author.Tests.{not-true, not-false}
 use Rattle.leaves.proofs.Records.{skip_stays, skip_absent, skip_full, skip_stopped, skip_behind}
-use borrow.Author.Rules.{rules}
 use Rattle.leaves.proofs.record.skip.Goals as goal
 
 pub returns-in_default : goal.returns-in_default

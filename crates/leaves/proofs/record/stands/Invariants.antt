@@ -1,9 +1,6 @@
 -- The loop's invariant: the bit that is asked for is that of so many halvings less in what is left.
-use mathlib.Core.Path.{◌≡◌, refl, sym, ◌∙◌}
-use native.Mathlib.Omega.{arith}
+use mathlib.Core.Path.{◌≡◌}
 use Rattle.events.specs.Views.{bit_at}
-use Rattle.leaves.proofs.Records.{bit_here, bit_next}
-use borrow.Author.Rules.{rules}
 use Rattle.leaves.proofs.record.stands.Given as goal
 
 abbrev pub invariant-loop-left : goal.invariant-loop-left

@@ -4,7 +4,6 @@ use Rattle.text.specs.Literals.{ascii}
 use Rattle.events.specs.Printed.{encodings, printed}
 use Rattle.leaves.specs.Texts.{in_order}
 use Rattle.leaves.proofs.Tables.{run_table, encoding_texts}
-use borrow.Author.Rules.{rules}
 use Rattle.leaves.proofs.texts.encoding.Goals as goal
 
 pub push_entry-requires : goal.push_entry-requires

@@ -2,7 +2,6 @@
 use Rattle.text.specs.Literals.{ascii}
 use Rattle.events.specs.Printed.{printed, mnemonics}
 use Rattle.leaves.proofs.Tables.{run_past, run_cased, threes_at, mnemonic_names}
-use borrow.Author.Rules.{rules}
 use native.Mathlib.Omega.{arith}
 use Rattle.leaves.proofs.texts.mnemonic.Goals as goal
 

@@ -4,7 +4,6 @@ use Rattle.text.specs.Literals.{ascii}
 use Rattle.events.specs.Printed.{number_types, printed}
 use Rattle.leaves.specs.Texts.{in_order}
 use Rattle.leaves.proofs.Tables.{run_table, number_type_texts}
-use borrow.Author.Rules.{rules}
 use Rattle.leaves.proofs.texts.number_type.Goals as goal
 
 pub push_entry-requires : goal.push_entry-requires

@@ -4,7 +4,6 @@ use Rattle.text.specs.Literals.{ascii}
 use Rattle.events.specs.Printed.{operators, printed}
 use Rattle.leaves.specs.Texts.{in_order}
 use Rattle.leaves.proofs.Tables.{run_table, operator_texts}
-use borrow.Author.Rules.{rules}
 use Rattle.leaves.proofs.texts.operator.Goals as goal
 
 pub push_entry-requires : goal.push_entry-requires

@@ -1,7 +1,6 @@
 -- Without bytes nothing is pushed, and else the text of the first byte.
 use mathlib.Core.Path.{refl}
 use Rattle.leaves.proofs.Tables.{run_textless, run_by_first}
-use borrow.Author.Rules.{rules}
 use Rattle.leaves.proofs.texts.push_data_size.Goals as goal
 
 pub returns-then-text-eq0 : goal.returns-then-text-eq0

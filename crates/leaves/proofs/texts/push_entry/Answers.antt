@@ -1,6 +1,5 @@
 -- The places are in order, so the part that is lent is the text of the index; past the last there is none.
 use Rattle.leaves.proofs.Tables.{run_none, cut_past, in_order_next, run_cut}
-use borrow.Author.Rules.{rules}
 use native.Mathlib.Omega.{arith}
 use Rattle.leaves.proofs.texts.push_entry.Goals as goal
 

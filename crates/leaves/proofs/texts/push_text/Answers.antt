@@ -3,7 +3,6 @@ use mathlib.Core.Path.{refl, ap}
 use Rattle.events.specs.Printed.{mnemonic, register, operator, data_size, encoding, variable_type, number_type, modifier}
 use Rattle.leaves.specs.Texts.{style_of}
 use Rattle.leaves.proofs.Tables.{run_no_text, run_plain, run_index}
-use borrow.Author.Rules.{rules}
 use Rattle.leaves.proofs.texts.push_text.Goals as goal
 
 pub returns-then-start-end : goal.returns-then-start-end

@@ -2,7 +2,6 @@
 use Rattle.text.specs.Literals.{ascii}
 use Rattle.events.specs.Printed.{printed, registers}
 use Rattle.leaves.proofs.Tables.{run_past, run_cased, ones_at, register_names}
-use borrow.Author.Rules.{rules}
 use native.Mathlib.Omega.{arith}
 use Rattle.leaves.proofs.texts.register.Goals as goal
 

@@ -1,13 +1,9 @@
 -- The loop's invariant: nothing has been run, and the events without the newlines first are those of what is left of the items. The measure is how many are left.
-use mathlib.Core.Path.{◌≡◌, refl, ◌∙◌}
+use mathlib.Core.Path.{◌≡◌}
 use lib.ListN.{length}
-use borrow.Author.Tests.{not-true, not-false}
 use Rattle.printing.specs.Running.{going, run}
 use Rattle.events.specs.Trees.{lead_events}
 use Rattle.leaves.specs.Items.{items_at}
-use Rattle.leaves.proofs.Items.{item_lies, lead_left, lead_broken, lead-on, lead-stops}
-use borrow.Author.Rules.{rules}
-use native.Mathlib.Omega.{arith}
 use Rattle.leaves.proofs.trivia.format_lead.Given as goal
 
 abbrev pub invariant-loop-left : goal.invariant-loop-left

@@ -1,12 +1,9 @@
 -- The loop's invariant: the events of what is left of the items go on from where those of all of them have come to. The measure is how many are left.
-use mathlib.Core.Path.{◌≡◌, refl, ◌∙◌}
+use mathlib.Core.Path.{◌≡◌}
 use lib.ListN.{length}
 use Rattle.printing.specs.Running.{going, run}
 use Rattle.events.specs.Trees.{trivia_events}
 use Rattle.leaves.specs.Items.{items_at}
-use Rattle.leaves.proofs.Items.{item_lies, run_left, run_next, run_broken}
-use borrow.Author.Rules.{rules}
-use native.Mathlib.Omega.{arith}
 use Rattle.leaves.proofs.trivia.format_trivia.Given as goal
 
 abbrev pub invariant-loop-left : goal.invariant-loop-left

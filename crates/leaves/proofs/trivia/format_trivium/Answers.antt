@@ -1,7 +1,6 @@
 -- By the code: whitespace is no chunk, a newline a chunk of code, and anything else a comment.
 use Rattle.text.proofs.Parts.{part_slice}
 use Rattle.leaves.proofs.Items.{run_whitespace, run_newline, run_comment}
-use borrow.Author.Rules.{rules}
 use Rattle.leaves.proofs.trivia.format_trivium.Goals as goal
 
 pub returns-then-item-eq-WHITESPACE : goal.returns-then-item-eq-WHITESPACE

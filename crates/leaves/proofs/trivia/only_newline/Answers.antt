@@ -1,7 +1,6 @@
 -- By the code, and then by the length of the text.
 use borrow.Author.Tests.{eq-eqb, ne_eqb}
 use Rattle.leaves.proofs.Items.{only_empty, only_one, only_longer}
-use borrow.Author.Rules.{rules}
 use Rattle.leaves.proofs.trivia.only_newline.Goals as goal
 
 pub returns-then-item-eq-WHITESPACE : goal.returns-then-item-eq-WHITESPACE

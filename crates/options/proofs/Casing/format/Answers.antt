@@ -1,8 +1,7 @@
 -- The loop's invariant: with the bytes from i on cased as well, the text is the cased one.
-use Prim.Native.Nat.{◌-◌, ◌≤◌, ◌<◌}
-use mathlib.Core.Path.{◌≡◌, refl, sym, ◌∙◌}
+use Prim.Native.Nat.{◌≤◌, ◌<◌}
+use mathlib.Core.Path.{refl, sym, ◌∙◌}
 use native.Mathlib.Omega.{arith}
-use borrow.Author.Rules.{rules}
 use lib.ListN.{length, length-set}
 use Rattle.options.specs.Casings.{cased}
 use Rattle.options.proofs.Cased.{cased_from, cased_next, cased_all}

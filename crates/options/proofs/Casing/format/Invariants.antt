@@ -1,11 +1,9 @@
 -- The loop's invariant: with the bytes from i on cased as well, the text is the cased one.
-use Prim.Native.Nat.{◌-◌, ◌≤◌, ◌<◌}
-use mathlib.Core.Path.{◌≡◌, refl, sym, ◌∙◌}
-use native.Mathlib.Omega.{arith}
-use borrow.Author.Rules.{rules}
-use lib.ListN.{length, length-set}
+use Prim.Native.Nat.{◌-◌, ◌≤◌}
+use mathlib.Core.Path.{◌≡◌}
+use lib.ListN.{length}
 use Rattle.options.specs.Casings.{cased}
-use Rattle.options.proofs.Cased.{cased_from, cased_next, cased_all}
+use Rattle.options.proofs.Cased.{cased_from}
 use Rattle.options.proofs.Casing.format.Given as goal
 
 abbrev pub invariant-loop-i : goal.invariant-loop-i

@@ -1,5 +1,4 @@
 -- Each return is a case of the two tests of `cased_byte` at its casing.
-use borrow.Author.Rules.{rules}
 use borrow.Author.Tests.{le-leb, lt-leb}
 use Rattle.options.proofs.Casing.format_byte.Goals as goal
 

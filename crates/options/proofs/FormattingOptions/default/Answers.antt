@@ -1,5 +1,4 @@
 -- Each field is made of the constant that `options_of` has there.
-use borrow.Author.Rules.{rules}
 use Rattle.options.proofs.FormattingOptions.default.Goals as goal
 
 pub returns : goal.returns

@@ -1,5 +1,4 @@
 -- Each arm of the match is the case of the definition.
-use borrow.Author.Rules.{rules}
 use mathlib.Core.Path.{◌∙◌, sym, ap}
 use Rattle.printing.specs.Running.{behind}
 use Rattle.printing.proofs.CodeFormatter.behind.Goals as goal

@@ -1,5 +1,4 @@
 -- A text of code has no colon.
-use borrow.Author.Rules.{rules}
 use Rattle.printing.proofs.CodeFormatter.push.Goals as goal
 
 pub returns : goal.returns

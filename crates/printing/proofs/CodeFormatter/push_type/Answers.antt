@@ -1,5 +1,4 @@
 -- The chunk that is appended is the one of the definition, and whether it is a newline was asked of the same text.
-use borrow.Author.Rules.{rules}
 use mathlib.Core.Path.{◌∙◌, sym}
 use Rattle.chunks.specs.Appending.{with_colon}
 use Rattle.printing.proofs.Pushing.{full_not_pushed, empty_not_pushed, is_pushed}

@@ -1,7 +1,6 @@
 -- A refusal stays, and a state only changes its place.
 use mathlib.Core.Path.{refl}
 use Rattle.printing.proofs.Running.{ran_nothing, finish, refused_before, done_before}
-use borrow.Author.Rules.{rules}
 use Rattle.printing.proofs.Printed.moved_to.Goals as goal
 
 pub returns-in_default : goal.returns-in_default

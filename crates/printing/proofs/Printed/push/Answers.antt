@@ -1,7 +1,6 @@
 -- A refusal stays, and a state goes on by its own step.
 use mathlib.Core.Path.{refl}
 use Rattle.printing.proofs.Running.{ran_push, finish, refused_before, done_before}
-use borrow.Author.Rules.{rules}
 use Rattle.printing.proofs.Printed.push.Goals as goal
 
 pub returns-in_default : goal.returns-in_default

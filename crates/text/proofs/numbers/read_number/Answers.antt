@@ -3,7 +3,6 @@ use Prim.Native.Nat.{◌+◌, ◌≤◌, ◌<◌}
 use native.Mathlib.Omega.{arith}
 use lib.ListN.{length}
 use borrow.Author.Tests.{le-leb, lt-leb}
-use borrow.Author.Rules.{rules}
 use Rattle.text.proofs.numbers.read_number.Goals as goal
 
 pub returns-then-length-lt2 : goal.returns-then-length-lt2

@@ -1,11 +1,8 @@
 -- What stands from `end` on is blank, so up to `end` the ink ends where it ends in the whole.
-use Prim.Native.Nat.{◌≤◌}
 use mathlib.Core.Path.{◌≡◌, sym, ap, ◌∙◌}
 use native.Mathlib.Omega.{arith}
-use lib.ListN.{length, take}
+use lib.ListN.{length}
 use lib.Seq.{take-length, length-take-le}
-use borrow.Author.Rules.{rules}
-use borrow.Author.Tests.{not-true, not-false}
 use Rattle.text.specs.Ink.{trim_end}
 use Rattle.text.proofs.Ink.{trim_last_ink, trim_last_blank}
 use Rattle.text.proofs.scans.ink_end.Goals as goal

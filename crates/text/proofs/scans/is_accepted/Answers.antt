@@ -1,11 +1,10 @@
 -- All bytes are accepted where the largest so far and those still to come are.
-use Prim.Native.Nat.{◌+◌, ◌-◌, ◌≤◌}
-use mathlib.Core.Bool.{◌&&◌, and-true}
-use mathlib.Core.Path.{◌≡◌, refl, sym, ◌∙◌}
+use Prim.Native.Nat.{◌+◌}
+use mathlib.Core.Bool.{and-true}
+use mathlib.Core.Path.{refl, sym, ◌∙◌}
 use native.Mathlib.Omega.{arith}
-use lib.ListN.{length, drop, drop_of_length-le}
+use lib.ListN.{drop, drop_of_length-le}
 use lib.Dec.{leb}
-use borrow.Author.Rules.{rules}
 use Rattle.text.specs.Accepted.{accepted_text}
 use Rattle.text.proofs.Accepted.{accepted_larger}
 use Rattle.text.proofs.Parts.{drop_step}

@@ -1,10 +1,9 @@
 -- Behind the places that are left, the buffer holds zeros.
-use Prim.Native.Nat.{◌-◌, ◌≤◌}
+use Prim.Native.Nat.{◌-◌}
 use mathlib.Core.Path.{◌≡◌, refl}
 use native.Mathlib.Omega.{arith}
-use lib.ListN.{length, drop, length-set}
+use lib.ListN.{length, length-set}
 use lib.Seq.{drop-length}
-use Rattle.text.specs.Stores.{zeros}
 use Rattle.text.proofs.Buffers.{zeros_more}
 use Rattle.text.proofs.stores.clear.Goals as goal
 

@@ -1,11 +1,8 @@
 -- Behind the places that are left, the buffer holds zeros.
 use Prim.Native.Nat.{◌-◌, ◌≤◌}
-use mathlib.Core.Path.{◌≡◌, refl}
-use native.Mathlib.Omega.{arith}
-use lib.ListN.{length, drop, length-set}
-use lib.Seq.{drop-length}
+use mathlib.Core.Path.{◌≡◌}
+use lib.ListN.{length, drop}
 use Rattle.text.specs.Stores.{zeros}
-use Rattle.text.proofs.Buffers.{zeros_more}
 use Rattle.text.proofs.stores.clear.Given as goal
 
 abbrev pub invariant-loop-left : goal.invariant-loop-left

@@ -1,12 +1,8 @@
 -- The run still to come, stored into the buffer as it is, is the whole run stored into the buffer as it was.
-use Prim.Native.Nat.{ℕ, ◌+◌, ◌-◌, ◌≤◌, ◌<◌}
-use mathlib.Core.Path.{◌≡◌, refl, sym, ap, ◌∙◌}
-use native.Mathlib.Omega.{arith}
-use native.Mathlib.Nat.{add-zero}
-use lib.ListN.{length, drop, length-set, drop_of_length-le, set, replicate, length-replicate, get_or-replicate}
+use Prim.Native.Nat.{◌+◌, ◌-◌, ◌≤◌}
+use mathlib.Core.Path.{◌≡◌}
+use lib.ListN.{length, drop, replicate}
 use lib.Seq.{sets}
-use borrow.Author.Tests.{le-leb, lt-leb}
-use Rattle.text.proofs.Buffers.{store_step}
 use Rattle.text.proofs.stores.fill.Given as goal
 
 abbrev pub invariant-loop-i : goal.invariant-loop-i

@@ -1,6 +1,5 @@
 -- The key, a space, the sign and a space are what stands before the value, each going on from the one before.
 use Rattle.printing.proofs.Running.{◌thence◌}
-use borrow.Author.Rules.{rules}
 use Rattle.tokens.proofs.fronts.config_pair_front.Goals as goal
 
 pub returns : goal.returns

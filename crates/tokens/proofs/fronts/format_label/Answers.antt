@@ -2,7 +2,6 @@
 use Rattle.events.specs.Trees.{labelled}
 use Rattle.leaves.proofs.Fielded.{opened_fits, shown_closed}
 use Rattle.tokens.proofs.FrontParts.{id_opened}
-use borrow.Author.Rules.{rules}
 use Rattle.tokens.proofs.fronts.format_label.Goals as goal
 
 pub returns-in_default : goal.returns-in_default

@@ -1,7 +1,6 @@
 -- The id, whose own bytes were read, is printed with its colon, which is skipped behind it.
 use mathlib.Core.Path.{refl}
 use Rattle.printing.proofs.Running.{◌thence◌, done_before}
-use borrow.Author.Rules.{rules}
 use Rattle.tokens.proofs.fronts.format_listed_label.Goals as goal
 
 pub returns : goal.returns

@@ -1,7 +1,6 @@
 -- Each number has its front, and all others have none.
 use borrow.Author.Tests.{ne_eqb}
 use Rattle.events.specs.Trees.{one_of}
-use borrow.Author.Rules.{rules}
 use Rattle.tokens.proofs.fronts.format_token_front.Goals as goal
 
 pub returns-in-4 : goal.returns-in-4

@@ -1,7 +1,6 @@
 -- The tag, the arguments, the source and the filename are printed with spaces between them, each going on from the one before.
 use mathlib.Core.Path.{◌∙◌}
 use Rattle.printing.proofs.Running.{◌thence◌}
-use borrow.Author.Rules.{rules}
 use Rattle.tokens.proofs.fronts.import_front.Goals as goal
 
 pub shape_of-room : goal.shape_of-room

@@ -1,6 +1,5 @@
 -- The label is printed with its colon, which is skipped behind it.
 use Rattle.printing.proofs.Running.{◌thence◌}
-use borrow.Author.Rules.{rules}
 use Rattle.tokens.proofs.fronts.label_front.Goals as goal
 
 pub returns : goal.returns

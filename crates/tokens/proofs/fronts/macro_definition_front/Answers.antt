@@ -2,7 +2,6 @@
 use mathlib.Core.Path.{refl}
 use Rattle.printing.specs.Running.{run}
 use Rattle.printing.proofs.Running.{◌thence◌, alike}
-use borrow.Author.Rules.{rules}
 use Rattle.tokens.proofs.fronts.macro_definition_front.Goals as goal
 
 pub returns : goal.returns

@@ -3,7 +3,6 @@ use mathlib.Core.Path.{refl}
 use Rattle.text.proofs.Parts.{part_slice}
 use Rattle.printing.proofs.Running.{ran_push, finish, done_before}
 use Rattle.tokens.proofs.FrontParts.{id_shown}
-use borrow.Author.Rules.{rules}
 use Rattle.tokens.proofs.fronts.push_label.Goals as goal
 
 pub returns : goal.returns

@@ -1,6 +1,5 @@
 -- The tag, a space and the name are printed, each going on from the one before.
 use Rattle.printing.proofs.Running.{◌thence◌}
-use borrow.Author.Rules.{rules}
 use Rattle.tokens.proofs.fronts.tag_and_name.Goals as goal
 
 pub returns : goal.returns

@@ -1,6 +1,5 @@
 -- The tag and the name are printed, each with a space to come, each going on from the one before.
 use Rattle.printing.proofs.Running.{◌thence◌}
-use borrow.Author.Rules.{rules}
 use Rattle.tokens.proofs.fronts.test_front.Goals as goal
 
 pub returns : goal.returns

@@ -1,9 +1,7 @@
 -- A space to come and the operand, behind which no space is to come: each goes on from the one before. Where no operand stands this leaves no space to come.
 use mathlib.Core.Path.{sym, ◌∙◌}
-use borrow.Author.Tests.{not-true, not-false}
 use Rattle.printing.proofs.Running.{◌thence◌}
 use Rattle.tokens.proofs.PlainTokens.{no_operand}
-use borrow.Author.Rules.{rules}
 use Rattle.tokens.proofs.plain.format_behind_mnemonic.Goals as goal
 
 pub returns-then-not-stands : goal.returns-then-not-stands

@@ -2,7 +2,6 @@
 use mathlib.Core.Path.{refl}
 use Rattle.printing.proofs.Running.{◌thence◌, refused_before, done_before}
 use Rattle.tokens.proofs.PlainTokens.{values_shown}
-use borrow.Author.Rules.{rules}
 use Rattle.tokens.proofs.plain.format_behind_size.Goals as goal
 
 pub returns-in_default : goal.returns-in_default

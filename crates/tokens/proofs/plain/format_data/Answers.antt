@@ -4,7 +4,6 @@ use Rattle.tree.specs.Tree.{built}
 use Rattle.printing.proofs.Running.{◌thence◌, refused_before, done_before}
 use Rattle.events.specs.Trees.{events_in}
 use Rattle.leaves.specs.Records.{field_trees, fields_end}
-use borrow.Author.Rules.{rules}
 use Rattle.tokens.proofs.plain.format_data.Goals as goal
 
 pub returns-in_default : goal.returns-in_default

@@ -4,7 +4,6 @@ use Rattle.printing.proofs.Running.{◌thence◌}
 use Rattle.events.specs.Views.{bit_at}
 use Rattle.events.specs.Trees.{events_in}
 use Rattle.leaves.specs.Records.{field_trees, fields_end}
-use borrow.Author.Rules.{rules}
 use Rattle.tokens.proofs.plain.format_instruction.Goals as goal
 
 pub returns : goal.returns

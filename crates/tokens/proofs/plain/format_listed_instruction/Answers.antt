@@ -9,7 +9,6 @@ use Rattle.events.specs.Trees.{events_in}
 use Rattle.leaves.specs.Records.{field_trees, fields_end}
 use Rattle.leaves.proofs.Classes.{mnemonic_leaf}
 use Rattle.leaves.proofs.Leaves.{text_shown}
-use borrow.Author.Rules.{rules}
 use Rattle.tokens.proofs.plain.format_listed_instruction.Goals as goal
 
 pub returns : goal.returns

@@ -3,7 +3,6 @@ use Rattle.tree.specs.Tree.{built}
 use Rattle.printing.proofs.Running.{◌thence◌}
 use Rattle.events.specs.Trees.{events_in}
 use Rattle.leaves.specs.Records.{field_trees, fields_end}
-use borrow.Author.Rules.{rules}
 use Rattle.tokens.proofs.plain.format_macro_invocation.Goals as goal
 
 pub returns : goal.returns

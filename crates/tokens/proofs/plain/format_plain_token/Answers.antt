@@ -4,7 +4,6 @@ use Rattle.tree.specs.Tree.{built}
 use Rattle.events.specs.Trees.{events_in}
 use Rattle.leaves.specs.Records.{field_trees, fields_end}
 use Rattle.tokens.proofs.PlainTokens.{kind_named, end_left}
-use borrow.Author.Rules.{rules}
 use Rattle.tokens.proofs.plain.format_plain_token.Goals as goal
 
 pub returns-in-0 : goal.returns-in-0

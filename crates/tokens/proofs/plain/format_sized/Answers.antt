@@ -5,7 +5,6 @@ use Rattle.printing.proofs.Running.{◌thence◌, finish, done_before}
 use Rattle.events.specs.Printed.{data_size}
 use Rattle.leaves.proofs.Classes.{data_size_leaf}
 use Rattle.leaves.proofs.Leaves.{text_shown}
-use borrow.Author.Rules.{rules}
 use Rattle.tokens.proofs.plain.format_sized.Goals as goal
 
 pub returns : goal.returns

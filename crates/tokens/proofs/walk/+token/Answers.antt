@@ -1,33 +1,21 @@
 -- Every printer goes on from the last answer, so what one shows is what its calls show one behind the other; each call is of fewer levels, or of the same levels
 -- from a printer of fields to one of records, or from a list to its items.
 use mathlib.Core.Path.{◌≡◌, refl, sym, ap, ◌∙◌}
-use mathlib.Core.Logic.{⊎_elim}
-use mathlib.Core.List.{List}
 use mathlib.Core.Bool.{false, ◌&&◌}
-use lib.ListN.{length}
 use native.Mathlib.Omega.{arith}
-use borrow.Author.Rules.{rules}
-use borrow.Author.Tests.{not-true, not-false}
 use Rattle.tree.specs.Tree.{built}
-use Rattle.tree.specs.Reading.{read}
 use Rattle.tree.specs.Stored.{stored_with}
-use Rattle.tree.specs.declared.grammar.Class.TheVariants.{BareToken}
 use Rattle.tree.specs.declared.grammar.Kind.TheVariants as variant
 use Rattle.tree.proofs.KindLayout.{kind_number}
-use Rattle.printing.specs.Running.{place_of, outcome, Shown}
-use Rattle.printing.specs.declared.Printed.{Printed}
 use Rattle.printing.proofs.Running.{◌thence◌, refused_before, done_before, stays_refused}
 use Rattle.events.specs.Printed.{plain}
 use Rattle.events.specs.Views.{bit_at}
 use Rattle.events.specs.Trees.{leaf, events_in}
-use Rattle.leaves.specs.Lists.{items_end}
 use Rattle.leaves.specs.Records.{field_trees, fields_end}
 use Rattle.leaves.proofs.Fielded.{opened_levels, opened_one, opened-kind, shown_closed}
-use Rattle.tokens.specs.Tokens.{each_events}
 use Rattle.tokens.proofs.Cycle.{inside_shown, label_alone, label_block, plain_number, one_branch, both_branches, token_rule, token_opened, tokens_shown}
-use Rattle.tokens.proofs.Cycle.{only_in, not_in, rest_events, all_left, block_left, file_left, one_left, rest_from}
+use Rattle.tokens.proofs.Cycle.{only_in, not_in, all_left, block_left, file_left, one_left, rest_from}
 use Rattle.tokens.proofs.Listed.{listed_number, listed_over, listed_opens, head_text, listed-shown, listed-instruction, listed-label, listed-data}
-use Prim.Native.Nat.{ℕ, ◌<◌, ◌+◌, ◌*◌, ◌-◌}
 use Rattle.leads.specs.Leads.{over_by}
 use Rattle.tokens.proofs.walk.+token.Goals as goal
 use Rattle.tokens.proofs.walk.+token.Goals.{format_each_token-then-block, format_each_token-else-block}

@@ -1,7 +1,6 @@
 -- The position of braces says whether the tag stands between spaces or on a new line.
 use Rattle.printing.proofs.Running.{◌thence◌}
 use Rattle.tokens.proofs.FrontParts.{else_same, else_new}
-use borrow.Author.Rules.{rules}
 use Rattle.tokens.proofs.walk.format_else.Goals as goal
 
 pub returns-in-SameLine : goal.returns-in-SameLine

@@ -2,7 +2,6 @@
 use mathlib.Core.Path.{refl}
 use borrow.Author.Tests.{ne_eqb}
 use Rattle.events.specs.Trees.{one_of}
-use borrow.Author.Rules.{rules}
 use Rattle.tokens.proofs.walk.inner_of.Goals as goal
 
 pub returns-in-4 : goal.returns-in-4

@@ -1,7 +1,6 @@
 -- The position of braces says whether a newline stands before the brace; behind it there is one.
 use Rattle.printing.proofs.Running.{◌thence◌}
 use Rattle.tokens.proofs.FrontParts.{opens_same, opens_new}
-use borrow.Author.Rules.{rules}
 use Rattle.tokens.proofs.walk.open_block.Goals as goal
 
 pub returns-in-SameLine : goal.returns-in-SameLine

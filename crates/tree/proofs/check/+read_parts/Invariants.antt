@@ -1,15 +1,8 @@
 -- At the head of the loop the plan that is left goes on with the walk over the record's parts; each part stands one level further down.
-use mathlib.Core.Path.{refl, sym, ap, ◌∙◌}
-use native.Mathlib.Omega.{arith}
-use borrow.Author.Rules.{rules}
-use Rattle.answers.specs.declared.Refusal.{Refusal}
-use Rattle.tree.specs.Own.{refusal_of}
 use Rattle.tree.specs.Reading.{read}
 use Rattle.tree.specs.Walk.{plan_size, walker_of}
-use Rattle.tree.specs.declared.check.RecordRead.TheVariants.{Refused}
-use Rattle.tree.proofs.Planning.{next_of, rest_less, plan_due}
-use Rattle.tree.proofs.Records.{PartsLeft, parts_start, read_refused, read_walked, level_left, walk_none, walk_done, walk_refused, walk_on}
-use Prim.Native.Nat.{ℕ, ◌<◌, ◌-◌}
+use Rattle.tree.proofs.Records.{PartsLeft}
+use Prim.Native.Nat.{◌-◌}
 use Rattle.tree.proofs.check.+read_parts.Given as goal
 
 abbrev pub decreases-read_parts : goal.decreases-read_parts

@@ -3,7 +3,6 @@ use mathlib.Core.Path.{◌∙◌}
 use borrow.Author.Tests.{lt-ltb, le-ltb, eq-eqb, ne_eqb}
 use Rattle.answers.proofs.Numbers.{judged_numbers}
 use Rattle.tree.proofs.Numbers.{length_numbers_lem}
-use borrow.Author.Rules.{rules}
 use Rattle.tree.proofs.check.check_length.Goals as goal
 
 pub returns-then-end-eq0 : goal.returns-then-end-eq0

@@ -2,7 +2,6 @@
 use mathlib.Core.Path.{sym, ap, ◌∙◌}
 use Rattle.answers.proofs.Numbers.{judged_numbers}
 use Rattle.tree.proofs.Numbers.{tree_numbers_lem}
-use borrow.Author.Rules.{rules}
 use Rattle.answers.specs.declared.Refusal.{Refusal}
 use Rattle.answers.specs.declared.Checked.TheVariants.{Failed}
 use Rattle.tree.specs.Walk.{refused_record}

@@ -3,7 +3,6 @@ use mathlib.Core.Path.{◌≡◌, ap, ◌∙◌}
 use native.Mathlib.Omega.{arith}
 use lib.Seq.{slice, length-slice}
 use borrow.Author.Tests.{lt-ltb, le-ltb, lt-leb, le-leb}
-use borrow.Author.Rules.{rules}
 use Rattle.text.specs.Accepted.{fault_at}
 use Rattle.text.proofs.Parts.{part_slice}
 use Rattle.text.proofs.Accepted.{fault_within}

@@ -1,10 +1,9 @@
 -- At the head of the loop the items that are left give the place that all of them give.
 use mathlib.Core.Path.{◌≡◌, refl}
-use mathlib.Core.Logic.{⊎_elim}
-use Prim.Native.Nat.{◌+◌, ◌*◌, ◌≤◌}
+use Prim.Native.Nat.{◌+◌, ◌*◌}
 use native.Mathlib.Omega.{arith}
-use lib.ListN.{length, get_or}
-use Rattle.tree.proofs.Faults.{ItemsLeft, items_done, item_inside, newline_on, text_inside, text_on_lem}
+use lib.ListN.{get_or}
+use Rattle.tree.proofs.Faults.{items_done, item_inside, newline_on, text_inside, text_on_lem}
 use Rattle.tree.proofs.check.fault_in_trivia.Goals as goal
 use Rattle.tree.proofs.check.fault_in_trivia.Goals.{then-tree-place-eq-NEWLINE, else-tree-place-eq-NEWLINE}
 

@@ -1,7 +1,6 @@
 -- A leaf without items has no part; of others nothing is said.
 use Rattle.text.proofs.Choices.{true_false}
 use Rattle.tree.proofs.Planning.{leaf_parts}
-use borrow.Author.Rules.{rules}
 use Rattle.tree.proofs.check.has_parts.Goals as goal
 
 pub returns-then-own-ne0 : goal.returns-then-own-ne0

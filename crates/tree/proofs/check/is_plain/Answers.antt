@@ -4,7 +4,6 @@ use lib.ListN.{length}
 use Rattle.text.specs.Accepted.{accepted_text}
 use Rattle.text.proofs.Parts.{part_slice}
 use Rattle.tree.proofs.Plain.{short_plain}
-use borrow.Author.Rules.{rules}
 use Rattle.tree.proofs.check.is_plain.Goals as goal
 
 pub returns-then-end-lt4 : goal.returns-then-end-lt4

@@ -1,7 +1,5 @@
 -- The loop passes over the fields whose bits do not stand: the plan at its head gives the same next part as the plan at the start.
-use mathlib.Core.Path.{◌≡◌, refl, sym, ◌∙◌}
-use native.Mathlib.Omega.{arith}
-use Rattle.tree.specs.Plans.{next_part}
+use mathlib.Core.Path.{refl, sym, ◌∙◌}
 use Rattle.tree.proofs.Planning.{next_absent, next_field, next_none, next_item_lem}
 use Rattle.tree.proofs.check.next_part.Goals as goal
 

@@ -1,8 +1,6 @@
 -- The loop passes over the fields whose bits do not stand: the plan at its head gives the same next part as the plan at the start.
-use mathlib.Core.Path.{◌≡◌, refl, sym, ◌∙◌}
-use native.Mathlib.Omega.{arith}
+use mathlib.Core.Path.{◌≡◌}
 use Rattle.tree.specs.Plans.{next_part}
-use Rattle.tree.proofs.Planning.{next_absent, next_field, next_none, next_item_lem}
 use Rattle.tree.proofs.check.next_part.Given as goal
 
 abbrev pub invariant-loop-row : goal.invariant-loop-row

@@ -1,7 +1,6 @@
 -- A byte that was found stays the first; else first the trivia texts are looked at, then the record's own text.
 use mathlib.Core.Path.{sym}
 use Rattle.tree.proofs.Faults.{fault_stays, own_texts}
-use borrow.Author.Rules.{rules}
 use Rattle.tree.proofs.check.own_fault.Goals as goal
 
 pub returns-then-fault-tree : goal.returns-then-fault-tree

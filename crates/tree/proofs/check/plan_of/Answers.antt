@@ -1,6 +1,5 @@
 -- The row is that of the kind's fields, and the items are those of the class's rule.
 use mathlib.Core.Path.{refl}
-use borrow.Author.Rules.{rules}
 use Rattle.tree.proofs.check.plan_of.Goals as goal
 
 pub returns-in-ListOf : goal.returns-in-ListOf

@@ -1,8 +1,6 @@
 -- In a plain tree no text changes what was found, so the file's record is the one that is read with a byte found.
 use mathlib.Core.Path.{sym, ◌∙◌}
-use borrow.Author.Tests.{not-false}
 use Rattle.tree.proofs.Plain.{file_plain}
-use borrow.Author.Rules.{rules}
 use Rattle.tree.proofs.check.read_file.Goals as goal
 
 pub returns-in_default : goal.returns-in_default

@@ -4,7 +4,6 @@ use Rattle.answers.specs.declared.Refusal.{Refusal}
 use Rattle.tree.specs.Own.{refusal_of}
 use Rattle.tree.specs.declared.check.RecordRead.TheVariants.{Refused}
 use Rattle.tree.proofs.Records.{read_refused, read_walked, walk_none, level_left}
-use borrow.Author.Rules.{rules}
 use Rattle.tree.proofs.check.read_record.Goals as goal
 
 pub returns-in_default : goal.returns-in_default

@@ -1,5 +1,4 @@
 -- The two cases of the definition.
-use borrow.Author.Rules.{rules}
 use Rattle.tree.proofs.check.refused_record.Goals as goal
 
 pub returns-in-Whole : goal.returns-in-Whole

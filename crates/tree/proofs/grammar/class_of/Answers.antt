@@ -5,8 +5,6 @@ use lib.ListN.{get_or-eq_default}
 use Rattle.tree.specs.Rows.{classes}
 use Rattle.tree.specs.declared.grammar.Class.TheVariants.{Word, StringItems}
 use Rattle.tree.proofs.Tables.{none_below}
-use borrow.Author.Rules.{rules}
-use borrow.Author.Rules.{rules}
 use Rattle.tree.proofs.grammar.class_of.Goals as goal
 
 pub returns-in_default : goal.returns-in_default

@@ -2,7 +2,6 @@
 use mathlib.Core.Path.{refl}
 use Rattle.tree.specs.Own.{fields_fit}
 use Rattle.tree.proofs.Maps.{agree, tested, set_of}
-use borrow.Author.Rules.{rules}
 use Rattle.tree.proofs.grammar.maps_of.Goals as goal
 
 pub returns-in-Align : goal.returns-in-Align

@@ -1,6 +1,5 @@
 -- Each arm's number is the one that its class has, and is below 64.
 use native.Mathlib.Omega.{arith}
-use borrow.Author.Rules.{rules}
 use Rattle.tree.proofs.grammar.number_of.Goals as goal
 
 pub returns-in-Word : goal.returns-in-Word

@@ -1,6 +1,5 @@
 -- Each arm's number is the row of its kind's fields; an argument's is put together from the number of its value's class.
 use native.Mathlib.Omega.{arith}
-use borrow.Author.Rules.{rules}
 use Rattle.tree.proofs.grammar.row_of.Goals as goal
 
 pub returns-in-Align : goal.returns-in-Align

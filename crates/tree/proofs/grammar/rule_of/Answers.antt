@@ -1,6 +1,5 @@
 -- Each arm is the rule that the grammar has for its class.
 use mathlib.Core.Path.{◌∙◌}
-use borrow.Author.Rules.{rules}
 use Rattle.tree.proofs.grammar.rule_of.Goals as goal
 
 pub returns-in-Word : goal.returns-in-Word

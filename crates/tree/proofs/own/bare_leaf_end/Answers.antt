@@ -2,7 +2,6 @@
 use native.Mathlib.Omega.{arith}
 use Rattle.tree.proofs.Cases.{broken_behind}
 use Rattle.tree.proofs.OwnReading.{own_bare}
-use borrow.Author.Rules.{rules}
 use Rattle.tree.proofs.own.bare_leaf_end.Goals as goal
 
 pub returns-then-tree-at-lt2 : goal.returns-then-tree-at-lt2

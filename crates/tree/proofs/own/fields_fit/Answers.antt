@@ -1,6 +1,5 @@
 -- The kind's set of maps tells it.
 use native.Mathlib.Omega.{arith}
-use borrow.Author.Rules.{rules}
 use Rattle.tree.proofs.own.fields_fit.Goals as goal
 
 pub returns-then-bits-gt63 : goal.returns-then-bits-gt63

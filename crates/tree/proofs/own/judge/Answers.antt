@@ -1,7 +1,6 @@
 -- Each answer is the one that the definition has after the same tests.
 use native.Mathlib.Omega.{arith}
 use Rattle.tree.proofs.OwnReading.{first_alien, first_unknown, first_short, first-unfit, first_fits}
-use borrow.Author.Rules.{rules}
 use Rattle.tree.proofs.own.judge.Goals as goal
 
 pub returns-then-not-may_stand : goal.returns-then-not-may_stand

@@ -1,8 +1,7 @@
 -- Each answer is the one that the definition has after the same tests.
 use mathlib.Core.Path.{sym, ◌∙◌}
-use borrow.Author.Tests.{eq-eqb, ne_eqb, not-true, not-false}
+use borrow.Author.Tests.{eq-eqb, ne_eqb}
 use Rattle.tree.specs.Own.{map_fits}
-use borrow.Author.Rules.{rules}
 use Rattle.tree.proofs.own.map_fits.Goals as goal
 
 pub returns-then-number-eq-VEC : goal.returns-then-number-eq-VEC

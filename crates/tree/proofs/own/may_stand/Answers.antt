@@ -1,6 +1,5 @@
 -- Each answer is the one that the definition has after the same tests.
 use borrow.Author.Tests.{eq-eqb, ne_eqb, le-leb, lt-leb}
-use borrow.Author.Rules.{rules}
 use Rattle.tree.proofs.own.may_stand.Goals as goal
 
 pub returns-in-ListOf : goal.returns-in-ListOf

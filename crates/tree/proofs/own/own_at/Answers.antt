@@ -3,7 +3,6 @@ use mathlib.Core.Path.{sym, ap, ◌∙◌}
 use Rattle.tree.specs.declared.own.Own.{Own}
 use Rattle.tree.specs.declared.own.OwnRead.TheVariants.{Record}
 use Rattle.tree.proofs.OwnReading.{own_judged, own_trivia_lem, own_rest}
-use borrow.Author.Rules.{rules}
 use Rattle.tree.proofs.own.own_at.Goals as goal
 
 pub returns-in-Behind : goal.returns-in-Behind

@@ -2,7 +2,6 @@
 use mathlib.Core.Path.{◌∙◌}
 use Rattle.tree.proofs.OwnReading.{read_end, read_deep, read_found, read_fits}
 use Rattle.tree.proofs.Numbers.{own_known}
-use borrow.Author.Rules.{rules}
 use Rattle.tree.proofs.own.read_own.Goals as goal
 
 pub returns-then-tree-at : goal.returns-then-tree-at

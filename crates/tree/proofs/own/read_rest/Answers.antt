@@ -4,7 +4,6 @@ use native.Mathlib.Omega.{arith}
 use Rattle.tree.proofs.OwnBytes.{text_held}
 use Rattle.tree.proofs.Spans.{read_inside}
 use Rattle.tree.proofs.OwnReading.{rest_list, rest_leaf, rest_none}
-use borrow.Author.Rules.{rules}
 use Rattle.tree.proofs.own.read_rest.Goals as goal
 
 pub returns-in_default : goal.returns-in_default

@@ -3,7 +3,6 @@ use native.Mathlib.Omega.{arith}
 use borrow.Author.Tests.{eq-eqb}
 use Rattle.tree.specs.Own.{trivia_read}
 use Rattle.tree.proofs.Spans.{read_inside, trivia_missing, trivia_empty, trivia_some}
-use borrow.Author.Rules.{rules}
 use Rattle.tree.proofs.own.read_trivia.Goals as goal
 
 pub returns-then-bit-eq0 : goal.returns-then-bit-eq0

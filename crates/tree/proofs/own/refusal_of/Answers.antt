@@ -1,4 +1,3 @@
-use borrow.Author.Rules.{rules}
 use Rattle.tree.proofs.own.refusal_of.Goals as goal
 
 pub returns-in-Record : goal.returns-in-Record

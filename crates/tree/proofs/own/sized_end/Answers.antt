@@ -1,7 +1,6 @@
 -- Each answer is the one that the definition has for what the length reads as.
 use native.Mathlib.Omega.{arith}
 use Rattle.tree.proofs.Spans.{read_inside, sized_missing, sized_short, sized_whole}
-use borrow.Author.Rules.{rules}
 use Rattle.tree.proofs.own.sized_end.Goals as goal
 
 pub returns-in_default : goal.returns-in_default

@@ -3,7 +3,6 @@ use mathlib.Core.Path.{sym, ◌∙◌}
 use native.Mathlib.Omega.{arith}
 use borrow.Author.Tests.{le-leb, lt-leb, lt-ltb, le-ltb, eq-eqb, ne_eqb}
 use Rattle.tree.proofs.Spans.{read_inside, sized_short, sized_whole, text_missing, text_empty, text_some, text_free, text_byte}
-use borrow.Author.Rules.{rules}
 use Rattle.tree.proofs.own.text_end.Goals as goal
 
 pub returns-in_default : goal.returns-in_default

@@ -1,5 +1,4 @@
 -- Each arm is the definition's clause for its rule.
-use borrow.Author.Rules.{rules}
 use Rattle.tree.proofs.own.text_fits.Goals as goal
 
 pub returns-in-NoText : goal.returns-in-NoText

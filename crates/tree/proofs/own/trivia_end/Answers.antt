@@ -1,8 +1,5 @@
 -- The loop's invariant: what is left of the items ends where all of them do. The measure is how many are left.
-use mathlib.Core.Path.{◌≡◌, refl, sym, ◌∙◌}
-use native.Mathlib.Omega.{arith}
-use borrow.Author.Rules.{rules}
-use Rattle.tree.specs.Own.{trivia_end}
+use mathlib.Core.Path.{refl, sym, ◌∙◌}
 use Rattle.tree.proofs.Spans.{trivia_none, trivia_next}
 use Rattle.tree.proofs.own.trivia_end.Goals as goal
 

@@ -1,9 +1,6 @@
 -- The loop's invariant: what is left of the items ends where all of them do. The measure is how many are left.
-use mathlib.Core.Path.{◌≡◌, refl, sym, ◌∙◌}
-use native.Mathlib.Omega.{arith}
-use borrow.Author.Rules.{rules}
+use mathlib.Core.Path.{◌≡◌}
 use Rattle.tree.specs.Own.{trivia_end}
-use Rattle.tree.proofs.Spans.{trivia_none, trivia_next}
 use Rattle.tree.proofs.own.trivia_end.Given as goal
 
 abbrev pub invariant-loop-left : goal.invariant-loop-left

@@ -1,7 +1,6 @@
 -- Each answer is the one that the definition has after the same tests.
 use borrow.Author.Tests.{le-leb, lt-leb, lt-ltb, le-ltb, eq-eqb, ne_eqb}
 use Rattle.tree.specs.Own.{trivium_end}
-use borrow.Author.Rules.{rules}
 use Rattle.tree.proofs.own.trivium_end.Goals as goal
 
 pub returns-then-tree-at : goal.returns-then-tree-at

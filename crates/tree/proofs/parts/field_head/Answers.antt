@@ -2,7 +2,6 @@
 use mathlib.Core.Path.{ap, ◌∙◌}
 use borrow.Author.Tests.{eq-eqb, ne_eqb}
 use Rattle.tree.specs.Parts.{second_field, field_head}
-use borrow.Author.Rules.{rules}
 use Rattle.tree.proofs.parts.field_head.Goals as goal
 
 pub returns-then-number-eq-DATA : goal.returns-then-number-eq-DATA

@@ -5,7 +5,6 @@ use Rattle.tree.specs.Rows.{row_of}
 use Rattle.tree.specs.declared.grammar.Rule.{Rule}
 use Rattle.tree.proofs.Heads.{first_none, first_some}
 use Rattle.tree.proofs.Planning.{slot_known}
-use borrow.Author.Rules.{rules}
 use Rattle.tree.proofs.parts.first_class.Goals as goal
 
 pub returns-then-row-eq0 : goal.returns-then-row-eq0

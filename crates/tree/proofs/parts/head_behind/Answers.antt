@@ -5,7 +5,6 @@ use Rattle.std.proofs.Common.{◌≢◌}
 use borrow.Author.Tests.{eq-eqb, ne_eqb}
 use Rattle.tree.proofs.Heads.{head_low, head_past, head_block, head_expression, head_field}
 use Rattle.tree.proofs.Numbers.{behind_known}
-use borrow.Author.Rules.{rules}
 use Rattle.tree.proofs.parts.head_behind.Goals as goal
 
 pub returns-then-levels-eq0 : goal.returns-then-levels-eq0

@@ -5,7 +5,6 @@ use Rattle.tree.specs.Own.{refusal_of}
 use Rattle.tree.specs.declared.parts.HeadRead.TheVariants.{NoHead}
 use Rattle.tree.proofs.Heads.{head_refused, head_behind_read}
 use Rattle.tree.proofs.Numbers.{head_known}
-use borrow.Author.Rules.{rules}
 use Rattle.tree.proofs.parts.head_place.Goals as goal
 
 pub returns-in_default : goal.returns-in_default

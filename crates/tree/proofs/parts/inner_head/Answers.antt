@@ -6,7 +6,6 @@ use Rattle.tree.specs.Own.{refusal_of}
 use Rattle.tree.specs.declared.parts.HeadRead.TheVariants.{NoHead}
 use Rattle.tree.proofs.Records.{level_left}
 use Rattle.tree.proofs.Heads.{own_inside, inner_refused, inner_field}
-use borrow.Author.Rules.{rules}
 use Rattle.tree.proofs.parts.inner_head.Goals as goal
 
 pub returns-in_default : goal.returns-in_default

@@ -1,5 +1,4 @@
 -- The two cases of the definition.
-use borrow.Author.Rules.{rules}
 use Rattle.tree.proofs.parts.refused_head.Goals as goal
 
 pub returns-in-Found : goal.returns-in-Found

@@ -1,5 +1,4 @@
 -- The two cases of the definition.
-use borrow.Author.Rules.{rules}
 use Rattle.tree.proofs.parts.refused_skip.Goals as goal
 
 pub returns-in-Next : goal.returns-in-Next

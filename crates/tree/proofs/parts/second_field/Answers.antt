@@ -3,7 +3,6 @@ use mathlib.Core.Path.{sym, ap, ◌∙◌}
 use Rattle.answers.specs.declared.Refusal.{Refusal}
 use Rattle.tree.specs.Parts.{second_field, refused_skip}
 use Rattle.tree.specs.declared.parts.HeadRead.TheVariants.{NoHead}
-use borrow.Author.Rules.{rules}
 use Rattle.tree.proofs.parts.second_field.Goals as goal
 
 pub returns-in_default : goal.returns-in_default

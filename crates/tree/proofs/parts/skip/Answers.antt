@@ -5,7 +5,6 @@ use Rattle.tree.specs.Walk.{refused_record}
 use Rattle.tree.specs.declared.parts.Skipped.TheVariants.{NotSkipped}
 use Rattle.tree.proofs.Heads.{skip_read}
 use Rattle.tree.proofs.Numbers.{skip_known}
-use borrow.Author.Rules.{rules}
 use Rattle.tree.proofs.parts.skip.Goals as goal
 
 pub returns-in_default : goal.returns-in_default

@@ -1,7 +1,6 @@
 -- The item ends where `trivium_end` says; a newline has no text.
 use native.Mathlib.Omega.{arith}
 use Rattle.tree.proofs.Heads.{item_broken, item_inside, item_newline, item_text}
-use borrow.Author.Rules.{rules}
 use Rattle.tree.proofs.parts.trivium_at.Goals as goal
 
 pub returns-in_default : goal.returns-in_default

@@ -1,5 +1,4 @@
 -- Each of the nine enums by itself, and all others.
-use borrow.Author.Rules.{rules}
 use mathlib.Core.Path.{refl}
 use Rattle.wording.proofs.Forms.{other_form}
 use Rattle.wording.proofs.entries.form_of.Goals as goal

@@ -1,5 +1,4 @@
 -- Each enum has its function.
-use borrow.Author.Rules.{rules}
 use Rattle.wording.proofs.entries.put_case.Goals as goal
 
 pub returns-in-Mnemonics : goal.returns-in-Mnemonics

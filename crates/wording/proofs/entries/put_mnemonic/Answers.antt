@@ -1,5 +1,4 @@
 -- The three letters are the name of the index, and past the last there is none.
-use borrow.Author.Rules.{rules}
 use native.Mathlib.Omega.{arith}
 use Rattle.text.specs.Literals.{ascii}
 use Rattle.leaves.proofs.Tables.{threes_at}

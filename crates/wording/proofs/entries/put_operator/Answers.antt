@@ -1,6 +1,5 @@
 -- Cut at the places the texts are what is told of each case.
 use mathlib.Core.Path.{refl}
-use borrow.Author.Rules.{rules}
 use Rattle.text.specs.Literals.{ascii}
 use Rattle.leaves.specs.Texts.{in_order}
 use Rattle.wording.specs.declared.entries.Table.TheVariants.{Operators}

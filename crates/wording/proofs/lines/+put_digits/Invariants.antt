@@ -1,8 +1,4 @@
 -- A digit by itself, or the digits before it and then the last. The measure is how many may stand.
-use Prim.Native.Nat.{ℕ, ◌<◌}
-use native.Mathlib.Omega.{arith}
-use borrow.Author.Rules.{rules}
-use Rattle.wording.proofs.Pieces.{digits_none, digits_one, digits_more}
 use Rattle.wording.proofs.lines.+put_digits.Given as goal
 
 abbrev pub decreases-put_digits : goal.decreases-put_digits

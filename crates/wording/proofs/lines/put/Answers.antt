@@ -1,6 +1,5 @@
 -- The piece stands in the buffer, or there is no room for it.
 use mathlib.Core.Path.{sym, ◌∙◌}
-use borrow.Author.Rules.{rules}
 use Rattle.wording.proofs.Pieces.{put_stored, put_left}
 use Rattle.wording.proofs.lines.put.Goals as goal
 

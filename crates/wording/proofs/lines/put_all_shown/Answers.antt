@@ -1,11 +1,6 @@
 -- The loop's invariant: what is left of the text goes on from where all of it has come to. The measure is how much is left.
-use mathlib.Core.List.{map}
-use mathlib.Core.Path.{◌≡◌, refl, sym, ◌∙◌}
-use Prim.Native.Nat.{◌-◌, ◌≤◌}
+use mathlib.Core.Path.{refl, sym, ◌∙◌}
 use native.Mathlib.Omega.{arith}
-use lib.ListN.{length, drop}
-use borrow.Author.Rules.{rules}
-use Rattle.wording.specs.Lines.{line_in, puts, shown}
 use Rattle.wording.proofs.Pieces.{shown_next, shown_last}
 use Rattle.wording.proofs.lines.put_all_shown.Goals as goal
 

@@ -1,5 +1,4 @@
 -- The digits stand in a table.
-use borrow.Author.Rules.{rules}
 use Rattle.text.specs.Literals.{ascii}
 use Rattle.wording.proofs.lines.put_coded.Goals as goal
 

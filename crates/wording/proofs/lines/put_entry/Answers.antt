@@ -1,6 +1,5 @@
 -- The places are in order, so the part that is lent is the text of the index; past the last there is none.
 use native.Mathlib.Omega.{arith}
-use borrow.Author.Rules.{rules}
 use Rattle.leaves.proofs.Tables.{cut_past, in_order_next}
 use Rattle.wording.proofs.Pieces.{put_empty}
 use Rattle.wording.proofs.Tables.{cut_text}

@@ -1,5 +1,4 @@
 -- The pieces of the three calls.
-use borrow.Author.Rules.{rules}
 use Rattle.text.specs.Literals.{ascii}
 use Rattle.wording.proofs.Pieces.{after}
 use Rattle.wording.proofs.lines.put_quoted.Goals as goal

@@ -1,6 +1,5 @@
 -- By the tests of the byte.
 use borrow.Author.Tests.{eq-eqb, ne_eqb, lt-ltb, le-ltb}
-use borrow.Author.Rules.{rules}
 use Rattle.text.specs.Literals.{ascii}
 use Rattle.wording.specs.Lines.{shown}
 use Rattle.wording.proofs.lines.put_shown.Goals as goal

@@ -1,6 +1,5 @@
 -- The spaces stand in the buffer, or there is no room for them.
 use mathlib.Core.Path.{sym, ◌∙◌}
-use borrow.Author.Rules.{rules}
 use Rattle.wording.proofs.Pieces.{put_stored, put_left}
 use Rattle.wording.proofs.lines.put_spaces.Goals as goal
 

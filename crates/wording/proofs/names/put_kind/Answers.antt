@@ -1,6 +1,5 @@
 -- By the test of the number.
 use borrow.Author.Tests.{lt-ltb, le-ltb}
-use borrow.Author.Rules.{rules}
 use Rattle.wording.proofs.names.put_kind.Goals as goal
 
 pub returns-then-number-lt-VEC : goal.returns-then-number-lt-VEC

@@ -1,5 +1,4 @@
 -- A name for each type.
-use borrow.Author.Rules.{rules}
 use Rattle.text.specs.Literals.{ascii}
 use Rattle.wording.proofs.names.put_type.Goals as goal
 

@@ -1,6 +1,5 @@
 -- By the code.
 use borrow.Author.Tests.{lt-ltb, le-ltb}
-use borrow.Author.Rules.{rules}
 use Rattle.text.specs.Literals.{ascii}
 use Rattle.text.proofs.Parts.{part_slice}
 use Rattle.wording.specs.Losses.{comment}

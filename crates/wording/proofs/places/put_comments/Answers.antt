@@ -1,12 +1,6 @@
 -- The loop's invariant: the comments among the items that are left go on from where those of all have come to. The measure is how many are left.
-use mathlib.Core.Path.{◌≡◌, refl, sym, ◌∙◌}
-use native.Mathlib.Omega.{arith}
-use lib.ListN.{length}
-use borrow.Author.Rules.{rules}
+use mathlib.Core.Path.{refl, sym, ◌∙◌}
 use Rattle.leaves.proofs.Items.{item_lies}
-use Rattle.leaves.specs.Items.{items_at}
-use Rattle.wording.specs.Losses.{comments}
-use Rattle.wording.specs.Lines.{line_in, puts}
 use Rattle.wording.proofs.Pieces.{comments_left, comments_broken, comments_next}
 use Rattle.wording.proofs.places.put_comments.Goals as goal
 

@@ -1,6 +1,5 @@
 -- By the tests of the bits.
 use borrow.Author.Tests.{eq-eqb, ne_eqb}
-use borrow.Author.Rules.{rules}
 use Rattle.text.specs.Literals.{ascii}
 use Rattle.wording.specs.Losses.{fate}
 use Rattle.wording.proofs.places.put_fate.Goals as goal

@@ -1,6 +1,5 @@
 -- By the test of the bit.
 use borrow.Author.Tests.{eq-eqb, ne_eqb}
-use borrow.Author.Rules.{rules}
 use Rattle.wording.specs.Losses.{letter}
 use Rattle.wording.proofs.Pieces.{put_nothing}
 use Rattle.wording.proofs.places.put_letter.Goals as goal

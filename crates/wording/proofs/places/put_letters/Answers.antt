@@ -1,11 +1,6 @@
 -- The loop's invariant: the letters that are left go on from where all of them have come to. The measure is how many are left.
-use mathlib.Core.Path.{◌≡◌, refl, sym, ◌∙◌}
-use Prim.Native.Nat.{◌+◌}
+use mathlib.Core.Path.{refl, sym, ◌∙◌}
 use native.Mathlib.Omega.{arith}
-use lib.ListN.{length}
-use borrow.Author.Rules.{rules}
-use Rattle.wording.specs.Losses.{letters}
-use Rattle.wording.specs.Lines.{line_in, puts}
 use Rattle.wording.proofs.Pieces.{letters_left, letters_next}
 use Rattle.wording.proofs.places.put_letters.Goals as goal
 

@@ -1,6 +1,5 @@
 -- By the test of its place.
 use borrow.Author.Tests.{le-leb, lt-leb}
-use borrow.Author.Rules.{rules}
 use Rattle.wording.proofs.Pieces.{put_nothing}
 use Rattle.wording.proofs.places.put_loss.Goals as goal
 

@@ -1,6 +1,5 @@
 -- A list's count, no text, or the text.
 use borrow.Author.Tests.{eq-eqb, ne_eqb, le-leb, lt-leb}
-use borrow.Author.Rules.{rules}
 use Rattle.text.specs.Literals.{ascii}
 use Rattle.wording.specs.Records.{content}
 use Rattle.wording.proofs.Pieces.{after, put_nothing}

@@ -1,5 +1,4 @@
 -- The pieces of the calls.
-use borrow.Author.Rules.{rules}
 use Rattle.wording.specs.Records.{deep}
 use Rattle.wording.proofs.Pieces.{after}
 use Rattle.wording.proofs.records.put_depth.Goals as goal

@@ -1,5 +1,4 @@
 -- The text in quotes, or the case by its index.
-use borrow.Author.Rules.{rules}
 use Rattle.text.proofs.Parts.{part_slice}
 use Rattle.wording.specs.Records.{leaf_shown}
 use Rattle.wording.proofs.records.put_leaf.Goals as goal

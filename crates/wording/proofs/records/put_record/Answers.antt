@@ -1,6 +1,5 @@
 -- By the tests of its places.
 use borrow.Author.Tests.{lt-ltb, le-ltb, le-leb, lt-leb}
-use borrow.Author.Rules.{rules}
 use Rattle.wording.proofs.Pieces.{put_nothing}
 use Rattle.wording.proofs.records.put_record.Goals as goal
 

@@ -1,5 +1,4 @@
 -- The pieces of the calls.
-use borrow.Author.Rules.{rules}
 use Rattle.text.specs.Literals.{ascii}
 use Rattle.text.proofs.Parts.{part_slice}
 use Rattle.wording.specs.Records.{chunk_pieces}

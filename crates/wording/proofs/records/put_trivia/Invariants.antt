@@ -1,13 +1,9 @@
 -- The loop's invariant: what is left of the items goes on from where all of them have come to. The measure is how many are left.
-use mathlib.Core.Path.{◌≡◌, refl, sym, ◌∙◌}
-use native.Mathlib.Omega.{arith}
+use mathlib.Core.Path.{◌≡◌}
 use lib.ListN.{length}
-use borrow.Author.Rules.{rules}
-use Rattle.leaves.proofs.Items.{item_lies}
 use Rattle.leaves.specs.Items.{items_at}
 use Rattle.wording.specs.Records.{trivia}
 use Rattle.wording.specs.Lines.{line_in, puts}
-use Rattle.wording.proofs.Pieces.{trivia_left, trivia_broken, trivia_next}
 use Rattle.wording.proofs.records.put_trivia.Given as goal
 
 abbrev pub invariant-loop-left : goal.invariant-loop-left

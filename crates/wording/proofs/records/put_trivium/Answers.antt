@@ -1,6 +1,5 @@
 -- A newline has no text, any other item has.
 use borrow.Author.Tests.{eq-eqb, ne_eqb}
-use borrow.Author.Rules.{rules}
 use Rattle.text.specs.Literals.{ascii}
 use Rattle.text.proofs.Parts.{part_slice}
 use Rattle.wording.specs.Records.{trivium}

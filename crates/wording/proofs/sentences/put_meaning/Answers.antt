@@ -1,5 +1,4 @@
 -- A meaning for each reason.
-use borrow.Author.Rules.{rules}
 use Rattle.text.specs.Literals.{ascii}
 use Rattle.wording.specs.Sentences.{meaning}
 use Rattle.wording.proofs.sentences.put_meaning.Goals as goal

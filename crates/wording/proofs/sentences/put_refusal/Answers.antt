@@ -1,5 +1,4 @@
 -- The pieces of the calls.
-use borrow.Author.Rules.{rules}
 use Rattle.text.specs.Literals.{ascii}
 use Rattle.wording.specs.Sentences.{sentence}
 use Rattle.wording.proofs.Pieces.{after}

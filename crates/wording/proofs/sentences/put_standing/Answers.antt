@@ -1,6 +1,5 @@
 -- The input ends there, or a byte stands there.
 use borrow.Author.Tests.{le-leb, lt-leb}
-use borrow.Author.Rules.{rules}
 use Rattle.text.specs.Literals.{ascii}
 use Rattle.wording.specs.Sentences.{standing}
 use Rattle.wording.proofs.Pieces.{after}

@@ -1,5 +1,4 @@
 -- The pieces of the two calls.
-use borrow.Author.Rules.{rules}
 use Rattle.text.specs.Literals.{ascii}
 use Rattle.wording.proofs.Pieces.{after}
 use Rattle.wording.proofs.sentences.put_work_room.Goals as goal
