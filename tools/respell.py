@@ -20,6 +20,7 @@ TOKEN = re.compile(r"[^\s(){}\[\],;\"`λ.:→≡∷@|]+")
 DEFINED = re.compile(
     r"^(?P<indent>\s*)(?:(?:abbrev|unfoldable|ruleset|data|record|pub|open)\s+)*(?P<name>[^\s:(){}.,;]+)\s*:(?!:)"
 )
+RULESET = re.compile(r"^(?:pub )?ruleset (?P<name>\S+)")
 # What stands in a literal is a program's, and stays.
 STRING = re.compile(r'"(?:[^"\\\n]|\\.)*"')
 
@@ -65,7 +66,7 @@ def gather():
             dashed.update(n for n in defined_names(t) if "-" in n and re.match(r"[a-z]", n))
     sources = sorted(glob.glob("crates/*/src/**/*.rt", recursive=True))
     for p in list(texts) + sources:
-        t = texts.get(p) or read(p)
+        t = STRING.sub("", texts.get(p) or read(p))
         for w in TOKEN.findall(t):
             if re.fullmatch(r"[a-z][a-z0-9]*(?:[A-Z][a-z0-9]*)+[₀₁₂']*", w):
                 camel.add(w)
@@ -121,8 +122,8 @@ def defined_names(text):
         if line.strip() == "where":
             below = indent
             continue
-        m = DEFINED.match(line)
-        if m and (not indent or below is not None and indent == below + 2 or inside == "module" and indent % 2 == 0 and indent <= 6):
+        m = RULESET.match(line) or DEFINED.match(line)
+        if m and (not indent or below is not None and indent == below + 2 or inside == "module" and indent % 2 == 0 and indent <= 12):
             yield m.group("name")
 
 

@@ -1,6 +1,6 @@
 -- Records of a kind: what is printed of the fields, or of the items, behind own bytes is printed of the record.
---   opened-kind : a record that was opened, of a kind with fields
---   opened-list : one that is a list
+--   opened_kind : a record that was opened, of a kind with fields
+--   opened_list : one that is a list
 use mathlib.Core.Path.{◌≡◌, refl, sym, ap, ◌∙◌}
 use mathlib.Core.Logic.{⊎_elim}
 use mathlib.Core.List.{List, [], ◌∷◌}
@@ -214,12 +214,12 @@ module _ {context : Context} {shown : Bool} {levels : ℕ} {bytes : List ℕ} {c
 
       module _ (place : Place) {answer : Printed} {after : List ℕ} where
         -- what is printed behind own bytes is printed of the record
-        pub opened-as : (tree : Tree) (end : ℕ)
+        pub opened_as : (tree : Tree) (end : ℕ)
             → ((at : ℕ) → read_own bytes at class levels ≡ Record own → ((read levels bytes class at).tree ≡ node at (trivia_of bytes own) tree) × ((read levels bytes class at).end ≡ end))
             → Shown answer after (events_in context place true tree) (outcome (Done state own.end) left) end
             → PrintsField answer after last room context place shown levels bytes class stands
         unfolding events_in
-        opened-as tree end read_as done = record {
+        opened_as tree end read_as done = record {
           from = λ at here.
               let own = opened_own.from at here in
               let same = read_as at own.1 in
@@ -227,17 +227,17 @@ module _ {context : Context} {shown : Bool} {levels : ℕ} {bytes : List ℕ} {c
         }
 
         -- of a kind with fields
-        pub opened-kind : (kind : Kind) → own.kind ≡ kind → bare kind ≡ false
+        pub opened_kind : (kind : Kind) → own.kind ≡ kind → bare kind ≡ false
             → PrintsKind answer after (Done state own.end) left context place kind (rule class).value (own.map / 2) (levels - 1) bytes
             → PrintsField answer after last room context place shown levels bytes class stands
-        opened-kind kind same other done =
-            opened-as _ _ (λ at read. kind_read bytes class at levels own kind read same other) (done.from own.end refl)
+        opened_kind kind same other done =
+            opened_as _ _ (λ at read. kind_read bytes class at levels own kind read same other) (done.from own.end refl)
 
         -- of a list
-        pub opened-list : (item : Class) → own.kind ≡ variant.Vec → (rule class).items ≡ ListOf item
+        pub opened_list : (item : Class) → own.kind ≡ variant.Vec → (rule class).items ≡ ListOf item
             → Prints answer after (Done state own.end) left (λ at. events_in context place true (chain (item_trees (read (levels - 1) bytes) item own.count at)))
             (λ at. items_end (read (levels - 1) bytes) item own.count at)
             → PrintsField answer after last room context place shown levels bytes class stands
         unfolding events_in built
-        opened-list item same items done =
-            opened-as _ _ (λ at read. list_read bytes class item at levels own read same items) (done.from own.end refl)
+        opened_list item same items done =
+            opened_as _ _ (λ at read. list_read bytes class item at levels own read same items) (done.from own.end refl)

@@ -145,14 +145,14 @@ module _ (context : Context) where
 
       module _ (item : TriviumSpan) (told : found ≡ Item item) {newline : Bool} (tested : newline ≡ only_newline (item_of bytes item)) (before : Run) where
         -- at a newline
-        pub lead-on : newline ≡ true → run (lead_events context (items_at bytes at left)) before ≡ run (lead_events context (items_at bytes item.end (left - 1))) before
-        lead-on yes_way =
+        pub lead_on : newline ≡ true → run (lead_events context (items_at bytes at left)) before ≡ run (lead_events context (items_at bytes item.end (left - 1))) before
+        lead_on yes_way =
             ap (λ (items : List Trivium). run (lead_events context items) before) (items_next bytes at left some same (Item item) told)
             ∙ ap (λ (events : Events). run events before) (lead_dropped (item_of bytes item) (items_at bytes item.end (left - 1)) (sym tested ∙ yes_way))
 
         -- at any other item
-        pub lead-stops : newline ≡ false → run (lead_events context (items_at bytes at left)) before ≡ run (trivia_events context (items_at bytes at left)) before
-        lead-stops no_way =
+        pub lead_stops : newline ≡ false → run (lead_events context (items_at bytes at left)) before ≡ run (trivia_events context (items_at bytes at left)) before
+        lead_stops no_way =
             let first = items_next bytes at left some same (Item item) told in
             ap (λ (items : List Trivium). run (lead_events context items) before) first
             ∙ ap (λ (events : Events). run events before) (lead_kept (item_of bytes item) (items_at bytes item.end (left - 1)) (sym tested ∙ no_way))

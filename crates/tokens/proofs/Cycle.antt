@@ -41,7 +41,7 @@ use Rattle.leaves.specs.Lists.{item_trees, items_end}
 use Rattle.leaves.specs.Records.{PrintsField, PrintsKind, field_trees, fields_end, Opens}
 use Rattle.leaves.specs.declared.record.Opened.{Opened}
 use Rattle.leaves.specs.declared.record.Opened.TheVariants as opened_is
-use Rattle.leaves.proofs.Fielded.{bare, opened_range, opened_by_number, opened-list}
+use Rattle.leaves.proofs.Fielded.{bare, opened_range, opened_by_number, opened_list}
 use Rattle.leaves.proofs.Records.{read_record}
 use Rattle.leads.specs.Leads.{before_of}
 use Rattle.leads.specs.declared.Before as code
@@ -361,7 +361,7 @@ module _ {context : Context} {levels : ℕ} {bytes : List ℕ} {left room : List
       record {
         from = λ at here.
             let end = items_end (read (levels - 1) bytes) BareToken own.count own.end in
-            let list = (opened-list opens is (tokens block first (closing_at block levels bytes end)) {answer = answer} {after = after} BareToken vec refl
+            let list = (opened_list opens is (tokens block first (closing_at block levels bytes end)) {answer = answer} {after = after} BareToken vec refl
             (record { from = λ place same. rw (← same) (done.from own.end refl) })).from at here in
             let ends = tokens_end bytes at levels own (open_there.from at here).1 vec in
             rw (← ends) at list;

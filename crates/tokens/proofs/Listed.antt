@@ -35,7 +35,7 @@ use Rattle.events.specs.Views.{token_number}
 use Rattle.events.proofs.Heads.{number_read}
 use Rattle.leaves.specs.Records.{Opens, PrintsField, PrintsKind}
 use Rattle.leaves.specs.declared.record.Opened.TheVariants as opened_is
-use Rattle.leaves.proofs.Fielded.{bare, opened-kind}
+use Rattle.leaves.proofs.Fielded.{bare, opened_kind}
 use Rattle.leads.specs.Leads.{before_of, lead_in, Led, LeadsIn}
 use Rattle.leads.specs.declared.Before as code
 use Rattle.leads.specs.declared.Lead.{Lead}
@@ -97,53 +97,53 @@ module _ {context : Context} {drops : Bool} {before : Before} {levels : ℕ} {by
 
       module _ {answer : Printed} {after : List ℕ} where
         -- what is shown of the record is shown of the token of the list
-        pub listed-shown : PrintsField answer after (Done state at) left context (leaf plain) false levels bytes BareToken true
+        pub listed_shown : PrintsField answer after (Done state at) left context (leaf plain) false levels bytes BareToken true
             → Shown answer after (listed_events context drops before (read levels bytes BareToken at).tree) (outcome last room) (read levels bytes BareToken at).end
-        listed-shown token = record { ran = led.ran } then token.from at refl
+        listed_shown token = record { ran = led.ran } then token.from at refl
 
         -- so is what is shown behind its own bytes, by its number
-        listed-kind : (number : ℕ) (kind : Kind) → get_or bytes at 0 ≡ number → kind_of number ≡ Known kind → bare kind ≡ false
+        listed_kind : (number : ℕ) (kind : Kind) → get_or bytes at 0 ≡ number → kind_of number ≡ Known kind → bare kind ≡ false
             → (own.kind ≡ kind → PrintsKind answer after (Done state own.end) left context (leaf plain) kind LocatedExpression (own.map / 2) (levels - 1) bytes)
             → Shown answer after (listed_events context drops before (read levels bytes BareToken at).tree) (outcome last room) (read levels bytes BareToken at).end
-        listed-kind number kind byte known fielded done =
+        listed_kind number kind byte known fielded done =
             let opens = listed_opens in
             let named = kind_named byte known (token_opened false at opens refl refl).known in
-            listed-shown (opened-kind opens refl (leaf plain) kind named fielded (done named))
+            listed_shown (opened_kind opens refl (leaf plain) kind named fielded (done named))
 
         -- and what is shown from its head on, where that is its first field
-        listed-first : (number : ℕ) (kind : Kind) → HeadFirst number → get_or bytes at 0 ≡ number → kind_of number ≡ Known kind → bare kind ≡ false
+        listed_first : (number : ℕ) (kind : Kind) → HeadFirst number → get_or bytes at 0 ≡ number → kind_of number ≡ Known kind → bare kind ≡ false
             → ((place : ℕ) → read_own bytes place (first_class BareToken (fields kind LocatedExpression)) (levels - 1) ≡ own_is.Record head
             → PrintsKind answer after (Done state place) left context (leaf plain) kind LocatedExpression (own.map / 2) (levels - 1) bytes)
             → Shown answer after (listed_events context drops before (read levels bytes BareToken at).tree) (outcome last room) (read levels bytes BareToken at).end
-        listed-first number kind others byte known fielded shown =
-            listed-kind number kind byte known fielded (λ named.
+        listed_first number kind others byte known fielded shown =
+            listed_kind number kind byte known fielded (λ named.
             let same = first_headed levels bytes at own led.token led.found led.finds number kind others byte named in
             shown own.end (rw (← same) at led.reads))
 
         -- that of an `Instruction` is its mnemonic
-        pub listed-instruction : get_or bytes at 0 ≡ 13
+        pub listed_instruction : get_or bytes at 0 ≡ 13
             → ((place : ℕ) → read_own bytes place Mnemonic (levels - 1) ≡ own_is.Record head
             → PrintsKind answer after (Done state place) left context (leaf plain) variant.Instruction LocatedExpression (own.map / 2) (levels - 1) bytes)
             → Shown answer after (listed_events context drops before (read levels bytes BareToken at).tree) (outcome last room) (read levels bytes BareToken at).end
         unfolding built kind_number stored_with
-        listed-instruction number shown = listed-first 13 variant.Instruction (refl, refl, refl, refl) number refl refl shown
+        listed_instruction number shown = listed_first 13 variant.Instruction (refl, refl, refl, refl) number refl refl shown
 
         -- that of a `Label` is its id
-        pub listed-label : get_or bytes at 0 ≡ 14
+        pub listed_label : get_or bytes at 0 ≡ 14
             → ((place : ℕ) → read_own bytes place Word (levels - 1) ≡ own_is.Record head
             → PrintsKind answer after (Done state place) left context (leaf plain) variant.Label LocatedExpression (own.map / 2) (levels - 1) bytes)
             → Shown answer after (listed_events context drops before (read levels bytes BareToken at).tree) (outcome last room) (read levels bytes BareToken at).end
         unfolding built kind_number stored_with
-        listed-label number shown = listed-first 14 variant.Label (refl, refl, refl, refl) number refl refl shown
+        listed_label number shown = listed_first 14 variant.Label (refl, refl, refl, refl) number refl refl shown
 
         -- of a `Data` what is shown from its size on
-        pub listed-data : get_or bytes at 0 ≡ 5
+        pub listed_data : get_or bytes at 0 ≡ 5
             → ((place : ℕ) → read_own bytes place DataSize (levels - 1) ≡ own_is.Record head
             → Prints answer after (Done state place) left (λ at. sized_events context (read (levels - 1) bytes) own.end at) (λ at. (read (levels - 1) bytes DataSize at).end))
             → Shown answer after (listed_events context drops before (read levels bytes BareToken at).tree) (outcome last room) (read levels bytes BareToken at).end
         unfolding built kind_number stored_with
-        listed-data number shown =
-            listed-kind 5 variant.Data number refl refl (λ kind.
+        listed_data number shown =
+            listed_kind 5 variant.Data number refl refl (λ kind.
             let size = data_headed levels bytes at own led.token led.found led.finds number in
             let sized = shown led.found.place (rw (size.1, size.2) at led.reads) in
             done_before refl (data_shown context (levels - 1) bytes (own.map / 2) own.end _ size.0 (sized.from _ refl)))

@@ -86,17 +86,17 @@ module _ (bytes : List ℕ) (at : ℕ) (ruled : Rule) (number : ℕ) {stands : B
 
       module _ (h : at + 2 ≤ length bytes) {map : ℕ} (mapped : map ≡ get_or bytes (at + 1) 0) {fits : Bool} (fit : fits ≡ map_fits ruled number kind map) where
         -- by whether the map fits
-        first-fit : first_bytes bytes at ruled number
+        first_fit : first_bytes bytes at ruled number
             ≡ cond fits (trivia_of_record bytes at ruled number kind map (trivia_read bytes (at + 2) (map % 2))) (Refused (layout at))
-        first-fit = first_map (Known kind) told ∙ rw (le-ltb (length bytes) (at + 2) h) (sym (rw (fit, mapped)))
+        first_fit = first_map (Known kind) told ∙ rw (le-ltb (length bytes) (at + 2) h) (sym (rw (fit, mapped)))
 
         -- it does not
-        pub first-unfit : not fits ≡ true → Refused (layout at) ≡ first_bytes bytes at ruled number
-        first-unfit u = sym (first-fit ∙ rw (not-true fits u))
+        pub first_unfit : not fits ≡ true → Refused (layout at) ≡ first_bytes bytes at ruled number
+        first_unfit u = sym (first_fit ∙ rw (not-true fits u))
 
         -- it does
         pub first_fits : not fits ≡ false → judged_on bytes at ruled number (Fit kind map) ≡ first_bytes bytes at ruled number
-        first_fits u = sym (first-fit ∙ rw (not-false fits u))
+        first_fits u = sym (first_fit ∙ rw (not-false fits u))
 
 -- ---- a record that has a first byte
 

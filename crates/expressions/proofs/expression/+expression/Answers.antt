@@ -13,7 +13,7 @@ use Rattle.events.specs.Printed.{plain}
 use Rattle.events.specs.Views.{bit_at}
 use Rattle.events.specs.Trees.{leaf, events_in}
 use Rattle.leaves.specs.Records.{field_trees, fields_end}
-use Rattle.leaves.proofs.Fielded.{opened_levels, opened_one, opened-kind, opened-list, shown_closed}
+use Rattle.leaves.proofs.Fielded.{opened_levels, opened_one, opened_kind, opened_list, shown_closed}
 use Rattle.expressions.specs.Expressions.{item_class, list_place}
 use Rattle.expressions.proofs.Cycle.{item_rule, factor_is, counter_is, list_is, list_items}
 use Rattle.expressions.proofs.Cycle.{unsigned_shown, signed_shown, binary_shown, none_left, one_left}
@@ -48,7 +48,7 @@ format_argument-returns t c =
     let is = c.in-Record.is in
     let done = c.in-Done.is in
     rw done
-    (opened-kind opens is (list_place of) variant.ArgItem
+    (opened_kind opens is (list_place of) variant.ArgItem
     (opened_one opens is 42 variant.ArgItem (item_rule of).0 (item_rule of).1 (item_rule of).2 refl) refl
     (rw (item_rule of).3 (record {
       from = λ at here.
@@ -91,7 +91,7 @@ format_arguments-returns-in-ImportAll t c =
     let is = c.in-Record.is in
     let done = c.in-Done.is in
     rw done
-    (opened-kind opens is (list_place of) variant.ImportAll c.in-ImportAll.is refl
+    (opened_kind opens is (list_place of) variant.ImportAll c.in-ImportAll.is refl
     (record { from = λ at here. c.format_import_all.ensures.from at here }))
 
 pub format_arguments-returns-in_default-kind : goal.format_arguments-returns-in_default-kind
@@ -101,7 +101,7 @@ format_arguments-returns-in_default-kind t c =
     let is = c.in-Record.is in
     let done = c.in-Done.is in
     rw done
-    (opened-list opens is (list_place of) (item_class of) (list_is of opens is c.in_default-kind.not-ImportAll) (list_items of) c.format_each_argument.ensures)
+    (opened_list opens is (list_place of) (item_class of) (list_is of opens is c.in_default-kind.not-ImportAll) (list_items of) c.format_each_argument.ensures)
 
 -- ---- format_binary_expression: the operator is skipped, and printed where it stands once the left side is; then the walk goes on behind the left side
 
@@ -250,7 +250,7 @@ format_expression-returns-in-BinaryExpression t c =
     let is = c.in-Record.is in
     let done = c.in-Done.is in
     rw done
-    (opened-kind opens is (leaf plain) variant.BinaryExpression c.in-BinaryExpression.is refl
+    (opened_kind opens is (leaf plain) variant.BinaryExpression c.in-BinaryExpression.is refl
     (record { from = λ at here. c.format_binary_expression.ensures.from at here }))
 
 pub format_expression-returns-in_default-kind : goal.format_expression-returns-in_default-kind
@@ -261,7 +261,7 @@ format_expression-returns-in_default-kind t c =
     let is = c.in-Record.is in
     let done = c.in-Done.is in
     rw done
-    (opened-kind opens is (leaf plain) variant.Factor (factor_is located opens is c.in_default-kind.not-BinaryExpression) refl c.format_factor.ensures)
+    (opened_kind opens is (leaf plain) variant.Factor (factor_is located opens is c.in_default-kind.not-BinaryExpression) refl c.format_factor.ensures)
 
 -- ---- format_expression_factor: each case has its printer; what has no arm is the program counter
 
@@ -295,7 +295,7 @@ format_expression_factor-returns-in-ExprParens t c =
     let is = c.in-Record.is in
     let done = c.in-Done.is in
     rw done
-    (opened-kind opens is (leaf plain) variant.ExprParens c.in-ExprParens.is refl
+    (opened_kind opens is (leaf plain) variant.ExprParens c.in-ExprParens.is refl
     (record { from = λ at here. c.format_parens.ensures.from at here }))
 
 pub format_expression_factor-returns-in-FunctionCall : goal.format_expression_factor-returns-in-FunctionCall
@@ -305,7 +305,7 @@ format_expression_factor-returns-in-FunctionCall t c =
     let is = c.in-Record.is in
     let done = c.in-Done.is in
     rw done
-    (opened-kind opens is (leaf plain) variant.FunctionCall c.in-FunctionCall.is refl
+    (opened_kind opens is (leaf plain) variant.FunctionCall c.in-FunctionCall.is refl
     (record { from = λ at here. c.format_call.ensures.from at here }))
 
 pub format_expression_factor-returns-in-IdentifierValue : goal.format_expression_factor-returns-in-IdentifierValue
@@ -315,7 +315,7 @@ format_expression_factor-returns-in-IdentifierValue t c =
     let is = c.in-Record.is in
     let done = c.in-Done.is in
     rw done
-    (opened-kind opens is (leaf plain) variant.IdentifierValue c.in-IdentifierValue.is refl
+    (opened_kind opens is (leaf plain) variant.IdentifierValue c.in-IdentifierValue.is refl
     (record { from = λ at here. c.format_identifier_value.ensures.from at here }))
 
 pub format_expression_factor-returns-in-Number : goal.format_expression_factor-returns-in-Number
@@ -325,7 +325,7 @@ format_expression_factor-returns-in-Number t c =
     let is = c.in-Record.is in
     let done = c.in-Done.is in
     rw done
-    (opened-kind opens is (leaf plain) variant.Number c.in-Number.is refl
+    (opened_kind opens is (leaf plain) variant.Number c.in-Number.is refl
     (record { from = λ at here. c.format_number.ensures.from at here }))
 
 pub format_expression_factor-returns-in-StringFactor : goal.format_expression_factor-returns-in-StringFactor
@@ -335,7 +335,7 @@ format_expression_factor-returns-in-StringFactor t c =
     let is = c.in-Record.is in
     let done = c.in-Done.is in
     rw done
-    (opened-kind opens is (leaf plain) variant.StringFactor c.in-StringFactor.is refl
+    (opened_kind opens is (leaf plain) variant.StringFactor c.in-StringFactor.is refl
     (record { from = λ at here. c.format_string.ensures.from at here }))
 
 pub format_expression_factor-returns-in_default-kind : goal.format_expression_factor-returns-in_default-kind
@@ -345,7 +345,7 @@ format_expression_factor-returns-in_default-kind t c =
     let is = c.in-Record.is in
     let done = c.in-Done.is in
     rw done
-    (opened-kind opens is (leaf plain) variant.CurrentProgramCounter (counter_is opens is c.in_default-kind.not-ExprParens c.in_default-kind.not-FunctionCall c.in_default-kind.not-IdentifierValue c.in_default-kind.not-Number c.in_default-kind.not-StringFactor) refl
+    (opened_kind opens is (leaf plain) variant.CurrentProgramCounter (counter_is opens is c.in_default-kind.not-ExprParens c.in_default-kind.not-FunctionCall c.in_default-kind.not-IdentifierValue c.in_default-kind.not-Number c.in_default-kind.not-StringFactor) refl
     (record { from = λ at here. c.character.ensures.from at here }))
 
 -- ---- format_factor: the signs are printed behind the factor that was skipped, and the walk goes back to it; without signs nothing is skipped

@@ -6,7 +6,7 @@ use Rattle.events.specs.Views.{bit_at}
 use Rattle.events.specs.Trees.{leaf, events_in}
 use Rattle.leaves.specs.Records.{field_trees, fields_end}
 use Rattle.events.specs.Printed.{plain}
-use Rattle.leaves.proofs.Fielded.{opened_levels, opened_one, opened-kind, shown_closed}
+use Rattle.leaves.proofs.Fielded.{opened_levels, opened_one, opened_kind, shown_closed}
 use Rattle.tree.specs.Stored.{stored_with}
 use Rattle.tree.specs.declared.grammar.Kind.TheVariants as variant
 use Rattle.tree.proofs.KindLayout.{kind_number}
@@ -25,7 +25,7 @@ unfolding built field_trees fields_end events_in bit_at kind_number stored_with
 returns c =
     let opens = c.open-opened.ensures.opens in
     let is = c.in-Record.is in
-    opened-kind opens is (leaf plain) variant.ImportAs (opened_one opens is 39 variant.ImportAs refl refl refl refl) refl (record {
+    opened_kind opens is (leaf plain) variant.ImportAs (opened_one opens is 39 variant.ImportAs refl refl refl refl) refl (record {
       from = λ at here.
           let tag = c.word-tag.ensures.from at here in
           let gap = c.push-gap.ensures.from _ tag.next in

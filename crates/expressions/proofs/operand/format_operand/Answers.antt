@@ -7,7 +7,7 @@ use Rattle.tree.proofs.KindLayout.{kind_number}
 use Rattle.printing.proofs.Running.{◌thence◌}
 use Rattle.events.specs.Printed.{plain}
 use Rattle.events.specs.Trees.{leaf}
-use Rattle.leaves.proofs.Fielded.{opened_levels, opened_one, opened-kind, shown_closed}
+use Rattle.leaves.proofs.Fielded.{opened_levels, opened_one, opened_kind, shown_closed}
 use Rattle.expressions.proofs.Operands.{operand_shown}
 use Rattle.expressions.proofs.operand.format_operand.Goals as goal
 
@@ -28,7 +28,7 @@ unfolding built kind_number stored_with
 returns c =
     let opens = c.open-opened.ensures.opens in
     let is = c.in-Record.is in
-    opened-kind opens is (leaf plain) variant.Operand (opened_one opens is 37 variant.Operand refl refl refl refl) refl (record {
+    opened_kind opens is (leaf plain) variant.Operand (opened_one opens is 37 variant.Operand refl refl refl refl) refl (record {
       from = λ at here.
           let front = c.format_front-front.ensures.from at here in
           let tail = c.format_tail.ensures.from _ front.next in

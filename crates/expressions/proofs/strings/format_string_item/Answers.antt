@@ -5,7 +5,7 @@ use Rattle.text.proofs.Parts.{part_slice}
 use Rattle.printing.proofs.Running.{◌then◌, ran_push, finish}
 use Rattle.events.specs.Printed.{plain, printed}
 use Rattle.events.specs.Trees.{leaf, events_in}
-use Rattle.leaves.proofs.Fielded.{opened_fits, opened-as, shown_closed}
+use Rattle.leaves.proofs.Fielded.{opened_fits, opened_as, shown_closed}
 use Rattle.expressions.proofs.StringItems.{text_item, text_read, path_read}
 use Rattle.expressions.proofs.strings.format_string_item.Goals as goal
 
@@ -52,7 +52,7 @@ unfolding events_in
 returns-in-PathItem c =
     let opens = c.open-opened.ensures.opens in
     let is = c.in-Record.is in
-    opened-as opens is (leaf plain) _ _ (path_read _ _ _ c.in-PathItem.is)
+    opened_as opens is (leaf plain) _ _ (path_read _ _ _ c.in-PathItem.is)
     (ran_push (c.push-open.ensures.answer, c.push-open.ensures.room)
     then ran_push (rw part_slice at c.push-path.ensures.answer, rw part_slice at c.push-path.ensures.room)
     then finish (ran_push (c.push-close.ensures.answer, c.push-close.ensures.room)) c.finish.ensures.answer refl)
@@ -62,5 +62,5 @@ unfolding events_in printed
 returns-in_default-kind c =
     let opens = c.open-opened.ensures.opens in
     let is = c.in-Record.is in
-    opened-as opens is (leaf plain) _ _ (text_read _ _ _ (text_item opens is c.in_default-kind.not-PathItem))
+    opened_as opens is (leaf plain) _ _ (text_read _ _ _ (text_item opens is c.in_default-kind.not-PathItem))
     (finish (ran_push (rw part_slice at c.push-text.ensures.answer, rw part_slice at c.push-text.ensures.room)) c.finish-in_default-kind.ensures.answer refl)

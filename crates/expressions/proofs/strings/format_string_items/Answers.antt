@@ -2,7 +2,7 @@
 use mathlib.Core.Path.{refl}
 use Rattle.tree.specs.declared.grammar.Class.TheVariants.{StringItem}
 use Rattle.events.specs.Trees.{in_string}
-use Rattle.leaves.proofs.Fielded.{opened_levels, opened-list, shown_closed}
+use Rattle.leaves.proofs.Fielded.{opened_levels, opened_list, shown_closed}
 use Rattle.expressions.proofs.StringItems.{opened_items}
 use Rattle.expressions.proofs.strings.format_string_items.Goals as goal
 
@@ -18,4 +18,4 @@ pub returns : goal.returns
 returns c =
     let opens = c.open-opened.ensures.opens in
     let is = c.in-Record.is in
-    opened-list opens is in_string StringItem (opened_items opens is) refl c.format_each_item.ensures
+    opened_list opens is in_string StringItem (opened_items opens is) refl c.format_each_item.ensures

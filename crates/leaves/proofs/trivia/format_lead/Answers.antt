@@ -1,6 +1,6 @@
 -- The loop's invariant: nothing has been run, and the events without the newlines first are those of what is left of the items. The measure is how many are left.
 use mathlib.Core.Path.{refl, ◌∙◌}
-use Rattle.leaves.proofs.Items.{item_lies, lead_left, lead_broken, lead-on, lead-stops}
+use Rattle.leaves.proofs.Items.{item_lies, lead_left, lead_broken, lead_on, lead_stops}
 use Rattle.leaves.proofs.trivia.format_lead.Goals as goal
 
 pub loop-left-init : goal.loop-left-init
@@ -22,7 +22,7 @@ shape_of-room-then-not-only_newline c = c.format_trivia.auto.room ∙ c.loop-lef
 pub returns-then-not-only_newline : goal.returns-then-not-only_newline
 returns-then-not-only_newline c =
     c.loop-left.invariant.1
-    ∙ lead-stops _ _ _ _ c.loop-left-test.true c.trivium_at-read.ensures _ c.in-Item.is c.only_newline.ensures _
+    ∙ lead_stops _ _ _ _ c.loop-left-test.true c.trivium_at-read.ensures _ c.in-Item.is c.only_newline.ensures _
     c.if-not-only_newline.true
     ∙ c.format_trivia.ensures
 
@@ -30,7 +30,7 @@ pub loop-left-preserved : goal.loop-left-preserved
 loop-left-preserved c = (
   c.loop-left.invariant.0,
   c.loop-left.invariant.1
-      ∙ lead-on _ _ _ _ c.loop-left-test.true c.trivium_at-read.ensures _ c.in-Item.is c.only_newline.ensures _
+      ∙ lead_on _ _ _ _ c.loop-left-test.true c.trivium_at-read.ensures _ c.in-Item.is c.only_newline.ensures _
       c.if-not-only_newline.false,
 )
 

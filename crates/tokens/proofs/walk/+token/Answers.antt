@@ -12,10 +12,10 @@ use Rattle.events.specs.Printed.{plain}
 use Rattle.events.specs.Views.{bit_at}
 use Rattle.events.specs.Trees.{leaf, events_in}
 use Rattle.leaves.specs.Records.{field_trees, fields_end}
-use Rattle.leaves.proofs.Fielded.{opened_levels, opened_one, opened-kind, shown_closed}
+use Rattle.leaves.proofs.Fielded.{opened_levels, opened_one, opened_kind, shown_closed}
 use Rattle.tokens.proofs.Cycle.{inside_shown, label_alone, label_block, plain_number, one_branch, both_branches, token_rule, token_opened, tokens_shown}
 use Rattle.tokens.proofs.Cycle.{only_in, not_in, all_left, block_left, file_left, one_left, rest_from}
-use Rattle.tokens.proofs.Listed.{listed_number, listed_over, listed_opens, head_text, listed-shown, listed-instruction, listed-label, listed-data}
+use Rattle.tokens.proofs.Listed.{listed_number, listed_over, listed_opens, head_text, listed_shown, listed_instruction, listed_label, listed_data}
 use Rattle.leads.specs.Leads.{over_by}
 use Rattle.tokens.proofs.walk.+token.Goals as goal
 use Rattle.tokens.proofs.walk.+token.Goals.{format_each_token-then-block, format_each_token-else-block}
@@ -61,7 +61,7 @@ format_block-returns t c =
     let opens = c.open-opened.ensures.opens in
     let is = c.in-Record.is in
     let listed = rw c.deeper.ensures at c.format_tokens-inner.ensures in
-    opened-kind opens is (leaf plain) variant.Block (opened_one opens is 27 variant.Block refl refl refl refl) refl
+    opened_kind opens is (leaf plain) variant.Block (opened_one opens is 27 variant.Block refl refl refl refl) refl
     (record {
       from = λ at here.
           let lparen = c.open_block-lparen.ensures.from at here in
@@ -257,7 +257,7 @@ pub format_listed_token-returns-then-number-eq-INSTRUCTION : goal.format_listed_
 format_listed_token-returns-then-number-eq-INSTRUCTION t c =
     let number = sym c.byte_at-number.ensures ∙ c.if-number-eq-INSTRUCTION.true in
     done_before c.in-Done.is
-    (listed-instruction c.format_lead_in-lead.ensures.leads c.in-Ready.is _ refl number c.format_listed_instruction.ensures)
+    (listed_instruction c.format_lead_in-lead.ensures.leads c.in-Ready.is _ refl number c.format_listed_instruction.ensures)
 
 pub format_listed_token-format_sized-requires : goal.format_listed_token-format_sized-requires
 format_listed_token-format_sized-requires t c =
@@ -267,7 +267,7 @@ pub format_listed_token-returns-then-number-eq-DATA : goal.format_listed_token-r
 format_listed_token-returns-then-number-eq-DATA t c =
     let number = sym c.byte_at-number.ensures ∙ c.if-number-eq-DATA.true in
     done_before c.in-Done.is
-    (listed-data c.format_lead_in-lead.ensures.leads c.in-Ready.is _ refl number c.format_sized.ensures)
+    (listed_data c.format_lead_in-lead.ensures.leads c.in-Ready.is _ refl number c.format_sized.ensures)
 
 pub format_listed_token-format_listed_label-front-requires : goal.format_listed_token-format_listed_label-front-requires
 format_listed_token-format_listed_label-front-requires t c =
@@ -278,7 +278,7 @@ format_listed_token-returns-then-not-stands t c =
     let number = sym c.byte_at-number.ensures ∙ c.if-number-eq-LABEL.true in
     let none = sym c.stands.ensures ∙ c.if-not-stands.true in
     done_before c.in-Done.is
-    (listed-label c.format_lead_in-lead.ensures.leads c.in-Ready.is _ refl number (λ place read. label_alone _ _ _ _ (c.format_listed_label-front.ensures place read) none))
+    (listed_label c.format_lead_in-lead.ensures.leads c.in-Ready.is _ refl number (λ place read. label_alone _ _ _ _ (c.format_listed_label-front.ensures place read) none))
 
 pub format_listed_token-format_block-requires : goal.format_listed_token-format_block-requires
 format_listed_token-format_block-requires t c =
@@ -292,7 +292,7 @@ format_listed_token-returns-then-number-eq-LABEL t c =
     let number = sym c.byte_at-number.ensures ∙ c.if-number-eq-LABEL.true in
     let one = sym c.stands.ensures ∙ c.if-not-stands.false in
     done_before c.in-Done.is
-    (listed-label c.format_lead_in-lead.ensures.leads c.in-Ready.is _ refl number (λ place read.
+    (listed_label c.format_lead_in-lead.ensures.leads c.in-Ready.is _ refl number (λ place read.
     label_block _ _ _ _ (c.format_listed_label-front.ensures place read) one c.format_block.ensures))
 
 pub format_listed_token-format_inner-requires : goal.format_listed_token-format_inner-requires
@@ -311,7 +311,7 @@ format_listed_token-returns t c =
     let token = token_opened false _ opens refl refl in
     let inner = rw c.byte_at-number.ensures at c.format_inner.ensures in
     done_before c.in-Done.is
-    (listed-shown leads is _ refl (opened-kind opens refl (leaf plain) _ refl token.fielded (inner token.small _ token.known)))
+    (listed_shown leads is _ refl (opened_kind opens refl (leaf plain) _ refl token.fielded (inner token.small _ token.known)))
 
 -- ---- format_token: the number of the record that was opened is one of a token, and the walk goes on behind its own bytes
 
@@ -345,7 +345,7 @@ format_token-returns t c =
     let token = token_opened located _ opens is refl in
     let inner = rw c.byte_at-number.ensures at c.format_inner.ensures in
     done_before c.in-Done.is
-    ((opened-kind opens is (leaf plain) _ refl token.fielded (rw (token_rule located).2 (inner token.small _ token.known))).from _ refl)
+    ((opened_kind opens is (leaf plain) _ refl token.fielded (rw (token_rule located).2 (inner token.small _ token.known))).from _ refl)
 
 -- ---- format_tokens: the tokens of the list that was opened are its events
 

@@ -1,6 +1,6 @@
 -- Each answer is the one that the definition has after the same tests.
 use native.Mathlib.Omega.{arith}
-use Rattle.tree.proofs.OwnReading.{first_alien, first_unknown, first_short, first-unfit, first_fits}
+use Rattle.tree.proofs.OwnReading.{first_alien, first_unknown, first_short, first_unfit, first_fits}
 use Rattle.tree.proofs.own.judge.Goals as goal
 
 pub returns-then-not-may_stand : goal.returns-then-not-may_stand
@@ -22,7 +22,7 @@ pub returns-then-not-map_fits : goal.returns-then-not-map_fits
 returns-then-not-map_fits c =
     let may = c.may_stand.ensures in
     let stands = c.if-not-may_stand.false-raw in
-    first-unfit _ _ _ _ may stands c.kind_of-read.ensures _ c.in-Known.is (omega arith)
+    first_unfit _ _ _ _ may stands c.kind_of-read.ensures _ c.in-Known.is (omega arith)
     c.wide-map.ensures.0 c.map_fits.ensures c.if-not-map_fits.true-raw
 
 pub returns : goal.returns
