@@ -1,5 +1,8 @@
 -- Laws of the expressions' printers: which kind is left where no other stands, what is shown of fields that are printed in another order than they are stored, and
 -- what is shown of a list item by item.
+use denote.Enum.Declared.{tag_of}
+use Rattle.tree.specs.contracts.grammar.Kind as kinds
+use Rattle.tree.specs.declared.grammar.Kind.{Kind}
 use mathlib.Core.Path.{◌≡◌, refl, sym}
 use mathlib.Core.List.{List, []}
 use mathlib.Core.Bool.{Bool, true, false, cond, ◌&&◌, ◌||◌}
@@ -56,6 +59,53 @@ item_rule Identifiers = (refl, refl, refl, refl)
 item_rule Imports = (refl, refl, refl, refl)
 
 -- ---- which kind is left
+
+-- the variant of a kind is its number
+variant_number : (kind : Kind) → tag_of kinds.the_type kind ≡ kind_number kind
+unfolding kind_number stored_with built
+variant_number variant.Align = refl
+variant_number variant.Assert = refl
+variant_number variant.Braces = refl
+variant_number variant.Config = refl
+variant_number variant.ConfigPair = refl
+variant_number variant.Data = refl
+variant_number variant.Definition = refl
+variant_number variant.Eof = refl
+variant_number variant.Error = refl
+variant_number variant.Expression = refl
+variant_number variant.If = refl
+variant_number variant.Import = refl
+variant_number variant.File = refl
+variant_number variant.Instruction = refl
+variant_number variant.Label = refl
+variant_number variant.Loop = refl
+variant_number variant.MacroDefinition = refl
+variant_number variant.MacroInvocation = refl
+variant_number variant.ProgramCounterDefinition = refl
+variant_number variant.Segment = refl
+variant_number variant.Test = refl
+variant_number variant.Text = refl
+variant_number variant.Trace = refl
+variant_number variant.VariableDefinition = refl
+variant_number variant.Vec = refl
+variant_number variant.Leaf = refl
+variant_number variant.PathItem = refl
+variant_number variant.Block = refl
+variant_number variant.BinaryExpression = refl
+variant_number variant.Factor = refl
+variant_number variant.CurrentProgramCounter = refl
+variant_number variant.ExprParens = refl
+variant_number variant.FunctionCall = refl
+variant_number variant.IdentifierValue = refl
+variant_number variant.Number = refl
+variant_number variant.StringFactor = refl
+variant_number variant.InterpolatedString = refl
+variant_number variant.Operand = refl
+variant_number variant.RegisterSuffix = refl
+variant_number variant.ImportAs = refl
+variant_number variant.ImportAll = refl
+variant_number variant.SpecificImportArg = refl
+variant_number variant.ArgItem = refl
 
 -- an expression that is not a binary one is a factor, with trivia or without
 factor_left : (located : Bool) (number : ℕ) → ((rule (expression_class located)).first ≤ number) × (number ≤ (rule (expression_class located)).last)
