@@ -1,14 +1,15 @@
 #!/usr/bin/env python3
 """Respells the repository's own names of definitions and lemmas, once: words in snake case, types and facts as they are.
 
-usage: python3 tools/respell.py            at the top of a checkout to which the port's script was already applied
+usage: python3 tools/respell.py --write    at the top of a checkout to which the port's script was already applied
+       python3 tools/respell.py            only tells the names that would fall together in one file
        python3 tools/respell.py --table    prints the table old, new, and changes nothing
 
 What is renamed: every name of crates/*/specs and crates/*/proofs that begins in lower case and has a capital inside
 (allBlank becomes all_blank), and every lemma or definition there with dashes (drop-step becomes drop_step), wherever
 it is cited: in definitions, proofs, clauses, must-fail edits, and between backticks in documents. Names of the
-library, of functions in src/, and those that the checker makes keep their spelling. It stops, with nothing written,
-where two names would fall together in one file.
+library, of functions in src/, and those that the checker makes keep their spelling. Where a definition gets the name of
+a function, a field or a law, both stand apart by what they are, or the law gets `_lem`.
 """
 import collections
 import glob
@@ -134,6 +135,7 @@ LOCAL = re.compile(r"(?:\blet |\bas )([a-z][a-z0-9_]*(?:-[a-z0-9_]+)+)(?=[\s;,}]
 def respell(text, table, path):
     known = aliases(text)
     words = set(TOKEN.findall(text))
+    words |= set(table.get(w, w) for w in words)
     table = {n: snake(n) + ("_here" if snake(n) in words else "") for n in LOCAL.findall(text)} | table
     strings = [m.span() for m in STRING.finditer(text)]
     out, last = [], 0

@@ -206,8 +206,8 @@ pub(crate) fn try_line(
 ) -> Walked
     requires narrow { Narrow margins × Standing list.now spot × (spot.at < length list.now)
         × (length list.now ≤ 1048576) }
-    requires length_bound { (past.length < 4503599627370496) × (length text.old < 4503599627370496) × (guess.lead ≤ 4351)
-        × (guess.low ≤ 510) }
+    requires length_bound { (past.length < 4503599627370496) × (length text.old < 4503599627370496)
+        × (guess.lead ≤ 4351) × (guess.low ≤ 510) }
     ensures walked { LineWalked margins list.now spot result }
     ensures tried { let line = (line_at margins list.now spot).line.bytes in
         Tried past guess line text.old text.new }

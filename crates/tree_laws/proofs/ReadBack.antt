@@ -1,5 +1,5 @@
 -- A well-formed tree whose stored form stands at its place is read back from there, without refusal.
---   read-back : .. WellFormed levels class at tree → Stands bytes at (stored tree) end → Found (read levels bytes class at) tree end
+--   read_back : .. WellFormed levels class at tree → Stands bytes at (stored tree) end → Found (read levels bytes class at) tree end
 use mathlib.Core.Path.{◌≡◌, refl, sym, ap, ◌∙◌}
 use mathlib.Core.List.{List, [], ◌∷◌, ◌++◌, map, append-nil}
 use mathlib.Core.Bool.{Bool, true, false, ◌||◌}

@@ -8,11 +8,11 @@ use Rattle.chunks.proofs.list.check_chunks.Goals as goal
 
 pub returns-then-length-gt1048576 : goal.returns-then-length-gt1048576
 returns-then-length-gt1048576 c =
-    let told = judged_numbers (list_numbers_lem _) (sym (too_long _ c.if-length-gt1048576.true)) in
+    let told = judged_numbers (list_numbers_lem _) (sym (too_long c.args.list.now (omega arith))) in
     record { answer = told.0; numbers = told.1 }
 
 pub check_layout-requires : goal.check_layout-requires
-check_layout-requires c = (c.if-length-gt1048576.false, sym c.is_accepted.ensures ∙ c.if-is_accepted.true)
+check_layout-requires c = (omega arith, sym c.is_accepted.ensures ∙ c.if-is_accepted.true)
 
 pub returns-then-is_accepted : goal.returns-then-is_accepted
 returns-then-is_accepted c =
@@ -27,7 +27,7 @@ returns-in_default c =
     let turn = c.loop-at in
     let none = sym c.chunk_at-found.ensures.answer ∙ c.in_default.is in
     let told = judged_numbers (list_numbers_lem _) (sym (bad_chunk c.args.list.now turn.at turn.fault
-    c.if-length-gt1048576.false turn.invariant c.loop-at-test.true none)) in
+    (omega arith) turn.invariant c.loop-at-test.true none)) in
     record { answer = told.0; numbers = told.1 }
 
 pub fault_in-fault-requires : goal.fault_in-fault-requires
@@ -46,12 +46,12 @@ pub returns-then-fault-length : goal.returns-then-fault-length
 returns-then-fault-length c =
     let turn = c.loop-at in
     let told = judged_numbers (list_numbers_lem _) (sym (bad_byte c.args.list.now turn.at turn.fault
-    c.if-length-gt1048576.false turn.invariant c.loop-at-test.false c.if-fault-length.true)) in
+    (omega arith) turn.invariant c.loop-at-test.false c.if-fault-length.true)) in
     record { answer = told.0; numbers = told.1 }
 
 pub returns : goal.returns
 returns c =
     let turn = c.loop-at in
     let told = judged_numbers (list_numbers_lem _) (sym (all_good c.args.list.now turn.at turn.fault
-    c.if-length-gt1048576.false turn.invariant c.loop-at-test.false c.if-fault-length.false)) in
+    (omega arith) turn.invariant c.loop-at-test.false c.if-fault-length.false)) in
     record { answer = told.0; numbers = told.1 }

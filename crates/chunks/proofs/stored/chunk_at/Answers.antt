@@ -1,9 +1,9 @@
 -- Each answer is the one that the definition has after the same tests; what is found fits since every element is a byte.
-use Prim.Native.Nat.{◌+◌}
+use Prim.Native.Nat.{◌+◌, ◌%◌}
 use mathlib.Core.Path.{◌≡◌, sym, ◌∙◌}
 use native.Mathlib.Omega.{arith}
 use borrow.Author.Tests.{lt-ltb, le-ltb, le-leb, lt-leb, eq-eqb}
-use Rattle.chunks.specs.Reading.{chunk_at}
+use Rattle.chunks.specs.Reading.{type_of, chunk_at}
 use Rattle.chunks.proofs.Reading.{chunk_plain, chunk_indented, indent_zero, indent_deep, indent_text, chunk_fits}
 use Rattle.chunks.proofs.stored.chunk_at.Goals as goal
 
@@ -44,7 +44,7 @@ returns-then-indent-eq0 c = record {
 pub returns-then-indent-gt4096 : goal.returns-then-indent-gt4096
 returns-then-indent-gt4096 c = record {
   answer = sym (chunk_indented c.args.list.now c.args.at c.if-list-at.false c.wide-map.ensures.0 c.if-map-gt7.false
-      c.if-bits-eq3.false c.if-map-lt4.false (sym c.read_number-number.ensures ∙ c.in-Read.is) ∙ indent_deep _ _ _ _ c.if-indent-gt4096.true);
+      c.if-bits-eq3.false c.if-map-lt4.false (sym c.read_number-number.ensures ∙ c.in-Read.is) ∙ indent_deep c.args.list.now (c.args.at + 1) (type_of (c.wide-map.result % 4)) c.in-Read.indent (omega arith));
   fits = tt;
 }
 
@@ -52,6 +52,6 @@ pub returns : goal.returns
 returns c =
     let next : c.args.at + 3 ≡ c.args.at + 1 + 2 = omega arith in
     let text = chunk_indented c.args.list.now c.args.at c.if-list-at.false c.wide-map.ensures.0 c.if-map-gt7.false
-    c.if-bits-eq3.false c.if-map-lt4.false (sym c.read_number-number.ensures ∙ c.in-Read.is) ∙ indent_text _ _ _ _ c.if-indent-eq0.false c.if-indent-gt4096.false in
+    c.if-bits-eq3.false c.if-map-lt4.false (sym c.read_number-number.ensures ∙ c.in-Read.is) ∙ indent_text c.args.list.now (c.args.at + 1) (type_of (c.wide-map.result % 4)) c.in-Read.indent c.if-indent-eq0.false (omega arith) in
     let same : c.text_at-2.result ≡ chunk_at c.args.list.now c.args.at = c.text_at-2.ensures ∙ rw (next, c.type_of-ty.ensures) (sym text) in
     record { answer = same; fits = rw same (chunk_fits c.args.list.now c.args.at (λ i. omega (arith, c.type_inv.list i))) }
