@@ -34,7 +34,7 @@ INSIDE_SCAN = {"rust": "*rust_has_ink*", "port": "felgutrosa_has_ink"}
 def build(sources):
     """Builds the static library, the oracle and the programs of bench/rust."""
     if "FELGUTROSA_LIB" not in os.environ:
-        subprocess.run(["rt", "lib"], cwd=REPOSITORY / "crates" / "exports", check=True, stdout=subprocess.DEVNULL)
+        subprocess.run([REPOSITORY / "bin" / "staticlib"], check=True, stdout=subprocess.DEVNULL)
     folder = Path(os.environ.get("CARGO_TARGET_DIR", REPOSITORY / "target" / "bench")).resolve()
     environment = dict(os.environ, CARGO_TARGET_DIR=str(folder), MOS_CORE_SRC=str(Path(sources).resolve()))
     for project in (REPOSITORY / "tools" / "oracle", HOME / "rust"):

@@ -18,6 +18,7 @@ ROOT = Path(__file__).resolve().parent.parent
 
 # crate: left, top, width, height, what it is, in as many lines as there are parts
 BOXES = {
+    "exports_c": (20, 50, 124, 66, "the same as a|static library"),
     "exports": (160, 50, 200, 66, "for other languages:|one packed number"),
     "samples": (376, 50, 165, 66, "a program: document|01's samples"),
     "replay": (557, 50, 175, 66, "a program: answers|a stream of cases"),
@@ -74,6 +75,7 @@ ARROWS = [
 
 # which calls it, or states laws of it: the crate, and the points of the line
 CALLS = [
+    ("exports_c", [(144, 83), (160, 83)]),
     ("exports", [(260, 116), (260, 152)]),
     ("samples", [(458, 116), (458, 152)]),
     ("replay", [(645, 116), (645, 152)]),

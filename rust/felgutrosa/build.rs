@@ -1,20 +1,16 @@
-//! Finds the static library of crate `exports`, or has it proved and built where there is none.
+//! Finds the static library of crate `exports_c`, or has it proved and built where there is none.
 use std::env;
 use std::path::{Path, PathBuf};
 use std::process::{Command, exit};
 
-/// The folder that `rt lib` writes to, in crate `exports` of the repository of which this crate is a part.
+/// The folder that `bin/staticlib` writes to, in the repository of which this crate is a part.
 fn built_here(repository: &Path) -> PathBuf {
-    let exports = repository.join("crates/exports");
-    let folder = exports.join("out");
+    let folder = repository.join("target/staticlib");
     if !folder.join("libexports.a").exists() {
-        let done = Command::new("rt")
-            .arg("lib")
-            .current_dir(&exports)
-            .status();
+        let done = Command::new(repository.join("bin/staticlib")).status();
         if !done.is_ok_and(|status| status.success()) {
             eprintln!(
-                "`rt lib` in crates/exports gave no library; or set FELGUTROSA_LIB to the folder of libexports.a"
+                "`bin/staticlib` gave no library; or set FELGUTROSA_LIB to the folder of libexports.a"
             );
             exit(1);
         }

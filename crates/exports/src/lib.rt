@@ -1,6 +1,6 @@
-// The calls as programs in other languages link them: each slice is a pointer and a length, and the answer one number,
-// 2^32 times the refusal's number plus the text's length or the place (but of `has_ink`, which refuses nothing: a
-// `bool`). They ask nothing of their caller, and their promises are those of the calls that they wrap.
+// The calls for programs in other languages, which link them by crate `exports_c`: the answer is one number, 2^32 times
+// the refusal's number plus the text's length or the place (but of `has_ink`, which refuses nothing: a `bool`). They ask
+// nothing of their caller, and their promises are those of the calls that they wrap.
 #![tactic(auto)]
 
 ghost use Rattle.std.specs.Prelude.{◌≡◌, not, length};
@@ -33,8 +33,7 @@ fn packed(answer: Answer) -> u64
 }
 
 // `join::join_chunks`: the text of a stored chunk list, or refusal 1, 2, 6, 7 or 9.
-#[unsafe(no_mangle)]
-pub extern "C" fn felgutrosa_join_chunks(chunks: &[u8], options: &[u8], text: &mut [u8]) -> u64
+pub fn felgutrosa_join_chunks(chunks: &[u8], options: &[u8], text: &mut [u8]) -> u64
     ensures answer { let outcome = join_outcome chunks.now options.now in
         result ≡ packed_of (answer_in outcome (length text.old)) }
     ensures small { let outcome = join_outcome chunks.now options.now in
@@ -48,8 +47,7 @@ pub extern "C" fn felgutrosa_join_chunks(chunks: &[u8], options: &[u8], text: &m
 }
 
 // `tree::check_tree`: whether bytes are a stored tree; 0, or refusal 3, 4, 5 or 7.
-#[unsafe(no_mangle)]
-pub extern "C" fn felgutrosa_check_tree(tree: &[u8]) -> u64
+pub fn felgutrosa_check_tree(tree: &[u8]) -> u64
     ensures answer { result ≡ packed_of (answer_of (batch_checked tree.now)) }
     ensures small { Small (answer_of (batch_checked tree.now)) }
 {
@@ -58,8 +56,7 @@ pub extern "C" fn felgutrosa_check_tree(tree: &[u8]) -> u64
 }
 
 // `tokens::chunks`: the chunks of a stored tree, stored at the start of the work room; or refusal 1, 2, 3, 4, 5, 7 or 8.
-#[unsafe(no_mangle)]
-pub extern "C" fn felgutrosa_chunks(tree: &[u8], options: &[u8], room: &mut [u8]) -> u64
+pub fn felgutrosa_chunks(tree: &[u8], options: &[u8], room: &mut [u8]) -> u64
     ensures answer { let held = chunks_held tree.now options.now (length room.old) in
         result ≡ packed_of (chunks_answer held) }
     ensures small { let held = chunks_held tree.now options.now (length room.old) in
@@ -72,13 +69,7 @@ pub extern "C" fn felgutrosa_chunks(tree: &[u8], options: &[u8], room: &mut [u8]
 }
 
 // `formatting::format`: the text of a stored tree, or refusal 1, 2, 3, 4, 5, 7, 8 or 9. The work room is all zeros afterwards.
-#[unsafe(no_mangle)]
-pub extern "C" fn felgutrosa_format(
-    tree: &[u8],
-    options: &[u8],
-    work: &mut [u8],
-    text: &mut [u8],
-) -> u64
+pub fn felgutrosa_format(tree: &[u8], options: &[u8], work: &mut [u8], text: &mut [u8]) -> u64
     ensures answer { let lesson = formatted tree.now options.now (length work.old) in
         result ≡ packed_of (answer_in lesson (length text.old)) }
     ensures small { let lesson = formatted tree.now options.now (length work.old) in
@@ -105,8 +96,7 @@ fn loss_answer(loss: Loss) -> Answer
 }
 
 // `losses::lost`: the first record at or after an offset that uses one of the eight places; or refusal 3, 4, 5 or 7.
-#[unsafe(no_mangle)]
-pub extern "C" fn felgutrosa_lost(tree: &[u8], from: usize) -> u64
+pub fn felgutrosa_lost(tree: &[u8], from: usize) -> u64
     ensures answer { result ≡ packed_of (loss_answer (lost_from from tree.now)) }
     ensures small { Small (loss_answer (lost_from from tree.now)) }
     ensures narrow { Narrow (lost_from from tree.now) }
@@ -116,8 +106,7 @@ pub extern "C" fn felgutrosa_lost(tree: &[u8], from: usize) -> u64
 }
 
 // `text::scans::has_ink`: whether a line has a byte that is not blank. It reads no further than the first.
-#[unsafe(no_mangle)]
-pub extern "C" fn felgutrosa_has_ink(line: &[u8]) -> bool
+pub fn felgutrosa_has_ink(line: &[u8]) -> bool
     ensures { result ≡ not (all_blank line.now) }
 {
     scans::has_ink(line)
