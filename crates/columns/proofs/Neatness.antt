@@ -92,8 +92,9 @@ module _ (margins : Margins) where
   kept_plain before line [] none tidy = refl
   kept_plain before line (piece ∷ ps) none (tidy, rest) =
       let n = length line.bytes in
+      let together = tidy_append line.bytes (added margins n piece) none (added_tidy n piece tidy) in
       kept_cases (λ (lines : List Line). plain (map (set_line margins) lines) ≡ true) margins before line piece ps
-      (λ e k. rw (set_plain (add margins line piece) (tidy_append line.bytes (added margins n piece) none (added_tidy n piece tidy))) (kept_plain (kept_before margins (add margins line piece).bytes) fresh ps refl rest))
+      (λ e k. rw (set_plain (add margins line piece) together) (kept_plain (kept_before margins (add margins line piece).bytes) fresh ps refl rest))
       (λ e k. kept_plain before fresh ps refl rest)
       (λ e. kept_plain before (add margins line piece) ps (newline_append line.bytes (added margins n piece) ∙ rw none (added_plain n piece e)) rest)
 

@@ -27,7 +27,8 @@ first_refusal (Error text) = first_refusal text
 first_refusal (Expression expression) = first_refusal expression
 first_refusal (If tag_if value then tag_else otherwise) =
     and_then (first_refusal tag_if) (and_then (first_refusal value) (and_then (first_refusal then) (and_then (first_refusal tag_else) (first_refusal otherwise))))
-first_refusal (Import tag args source filename block) = and_then (first_refusal tag) (and_then (first_refusal args) (and_then (first_refusal source) (and_then (first_refusal filename) (first_refusal block))))
+first_refusal (Import tag args source filename block) =
+    and_then (first_refusal tag) (and_then (first_refusal args) (and_then (first_refusal source) (and_then (first_refusal filename) (first_refusal block))))
 first_refusal (File tag filename) = and_then (first_refusal tag) (first_refusal filename)
 first_refusal (Instruction mnemonic operand) = and_then (first_refusal mnemonic) (first_refusal operand)
 first_refusal (Label id colon block) = and_then (first_refusal id) (and_then (first_refusal colon) (first_refusal block))
@@ -54,7 +55,8 @@ first_refusal (IdentifierValue path modifier) = and_then (first_refusal path) (f
 first_refusal (Number ty value) = and_then (first_refusal ty) (first_refusal value)
 first_refusal (StringFactor string) = first_refusal string
 first_refusal (InterpolatedString lquote items) = and_then (first_refusal lquote) (first_refusal items)
-first_refusal (Operand expr lchar rchar mode suffix) = and_then (first_refusal expr) (and_then (first_refusal lchar) (and_then (first_refusal rchar) (and_then (first_refusal mode) (first_refusal suffix))))
+first_refusal (Operand expr lchar rchar mode suffix) =
+    and_then (first_refusal expr) (and_then (first_refusal lchar) (and_then (first_refusal rchar) (and_then (first_refusal mode) (first_refusal suffix))))
 first_refusal (RegisterSuffix comma register) = and_then (first_refusal comma) (first_refusal register)
 first_refusal (ImportAs tag path) = and_then (first_refusal tag) (first_refusal path)
 first_refusal (ImportAll star alias) = and_then (first_refusal star) (first_refusal alias)

@@ -42,7 +42,8 @@ class_uses class listed tree =
     cond (eqb (class_number class) (class_number OpenBrace)) (mark (stands_at tree) opening_brace (at_opening_brace listed tree))
     (cond (eqb (class_number class) (class_number Colon)) (mark (stands_at tree) label_colon (at_label_colon tree))
     (cond (eqb (class_number class) (class_number IndexRegister)) (mark (stands_at tree) register_letter (at_register_letter tree))
-    (cond ((eqb (class_number class) (class_number BareToken) || eqb (class_number class) (class_number LocatedToken)) && not listed) (mark (stands_at (head_of tree)) value_head (at_value_head tree)) [])))
+    (cond ((eqb (class_number class) (class_number BareToken) || eqb (class_number class) (class_number LocatedToken)) && not listed)
+    (mark (stands_at (head_of tree)) value_head (at_value_head tree)) [])))
 
 -- all uses of a record of a class
 abbrev pub seen_in : Class → Bool → Tree → List Use

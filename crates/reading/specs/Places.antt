@@ -101,7 +101,8 @@ places_in listed (VariableDefinition ty id eq value) = places_in false ty ++ (pl
 places_in listed (Vec items) = places_in listed items
 places_in listed (Leaf text) = []
 places_in listed (PathItem text) = []
-places_in listed (Block lparen inner rparen) = mark (stands_at lparen) opening_brace (at_opening_brace listed lparen) ++ (places_in listed lparen ++ (places_in listed inner ++ places_in listed rparen))
+places_in listed (Block lparen inner rparen) =
+    mark (stands_at lparen) opening_brace (at_opening_brace listed lparen) ++ (places_in listed lparen ++ (places_in listed inner ++ places_in listed rparen))
 places_in listed (BinaryExpression op lhs rhs) = places_in false op ++ (places_in false lhs ++ places_in false rhs)
 places_in listed (Factor factor tag_not tag_neg) = places_in false factor ++ (places_in false tag_not ++ places_in false tag_neg)
 places_in listed (CurrentProgramCounter star) = places_in false star

@@ -120,7 +120,8 @@ stored_with trivia (Error text) = stored_node kinds.error trivia (stored_with []
 stored_with trivia (Expression expression) = stored_node kinds.expression trivia (stored_with [] expression ∷ [])
 stored_with trivia (If tag_if value then tag_else otherwise) =
     stored_node kinds.if trivia (stored_with [] tag_if ∷ stored_with [] value ∷ stored_with [] then ∷ stored_with [] tag_else ∷ stored_with [] otherwise ∷ [])
-stored_with trivia (Import tag args source filename block) = stored_node kinds.import trivia (stored_with [] tag ∷ stored_with [] args ∷ stored_with [] source ∷ stored_with [] filename ∷ stored_with [] block ∷ [])
+stored_with trivia (Import tag args source filename block) =
+    stored_node kinds.import trivia (stored_with [] tag ∷ stored_with [] args ∷ stored_with [] source ∷ stored_with [] filename ∷ stored_with [] block ∷ [])
 stored_with trivia (File tag filename) = stored_node kinds.file trivia (stored_with [] tag ∷ stored_with [] filename ∷ [])
 stored_with trivia (Instruction mnemonic operand) = stored_node kinds.instruction trivia (stored_with [] mnemonic ∷ stored_with [] operand ∷ [])
 stored_with trivia (Label id colon block) = stored_node kinds.label trivia (stored_with [] id ∷ stored_with [] colon ∷ stored_with [] block ∷ [])

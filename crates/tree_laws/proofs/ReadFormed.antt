@@ -17,7 +17,8 @@ use Rattle.text.specs.Accepted.{accepted_text}
 use Rattle.text.proofs.Choices.{by_test, true_false, and_true_left, and_true_right}
 use Rattle.tree.specs.Grammar.{Slot, must, may, kind_of, rule, fields}
 use Rattle.tree.specs.Tree.{Tree, Trivium, absent, node, built}
-use Rattle.tree.specs.Own.{is_list, may_stand, fields_fit, text_fits, else_fits, trivia_fits, map_fits, trivium_end, trivia_end, behind, trivia_read, text_on, text_end, rest_of, leaf_on, own_of, read_own}
+use Rattle.tree.specs.Own.{is_list, may_stand, fields_fit, text_fits, else_fits, trivia_fits, map_fits}
+use Rattle.tree.specs.Own.{trivium_end, trivia_end, behind, trivia_read, text_on, text_end, rest_of, leaf_on, own_of, read_own}
 use Rattle.tree.specs.Reading.{Placed, trivium_behind, trivium_text, trivia_from, text_of, trivia_texts, texts_of, Due, due, slot_class, fields_due, parts_due, Reading, read_parts, record_of, read}
 use Rattle.tree.specs.Stored.{stored_trivium, stored_items, stored_trivia, stored_with, stored}
 use Rattle.tree.specs.Checking.{texts_checked}

@@ -85,7 +85,8 @@ mode_entries = refl
 -- ---- the classes that show their text
 
 -- a class that is none of the nine enums prints its text
-pub other_form : (given : Class) → (given ≡ class.Mnemonic → ⊥) → (given ≡ class.IndexRegister → ⊥) → (given ≡ class.AddressModifier → ⊥) → (given ≡ class.VariableType → ⊥) → (given ≡ class.NumberType → ⊥)
+pub other_form : (given : Class) → (given ≡ class.Mnemonic → ⊥) → (given ≡ class.IndexRegister → ⊥) → (given ≡ class.AddressModifier → ⊥)
+    → (given ≡ class.VariableType → ⊥) → (given ≡ class.NumberType → ⊥)
     → (given ≡ class.DataSize → ⊥) → (given ≡ class.BinaryOp → ⊥) → (given ≡ class.TextEncoding → ⊥) → (given ≡ class.AddressingMode → ⊥) → Text ≡ form_of given
 other_form class.Word _ _ _ _ _ _ _ _ _ = refl
 other_form class.Char _ _ _ _ _ _ _ _ _ = refl

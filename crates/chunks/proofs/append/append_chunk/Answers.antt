@@ -48,7 +48,8 @@ overflow_add-end-2 c = omega (arith, indent_length c.args.indent)
 
 pub returns-then-limit-end : goal.returns-then-limit-end
 returns-then-limit-end c =
-    let told = append_no_room _ _ (handed c.args.ty c.args.indent c.args.spaced c.args.colon c.args.text.now) (passed _ (omega arith) (omega arith) (omega arith)) (omega arith) (omega (arith, chunk_length (handed c.args.ty c.args.indent c.args.spaced c.args.colon c.args.text.now))) (omega arith) in
+    let chunk = handed c.args.ty c.args.indent c.args.spaced c.args.colon c.args.text.now in
+    let told = append_no_room _ _ chunk (passed chunk (omega arith) (omega arith) (omega arith)) (omega arith) (omega (arith, chunk_length chunk)) (omega arith) in
     record { answer = told.0; room = told.1 }
 
 pub store_head-behind-requires : goal.store_head-behind-requires
@@ -61,7 +62,8 @@ store_text-requires c =
 
 pub returns : goal.returns
 returns c =
-    let told = append_stored _ _ (handed c.args.ty c.args.indent c.args.spaced c.args.colon c.args.text.now) (passed _ (omega arith) (omega arith) (omega arith)) (omega arith) (omega (arith, chunk_length (handed c.args.ty c.args.indent c.args.spaced c.args.colon c.args.text.now))) (omega arith)
-    (chunk_stores c.args.room.now c.args.used (handed c.args.ty c.args.indent c.args.spaced c.args.colon c.args.text.now) c.text_length-count.ensures c.store_head-behind.ensures.answer c.store_head-behind.ensures.room
-    c.store_text.ensures) in
+    let chunk = handed c.args.ty c.args.indent c.args.spaced c.args.colon c.args.text.now in
+    let told = append_stored _ _ chunk (passed chunk (omega arith) (omega arith) (omega arith)) (omega arith) (omega (arith, chunk_length chunk)) (omega arith)
+    (chunk_stores c.args.room.now c.args.used chunk c.text_length-count.ensures
+    c.store_head-behind.ensures.answer c.store_head-behind.ensures.room c.store_text.ensures) in
     record { answer = told.0; room = told.1 }

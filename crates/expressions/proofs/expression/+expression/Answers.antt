@@ -343,9 +343,11 @@ unfolding built field_trees fields_end events_in bit_at kind_number stored_with
 format_expression_factor-returns-in_default-kind t c =
     let opens = c.open-opened.ensures.opens in
     let is = c.in-Record.is in
+    let other = c.in_default-kind in
+    let kind = counter_is opens is other.not-ExprParens other.not-FunctionCall other.not-IdentifierValue other.not-Number other.not-StringFactor in
     let done = c.in-Done.is in
     rw done
-    (opened_kind opens is (leaf plain) variant.CurrentProgramCounter (counter_is opens is c.in_default-kind.not-ExprParens c.in_default-kind.not-FunctionCall c.in_default-kind.not-IdentifierValue c.in_default-kind.not-Number c.in_default-kind.not-StringFactor) refl
+    (opened_kind opens is (leaf plain) variant.CurrentProgramCounter kind refl
     (record { from = λ at here. c.character.ensures.from at here }))
 
 -- ---- format_factor: the signs are printed behind the factor that was skipped, and the walk goes back to it; without signs nothing is skipped

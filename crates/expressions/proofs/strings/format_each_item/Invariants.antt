@@ -16,8 +16,10 @@ use Rattle.expressions.proofs.strings.format_each_item.Given as goal
 abbrev pub invariant-loop-left : goal.invariant-loop-left
 invariant-loop-left l =
     (length l.room ≡ length l.initial.room) × ((start : ℕ) → place_of l.initial.answer start ≡ start → (at : ℕ) × (place_of l.answer at ≡ at) × ((r : Printed) (w : List ℕ)
-    → Shown r w (events_in l.context in_string true (chain (item_trees (read l.levels l.tree) StringItem l.left at))) (outcome l.answer l.room) (items_end (read l.levels l.tree) StringItem l.left at)
-    → Shown r w (events_in l.context in_string true (chain (item_trees (read l.levels l.tree) StringItem l.count start))) (outcome l.initial.answer l.initial.room) (items_end (read l.levels l.tree) StringItem l.count start)))
+    → Shown r w (events_in l.context in_string true (chain (item_trees (read l.levels l.tree) StringItem l.left at))) (outcome l.answer l.room)
+    (items_end (read l.levels l.tree) StringItem l.left at)
+    → Shown r w (events_in l.context in_string true (chain (item_trees (read l.levels l.tree) StringItem l.count start))) (outcome l.initial.answer l.initial.room)
+    (items_end (read l.levels l.tree) StringItem l.count start)))
 
 abbrev pub decreases-loop-left : goal.decreases-loop-left
 decreases-loop-left l = l.left

@@ -22,4 +22,8 @@ returns-in_default-read c =
 
 pub returns : goal.returns
 returns c =
-    let own = c.read_own-read.ensures in record { unused = λ none. absurd (c.if-spot-eq-NONE.false none); takes = head_taken _ _ _ _ c.head_place-place.ensures.answer _ c.in-Found.is own.answer _ own.fits c.in-Record.is c.own_use.ensures }
+    let own = c.read_own-read.ensures in
+    record {
+      unused = λ none. absurd (c.if-spot-eq-NONE.false none);
+      takes = head_taken _ _ _ _ c.head_place-place.ensures.answer _ c.in-Found.is own.answer _ own.fits c.in-Record.is c.own_use.ensures;
+    }

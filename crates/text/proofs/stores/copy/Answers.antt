@@ -36,4 +36,6 @@ shape_of-buffer c = c.loop-i.invariant.1
 pub returns : goal.returns
 returns c =
     let turn = c.loop-i in
-    let room : c.args.at + length c.args.bytes.now ≤ length c.args.buffer.now = omega arith in record { answer = simp (le-leb _ _ room); buffer = simp (le-leb _ _ room) (sym (ap (sets turn.buffer (c.args.at + turn.i)) (drop_of_length-le c.args.bytes.now c.loop-i-test.false)) ∙ turn.invariant.2) }
+    let room : c.args.at + length c.args.bytes.now ≤ length c.args.buffer.now = omega arith in
+    let left = ap (sets turn.buffer (c.args.at + turn.i)) (drop_of_length-le c.args.bytes.now c.loop-i-test.false) in
+    record { answer = simp (le-leb _ _ room); buffer = simp (le-leb _ _ room) (sym left ∙ turn.invariant.2) }

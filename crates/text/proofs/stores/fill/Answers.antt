@@ -41,4 +41,6 @@ returns c =
     let turn = c.loop-i in
     let run = replicate c.args.count c.args.byte in
     let room : c.args.at + c.args.count ≤ length c.args.buffer.now = omega arith in
-    let past : length run ≤ turn.i = omega (arith, length-replicate c.args.count c.args.byte) in record { answer = simp (length-replicate, le-leb _ _ room); buffer = simp (length-replicate, le-leb _ _ room) (sym (ap (sets turn.buffer (c.args.at + turn.i)) (drop_of_length-le run past)) ∙ turn.invariant.2) }
+    let past : length run ≤ turn.i = omega (arith, length-replicate c.args.count c.args.byte) in
+    let left = ap (sets turn.buffer (c.args.at + turn.i)) (drop_of_length-le run past) in
+    record { answer = simp (length-replicate, le-leb _ _ room); buffer = simp (length-replicate, le-leb _ _ room) (sym left ∙ turn.invariant.2) }

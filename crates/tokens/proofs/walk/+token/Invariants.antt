@@ -39,7 +39,8 @@ invariant-format_each_token-loop-left l =
     (length l.room ≡ length l.initial.room) × ((start : ℕ) → place_of l.initial.answer start ≡ start → (at : ℕ) × (place_of l.answer at ≡ at)
     × ((said : Printed) (after : List ℕ)
     → Shown said after (rest_events l.context l.block l.levels l.tree l.before l.left at) (outcome l.answer l.room) (items_end (read (l.levels - 1) l.tree) BareToken l.left at)
-    → Shown said after (each_events l.context l.block l.levels l.tree l.initial.left start) (outcome l.initial.answer l.initial.room) (items_end (read (l.levels - 1) l.tree) BareToken l.initial.left start)))
+    → Shown said after (each_events l.context l.block l.levels l.tree l.initial.left start) (outcome l.initial.answer l.initial.room)
+    (items_end (read (l.levels - 1) l.tree) BareToken l.initial.left start)))
 
 abbrev pub decreases-format_each_token-loop-left : goal.decreases-format_each_token-loop-left
 decreases-format_each_token-loop-left l =

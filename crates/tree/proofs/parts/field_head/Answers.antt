@@ -10,7 +10,9 @@ returns-then-number-eq-DATA c = simp (eq-eqb _ _ c.if-number-eq-DATA.true) (c.se
 
 pub returns-then-number-eq-BINARY_EXPRESSION : goal.returns-then-number-eq-BINARY_EXPRESSION
 unfolding field_head
-returns-then-number-eq-BINARY_EXPRESSION c = simp (ne_eqb _ _ c.if-number-eq-DATA.false, eq-eqb _ _ c.if-number-eq-BINARY_EXPRESSION.true) (c.second_field-then-number-eq-BINARY_EXPRESSION.ensures ∙ ap (second_field _ _) c.skip-op.ensures.answer)
+returns-then-number-eq-BINARY_EXPRESSION c =
+    simp (ne_eqb _ _ c.if-number-eq-DATA.false, eq-eqb _ _ c.if-number-eq-BINARY_EXPRESSION.true)
+    (c.second_field-then-number-eq-BINARY_EXPRESSION.ensures ∙ ap (second_field _ _) c.skip-op.ensures.answer)
 
 pub returns : goal.returns
 unfolding field_head

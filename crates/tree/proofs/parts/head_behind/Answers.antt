@@ -21,7 +21,10 @@ pub returns-then-number-eq-BRACES : goal.returns-then-number-eq-BRACES
 returns-then-number-eq-BRACES c =
     let told = behind_known _ _ _ _ _
     (head_block _ _ _ _ _ c.if-levels-eq0.false c.if-tree-at.false _ c.wide-number.ensures.0 _
-    (⊎_elim (λ (one : c.wide-number.result ≡ 2). simp (eq-eqb _ _ one)) (λ (other : (c.wide-number.result ≢ 2) × (c.wide-number.result ≡ 3)). simp (ne_eqb _ _ other.0, eq-eqb _ _ other.1)) c.then-number-eq-BRACES.either)
+    (⊎_elim
+    (λ (one : c.wide-number.result ≡ 2). simp (eq-eqb _ _ one))
+    (λ (other : (c.wide-number.result ≢ 2) × (c.wide-number.result ≡ 3)). simp (ne_eqb _ _ other.0, eq-eqb _ _ other.1))
+    c.then-number-eq-BRACES.either)
     c.inner_head.ensures) in
     record { answer = told.0; numbers = told.1 }
 
