@@ -35,7 +35,7 @@ CLAUSE = re.compile(r"^ *(?:requires|ensures)(?: [\w-]+)? \{", re.MULTILINE)
 LAW = re.compile(r"(?:pub )?([^\s(){}:]+) : (.*)")
 DEFINED = re.compile(r"^(?:(?:abbrev|unfoldable|pub|record|data) )*([^\s(){}:]+)(?= .*:)", re.MULTILINE)
 # what a function's proof is written in: no laws
-PROOFS = ("/Proof.antt", "/Invariants.antt", "/Answers.antt")
+PROOFS = ("/Invariants.antt", "/Answers.antt")
 BINDER = re.compile(r"[({]([^(){}:→]+) : |λ ([^().]+)\.")
 WORD = re.compile(r"\.?[^\s(){}.,]+|[(){}.,]")
 

@@ -31,6 +31,10 @@ def read(path):
         return f.read()
 
 
+def source_files():
+    return sorted(glob.glob("crates/*/src/**/*.rt", recursive=True))
+
+
 def snake(name):
     name = re.sub(r"(?<=[a-z0-9])([A-Z])", lambda m: "_" + m.group(1).lower(), name)
     return name.replace("-", "_")
@@ -65,8 +69,7 @@ def gather():
                 kit.add(name)
         if not p.endswith(("/Proof.antt", "/Answers.antt", "/Invariants.antt")):
             dashed.update(n for n in defined_names(t) if "-" in n and re.match(r"[a-z]", n))
-    sources = sorted(glob.glob("crates/*/src/**/*.rt", recursive=True))
-    for p in list(texts) + sources:
+    for p in list(texts) + source_files():
         t = STRING.sub("", texts.get(p) or read(p))
         for w in TOKEN.findall(t):
             if re.fullmatch(r"[a-z][a-z0-9]*(?:[A-Z][a-z0-9]*)+[₀₁₂']*", w):
@@ -132,7 +135,7 @@ def defined_names(text):
 LOCAL = re.compile(r"(?:\blet |\bas )([a-z][a-z0-9_]*(?:-[a-z0-9_]+)+)(?=[\s;,}])")
 
 
-def respell(text, table, path):
+def respell(text, table):
     known = aliases(text)
     words = set(TOKEN.findall(text))
     words |= set(table.get(w, w) for w in words)
@@ -159,7 +162,7 @@ def respell(text, table, path):
 
 def respell_document(text, table):
     def part(m):
-        return respell(m.group(), table, "")
+        return respell(m.group(), table)
     return re.sub(r"`[^`\n]+`", part, text)
 
 
@@ -183,7 +186,7 @@ def main():
         for old, new in table.items():
             print(old, new)
         return
-    paths = proof_files() + sorted(glob.glob("crates/*/src/**/*.rt", recursive=True)) + sorted(glob.glob("crates/*/must-fail/*.edit"))
+    paths = proof_files() + source_files() + sorted(glob.glob("crates/*/must-fail/*.edit"))
     texts = {p: read(p) for p in paths}
     found, same = collisions(table, texts)
     for (old, new), where in sorted(found.items()):
@@ -194,15 +197,15 @@ def main():
         print("nothing was written: --write writes all the same")
         raise SystemExit(1)
     documents = ["README.md", "NOTICE"] + glob.glob("docs/**/*.md", recursive=True) + glob.glob("crates/*/*.md") + glob.glob("tools/*.md")
+    turned = {n: snake(n) for n in TURNED} | table
     for p, t in texts.items():
         new = t
         for definition, old, lemma in LEMMAS:
             if "/proofs/" in p and re.search(rf"(?<![\w-]){definition}(?![\w-])", new):
                 new = re.sub(r"(?<![\w.'-])" + old + r"(?![\w'-])", lemma, new)
-        new = respell(new, {n: snake(n) for n in TURNED} | table if p.endswith(".edit") else table, p)
+        new = respell(new, turned if p.endswith(".edit") else table)
         if new != t:
             open(p, "w", encoding="utf-8").write(new)
-    turned = {n: snake(n) for n in TURNED} | table
     for p in documents:
         t = read(p)
         new = respell_document(t, turned)

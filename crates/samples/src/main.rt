@@ -181,7 +181,7 @@ fn show_labels_and_code(rt: &impl Print) -> io::Result<()> {
     )
 }
 
-// Comments.
+// A comment alone, before code, of two lines, and the empty lines behind code.
 fn show_comments(rt: &impl Print) -> io::Result<()> {
     show_join(rt, b"comment", b"\x02\x04\x00// c", b"\x00", 64)?;
     show_join(

@@ -2,9 +2,9 @@
 use mathlib.Core.Path.{◌≡◌, refl, sym, ◌∙◌}
 use mathlib.Core.List.{List, [], ◌∷◌, ◌++◌}
 use mathlib.Core.Bool.{true, false, ◌&&◌}
-use Prim.Native.Nat.{ℕ, zero, suc, ◌≤◌, ◌<◌, max}
+use Prim.Native.Nat.{ℕ, zero, suc, ◌-◌, ◌≤◌, ◌<◌, max}
 use native.Mathlib.Omega.{arith}
-use lib.ListN.{length, take, drop, take-append-drop}
+use lib.ListN.{length, take, drop, take-append-drop, length-take, length-drop}
 use lib.Seq.{slice}
 use lib.Dec.{leb}
 use borrow.Author.Tests.{le-leb, lt-leb, leb-true, leb-false}
@@ -43,6 +43,12 @@ fault_accepted xs e = by_test (accepted_text xs) (λ q. q) (λ q. absurd (omega 
 -- the first byte that is not accepted stands within the text, or at its end where all are
 pub fault_within : (text : List ℕ) → fault_at text ≤ length text
 fault_within text = by_test (accepted_text text) (λ t. omega (arith, fault_none text t)) (λ t. omega (arith, fault_some text t))
+
+-- so does that of a part, as the code takes one
+pub fault_part : (from to : ℕ) (list : List ℕ) → to ≤ length list → fault_at (take (to - from) (drop from list)) ≤ to - from
+fault_part from to list within =
+    let size : length (take (to - from) (drop from list)) ≡ to - from = simp (length-take, length-drop) (omega arith) in
+    omega (arith, fault_within (take (to - from) (drop from list)), size)
 
 -- a part of an accepted text is accepted
 pub accepted_part : (from to : ℕ) (text : List ℕ) → accepted_text text ≡ true → accepted_text (slice from to text) ≡ true

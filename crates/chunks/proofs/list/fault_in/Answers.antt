@@ -1,21 +1,15 @@
 -- The same tests as the definition's, on the place that `fault_at` finds in the part.
-use mathlib.Core.Path.{◌≡◌, ap, ◌∙◌}
 use native.Mathlib.Omega.{arith}
-use lib.Seq.{slice, length-slice}
 use borrow.Author.Tests.{lt-ltb, le-ltb}
-use Rattle.text.specs.Accepted.{fault_at}
 use Rattle.text.proofs.Parts.{part_slice}
-use Rattle.text.proofs.Accepted.{fault_within}
+use Rattle.text.proofs.Accepted.{fault_part}
 use Rattle.chunks.proofs.list.fault_in.Goals as goal
 
 pub returns-then-fault-list : goal.returns-then-fault-list
 returns-then-fault-list c = simp (lt-ltb _ _ c.if-fault-list.true)
 
 pub overflow_add-found : goal.overflow_add-found
-overflow_add-found c =
-    let part = slice c.args.start c.args.end c.args.list.now in
-    let found : c.fault_at.result ≡ fault_at part = c.fault_at.ensures ∙ ap fault_at (part_slice c.args.start c.args.end c.args.list.now) in
-    omega (arith, fault_within part, length-slice c.args.start c.args.end c.args.list.now c.requires.1)
+overflow_add-found c = omega (arith, c.fault_at.ensures, fault_part c.args.start c.args.end c.args.list.now c.requires.1)
 
 pub returns-then-found-end : goal.returns-then-found-end
 returns-then-found-end c =

@@ -1,11 +1,8 @@
 -- The same tests as the definition's, on the place that `fault_at` finds in the part.
-use mathlib.Core.Path.{◌≡◌, ap, ◌∙◌}
 use native.Mathlib.Omega.{arith}
-use lib.Seq.{slice, length-slice}
 use borrow.Author.Tests.{lt-ltb, le-ltb, lt-leb, le-leb}
-use Rattle.text.specs.Accepted.{fault_at}
 use Rattle.text.proofs.Parts.{part_slice}
-use Rattle.text.proofs.Accepted.{fault_within}
+use Rattle.text.proofs.Accepted.{fault_part}
 use Rattle.tree.proofs.Faults.{part_accepted}
 use Rattle.tree.proofs.check.fault_in.Goals as goal
 
@@ -13,10 +10,7 @@ pub returns-then-fault-tree : goal.returns-then-fault-tree
 returns-then-fault-tree c = simp (lt-ltb _ _ c.if-fault-tree.true)
 
 pub overflow_add-found : goal.overflow_add-found
-overflow_add-found c =
-    let part = slice c.args.start c.args.end c.args.tree.now in
-    let found : c.fault_at.result ≡ fault_at part = c.fault_at.ensures ∙ ap fault_at (part_slice c.args.start c.args.end c.args.tree.now) in
-    omega (arith, fault_within part, length-slice c.args.start c.args.end c.args.tree.now c.requires.1)
+overflow_add-found c = omega (arith, c.fault_at.ensures, fault_part c.args.start c.args.end c.args.tree.now c.requires.1)
 
 pub returns-then-found-end : goal.returns-then-found-end
 returns-then-found-end c =
