@@ -1,24 +1,21 @@
 -- What an answer is by its definition has the number and the value of document 01's table.
 --   numbers_in_lem : of a call that writes a text; judged_numbers : of one that judges
 --   then_numbers, chosen_numbers : of two judgements in checking order, and of a choice
+use Rattle.std.specs.Prelude.{Ok, Err}
 use mathlib.Core.Path.{◌≡◌, refl, ap, ◌∙◌}
 use mathlib.Core.Bool.{Bool, true, false, cond}
 use Prim.Native.Nat.{ℕ}
 use lib.ListN.{length}
 use lib.Dec.{eqb, leb}
-use Rattle.answers.specs.Numbers.{number, numbers, numbers_checked, unless_refused, and_then}
+use Rattle.answers.specs.Numbers.{Answer, Checked, number, numbers, numbers_checked, unless_refused, and_then}
 use Rattle.answers.specs.Texts.{Outcome, text, refusal, answer_in, numbers_in}
-use Rattle.answers.specs.declared.Answer.{Answer}
-use Rattle.answers.specs.declared.Answer.TheVariants.{Accepted, Refused}
-use Rattle.answers.specs.declared.Checked.{Checked}
-use Rattle.answers.specs.declared.Checked.TheVariants.{Passed, Failed}
 use Rattle.answers.specs.declared.Reason.{Reason}
 use Rattle.answers.specs.declared.Reason.TheVariants.{OptionsLength, OptionsValue, TreeLength, TreeDepth, TreeLayout, ChunkLayout, NotAscii, WorkRoom, TextRoom}
 
 -- ---- an answer with a text
 
 -- a text that fits or does not
-fits_numbers : (fits : Bool) (size : ℕ) → numbers (cond fits (Accepted size) (Refused (record { reason = TextRoom; place = size }))) ≡ (cond fits 0 9, size)
+fits_numbers : (fits : Bool) (size : ℕ) → numbers (cond fits (Ok size) (Err (record { reason = TextRoom; place = size }))) ≡ (cond fits 0 9, size)
 fits_numbers true size = refl
 fits_numbers false size = refl
 
@@ -48,8 +45,8 @@ refused_number TextRoom = refl
 
 -- the first refusal in checking order has the first numbers that are not 0
 pub then_numbers : (first next : Checked) → numbers_checked (and_then first next) ≡ unless_refused (numbers_checked first) (numbers_checked next)
-then_numbers Passed next = refl
-then_numbers (Failed why) next = rw (refused_number why.reason) refl
+then_numbers (Ok tt) next = refl
+then_numbers (Err why) next = rw (refused_number why.reason) refl
 
 -- a choice of two judgements has the numbers of the one chosen
 pub chosen_numbers : (test : Bool) (taken left : Checked)

@@ -1,12 +1,18 @@
 -- Document 01, "Answer numbers, in checking order": the number of each refusal, and for each answer its number with its length or place.
-use Rattle.std.specs.Prelude.{ℕ, cond, eqb}
+use Rattle.std.specs.Prelude.{ℕ, Result, Ok, Err, cond, eqb}
 use Rattle.answers.specs.declared.Reason.{Reason}
 use Rattle.answers.specs.declared.Reason.TheVariants.{OptionsLength, OptionsValue, TreeLength, TreeDepth, TreeLayout, ChunkLayout, NotAscii, WorkRoom, TextRoom}
 use Rattle.answers.specs.declared.Refusal.{Refusal}
-use Rattle.answers.specs.declared.Answer.{Answer}
-use Rattle.answers.specs.declared.Answer.TheVariants.{Accepted, Refused}
-use Rattle.answers.specs.declared.Checked.{Checked}
-use Rattle.answers.specs.declared.Checked.TheVariants.{Passed, Failed}
+
+-- the answer of a call that writes a text, and of one that only judges its input
+abbrev pub Answer : Type 0
+Answer = Result ℕ Refusal
+
+abbrev pub Checked : Type 0
+Checked = Result (Unit {0}) Refusal
+
+abbrev pub no_refusal : Checked
+no_refusal = Ok tt
 
 abbrev pub number : Reason → ℕ
 number OptionsLength = 1
@@ -25,18 +31,18 @@ numbers_of refusal = (number refusal.reason, refusal.place)
 
 -- "Acceptance is 0 with the text's length"
 abbrev pub numbers : Answer → ℕ × ℕ
-numbers (Accepted length) = (0, length)
-numbers (Refused refusal) = numbers_of refusal
+numbers (Ok length) = (0, length)
+numbers (Err refusal) = numbers_of refusal
 
 -- a judgement has no text: where it is passed its number and value are 0
 abbrev pub numbers_checked : Checked → ℕ × ℕ
-numbers_checked Passed = (0, 0)
-numbers_checked (Failed refusal) = numbers_of refusal
+numbers_checked (Ok tt) = (0, 0)
+numbers_checked (Err refusal) = numbers_of refusal
 
 -- the same judgement as an answer
 abbrev pub answer_of : Checked → Answer
-answer_of Passed = Accepted 0
-answer_of (Failed refusal) = Refused refusal
+answer_of (Ok tt) = Ok 0
+answer_of (Err refusal) = Err refusal
 
 -- two judgements in checking order, as numbers and places: the second counts where the first is passed
 abbrev pub unless_refused : ℕ × ℕ → ℕ × ℕ → ℕ × ℕ
@@ -44,5 +50,5 @@ unless_refused first next = cond (eqb first.0 0) next first
 
 -- the first refusal in checking order
 abbrev pub and_then : Checked → Checked → Checked
-and_then Passed next = next
-and_then (Failed refusal) next = Failed refusal
+and_then (Ok tt) next = next
+and_then (Err refusal) next = Err refusal

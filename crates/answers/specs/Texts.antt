@@ -1,10 +1,8 @@
 -- A call that writes a text: what it comes to before the text buffer is looked at, and then whether the text fits.
-use Rattle.std.specs.Prelude.{ℕ, List, ◌++◌, cond, length, drop, leb}
+use Rattle.std.specs.Prelude.{ℕ, List, ◌++◌, cond, length, drop, leb, Ok, Err}
 use Rattle.answers.specs.declared.Reason.TheVariants.{TextRoom}
 use Rattle.answers.specs.declared.Refusal.{Refusal}
-use Rattle.answers.specs.declared.Answer.{Answer}
-use Rattle.answers.specs.declared.Answer.TheVariants.{Accepted, Refused}
-use Rattle.answers.specs.Numbers.{numbers_of}
+use Rattle.answers.specs.Numbers.{Answer, numbers_of}
 
 -- a text, or the refusal that comes before it
 pub data Outcome : Type 0 where
@@ -13,8 +11,8 @@ pub data Outcome : Type 0 where
 
 -- the answer in a buffer of so many bytes: "The text is longer than its buffer; place is the text's length."
 abbrev pub answer_in : Outcome → ℕ → Answer
-answer_in (text bytes) room = cond (leb (length bytes) room) (Accepted (length bytes)) (Refused (record { reason = TextRoom; place = length bytes }))
-answer_in (refusal why) room = Refused why
+answer_in (text bytes) room = cond (leb (length bytes) room) (Ok (length bytes)) (Err (record { reason = TextRoom; place = length bytes }))
+answer_in (refusal why) room = Err why
 
 -- the buffer afterwards: "the text fills the buffer's start and the rest keeps its bytes"; a refusal leaves all of it
 abbrev pub buffer_after : Outcome → List ℕ → List ℕ

@@ -1,11 +1,11 @@
 // The answers of the formatter's calls: acceptance, or a refusal by name with its place.
 #![tactic(auto)]
 
-ghost use Rattle.std.specs.Prelude.{◌≡◌};
-ghost use Rattle.answers.specs.Numbers.{number, numbers, answer_of, numbers_checked};
+ghost use Rattle.std.specs.Prelude.{◌≡◌, ℕ};
+ghost use Rattle.answers.specs.Numbers.{number, numbers_of, numbers, answer_of, numbers_checked};
 
 // What document 01's nine numbers stand for, in checking order.
-#[derive(Clone, Copy)]
+#[derive(Clone, Copy, Debug, PartialEq, Eq)]
 pub enum Reason {
     OptionsLength,
     OptionsValue,
@@ -19,25 +19,17 @@ pub enum Reason {
 }
 
 // A refusal: its reason, and the place that goes with it (for WorkRoom and TextRoom the length that was needed).
-#[derive(Clone, Copy)]
+#[derive(Clone, Copy, Debug, PartialEq, Eq)]
 pub struct Refusal {
     pub reason: Reason,
     pub place: usize,
 }
 
 // The answer of a call that writes a text: the text's length, or a refusal.
-#[derive(Clone, Copy)]
-pub enum Answer {
-    Accepted(usize),
-    Refused(Refusal),
-}
+pub type Answer = Result<usize, Refusal>;
 
 // The answer of a call that only judges its input.
-#[derive(Clone, Copy)]
-pub enum Checked {
-    Passed,
-    Failed(Refusal),
-}
+pub type Checked = Result<(), Refusal>;
 
 impl Reason {
     // The number of document 01.
@@ -58,40 +50,53 @@ impl Reason {
     }
 }
 
-impl Answer {
+// What document 01's table gives a number and a value.
+pub trait Numbered {
+    ghost both: { Self → ℕ × ℕ };
+
     // 0 for acceptance, or the refusal's number.
-    pub fn number(self) -> usize
-        ensures { result ≡ (numbers self).0 }
-    {
+    fn number(self) -> usize
+        ensures { result ≡ (both self).0 };
+
+    // The text's length, or the refusal's place.
+    fn value(self) -> usize
+        ensures { result ≡ (both self).1 };
+}
+
+impl Numbered for Refusal {
+    ghost both = { numbers_of };
+
+    fn number(self) -> usize {
+        self.reason.number()
+    }
+
+    fn value(self) -> usize {
+        self.place
+    }
+}
+
+impl Numbered for Answer {
+    ghost both = { numbers };
+
+    fn number(self) -> usize {
         match self {
-            Answer::Accepted(_) => 0,
-            Answer::Refused(refusal) => {
-                let reason = refusal.reason;
-                reason.number()
-            }
+            Ok(_) => 0,
+            Err(refusal) => refusal.number(),
         }
     }
 
-    // The text's length, or the refusal's place.
-    pub fn value(self) -> usize
-        ensures { result ≡ (numbers self).1 }
-    {
+    fn value(self) -> usize {
         match self {
-            Answer::Accepted(length) => length,
-            Answer::Refused(refusal) => refusal.place,
+            Ok(length) => length,
+            Err(refusal) => refusal.place,
         }
     }
 }
 
-impl Checked {
-    // The same judgement as an answer with no text.
-    pub fn answer(self) -> Answer
-        ensures answer { result ≡ answer_of self }
-        ensures numbers { numbers result ≡ numbers_checked self }
-    {
-        match self {
-            Checked::Passed => Answer::Accepted(0),
-            Checked::Failed(refusal) => Answer::Refused(refusal),
-        }
-    }
+// The same judgement as an answer with no text.
+pub fn answer_of(checked: Checked) -> Answer
+    ensures answer { result ≡ answer_of checked }
+    ensures numbers { numbers result ≡ numbers_checked checked }
+{
+    checked.map(|()| 0)
 }

@@ -7,6 +7,7 @@
 --   rows_judged : map found rows ≡ map wanted rows
 --   chunks_appended : map found_appended appends ≡ map wanted_appended appends
 --   capacities_held : map capacity .. ≡ ..
+use Rattle.std.specs.Prelude.{Result, Ok, Err}
 use mathlib.Core.Path.{◌≡◌, refl}
 use mathlib.Core.List.{List, [], ◌∷◌, map}
 use mathlib.Core.Bool.{true}
@@ -21,8 +22,8 @@ use Rattle.chunks.specs.Stored.{AllWellFormed, AllAccepted}
 use Rattle.chunks.specs.Reading.{text_at, chunk_at, chunks_from, stored_chunks, chunks_at, chunks_of}
 use Rattle.chunks.specs.Judging.{end_from, layout_checked, texts_checked, chunks_checked}
 use Rattle.chunks.specs.Appending.{capacity, appended}
-use Rattle.chunks.specs.declared.append.Appended.{Appended}
-use Rattle.chunks.specs.declared.append.Appended.TheVariants.{Used, NoRoom, NoChunk, UsedPastRoom}
+use Rattle.chunks.specs.declared.append.Unappended.{Unappended}
+use Rattle.chunks.specs.declared.append.Unappended.TheVariants.{NoRoom, NoChunk, UsedPastRoom}
 use Rattle.chunks.specs.declared.stored.ChunkType.TheVariants.{Code, Label, Comment}
 use Rattle.chunks.proofs.Judging.{too_long}
 use Rattle.chunks.proofs.RoundTrip.{stored_accepted}
@@ -150,25 +151,25 @@ rows_judged = refl
 -- ---- appending
 
 -- a room, what is used of it, a chunk, and what appending it comes to
-abbrev appends : List (ℕ × ℕ × Chunk × Appended)
+abbrev appends : List (ℕ × ℕ × Chunk × Result ℕ Unappended)
 appends =
-    (4, 0, code (97 ∷ []), Used 4)
-    ∷ (3, 0, code (97 ∷ []), NoRoom 4)
-    ∷ (8, 4, code (97 ∷ []), Used 8)
-    ∷ (7, 4, code (97 ∷ []), NoRoom 8)
-    ∷ (3, 4, code (97 ∷ []), UsedPastRoom)
-    ∷ (1048576, 1048572, code (97 ∷ []), Used 1048576)
-    ∷ (1048577, 1048573, code (97 ∷ []), NoRoom 1048577)
-    ∷ (1048577, 1048577, code (97 ∷ []), UsedPastRoom)
-    ∷ (6, 0, record { ty = Label; indent = 4096; text = 97 ∷ [] }, Used 6)
-    ∷ (6, 0, record { ty = Label; indent = 4097; text = 97 ∷ [] }, NoChunk)
-    ∷ (6, 0, code [], NoChunk)
+    (4, 0, code (97 ∷ []), Ok 4)
+    ∷ (3, 0, code (97 ∷ []), Err (NoRoom 4))
+    ∷ (8, 4, code (97 ∷ []), Ok 8)
+    ∷ (7, 4, code (97 ∷ []), Err (NoRoom 8))
+    ∷ (3, 4, code (97 ∷ []), Err UsedPastRoom)
+    ∷ (1048576, 1048572, code (97 ∷ []), Ok 1048576)
+    ∷ (1048577, 1048573, code (97 ∷ []), Err (NoRoom 1048577))
+    ∷ (1048577, 1048577, code (97 ∷ []), Err UsedPastRoom)
+    ∷ (6, 0, record { ty = Label; indent = 4096; text = 97 ∷ [] }, Ok 6)
+    ∷ (6, 0, record { ty = Label; indent = 4097; text = 97 ∷ [] }, Err NoChunk)
+    ∷ (6, 0, code [], Err NoChunk)
     ∷ []
 
-abbrev found_appended : ℕ × ℕ × Chunk × Appended → Appended
+abbrev found_appended : ℕ × ℕ × Chunk × Result ℕ Unappended → Result ℕ Unappended
 found_appended sample = appended sample.0 sample.1 sample.2
 
-abbrev wanted_appended : ℕ × ℕ × Chunk × Appended → Appended
+abbrev wanted_appended : ℕ × ℕ × Chunk × Result ℕ Unappended → Result ℕ Unappended
 wanted_appended sample = sample.3
 
 pub chunks_appended : map found_appended appends ≡ map wanted_appended appends
@@ -181,13 +182,13 @@ capacities_held = refl
 
 module _ (room used : ℕ) (text : List ℕ) where
   -- a text of 65,536 bytes has no stored form
-  pub text_too_long : length text ≡ 65536 → appended room used (code text) ≡ NoChunk
+  pub text_too_long : length text ≡ 65536 → appended room used (code text) ≡ Err NoChunk
   unfolding appended
   text_too_long long = rw long
 
   -- one of 65,535 has one, of 65,538 bytes
   pub text_longest : length text ≡ 65535 → used + 65538 ≤ capacity room
-      → appended room used (code text) ≡ Used (used + 65538)
+      → appended room used (code text) ≡ Ok (used + 65538)
   unfolding appended stored_chunk stored_head stored_indent
   text_longest long fits =
       let within = le-ltb (capacity room) used (omega (arith, fits)) in

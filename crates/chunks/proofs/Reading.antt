@@ -1,4 +1,5 @@
 -- Laws of reading a stored list: what a chunk that is found was laid out as, and the chunks from a place as the one there and those behind it.
+use Rattle.std.specs.Prelude.{Option, Some, None}
 use mathlib.Core.Path.{◌≡◌, refl, sym, ap, ◌∙◌}
 use mathlib.Core.List.{List, [], ◌∷◌, map}
 use Prim.Native.Nat.{ℕ, zero, suc, ◌+◌, ◌%◌, ◌≤◌, ◌<◌}
@@ -9,28 +10,24 @@ use lib.Seq.{length-slice}
 use lib.Dec.{eqb, ltb, leb}
 use borrow.Author.Tests.{lt-ltb, le-ltb, le-leb, lt-leb, eq-eqb, ne_eqb, ltb-true, ltb-false, leb-true, eqb-false}
 use Rattle.text.specs.Numbers.{number_at, read_number}
-use Rattle.text.specs.declared.numbers.Number.{Number}
-use Rattle.text.specs.declared.numbers.Number.TheVariants.{Read, Missing}
 use Rattle.text.proofs.Choices.{cond_both, by_test}
 use Rattle.chunks.specs.Stored.{type_bits, indent_bit, stored_indent, Bytes, AllWellFormed}
 use Rattle.chunks.specs.Reading.{type_of, text_on, text_at, indent_on, chunk_at, Fits, rest_on, chunks_from, stored_chunks, chunk_of, chunks_at, AllFit}
 use Rattle.chunks.specs.declared.stored.ChunkType.{ChunkType}
 use Rattle.chunks.specs.declared.stored.StoredChunk.{StoredChunk}
-use Rattle.chunks.specs.declared.stored.ChunkAt.{ChunkAt}
-use Rattle.chunks.specs.declared.stored.ChunkAt.TheVariants.{Found, NoChunk}
 use Rattle.chunks.proofs.Forms.{type_bits_small, bits_of_type, map_bits, map_type, indent_bit_lem, indent_stored}
 
 -- ---- the number at a place
 
 -- a number that is read stands within the list
-pub read_inside : (list : List ℕ) (at n : ℕ) → read_number list at ≡ Read n → at + 2 ≤ length list
+pub read_inside : (list : List ℕ) (at n : ℕ) → read_number list at ≡ Some n → at + 2 ≤ length list
 read_inside list at n e = by_test (leb (at + 2) (length list)) (λ q. leb-true _ _ q) (λ q. absurd (missing_read n (rw q at e)))
   where
-    missing_read : (n : ℕ) → Missing ≡ Read n → ⊥
+    missing_read : (n : ℕ) → None ≡ Some n → ⊥
     missing_read n e = let z : ◌≡◌ {A = ℕ} 0 1 = cc in omega arith
 
 -- a text stands at a place by the number that is read there
-pub text_read : (list : List ℕ) (at : ℕ) (ty : ChunkType) (indent : ℕ) {number result : Number} → result ≡ read_number list at → result ≡ number
+pub text_read : (list : List ℕ) (at : ℕ) (ty : ChunkType) (indent : ℕ) {number result : Option ℕ} → result ≡ read_number list at → result ≡ number
     → text_on list at ty indent number ≡ text_at list at ty indent
 unfolding text_at
 text_read list at ty indent e f = ap (text_on list at ty indent) (sym f ∙ e)
@@ -44,21 +41,21 @@ module _ (list : List ℕ) (at : ℕ) {map : ℕ} (inside : at < length list) (h
   chunk_plain none = rw (← here, lt-leb _ _ inside, le-ltb _ _ small, ne_eqb _ _ known, lt-ltb _ _ none)
 
   -- an indent and a text, where it has one
-  pub chunk_indented : 4 ≤ map → {number : Number} → read_number list (at + 1) ≡ number → chunk_at list at ≡ indent_on list (at + 1) (type_of (map % 4)) number
+  pub chunk_indented : 4 ≤ map → {number : Option ℕ} → read_number list (at + 1) ≡ number → chunk_at list at ≡ indent_on list (at + 1) (type_of (map % 4)) number
   unfolding chunk_at
   chunk_indented some read = rw (← here, lt-leb _ _ inside, le-ltb _ _ small, ne_eqb _ _ known, le-ltb _ _ some) (ap (indent_on list (at + 1) (type_of (map % 4))) read)
 
 module _ (list : List ℕ) (at : ℕ) (ty : ChunkType) (indent : ℕ) where
   -- an indent of 0 is not stored
-  pub indent_zero : indent ≡ 0 → indent_on list at ty (Read indent) ≡ NoChunk
+  pub indent_zero : indent ≡ 0 → indent_on list at ty (Some indent) ≡ None
   indent_zero none = rw (eq-eqb _ _ none)
 
   -- nor is one above 4,096
-  pub indent_deep : 4096 < indent → indent_on list at ty (Read indent) ≡ NoChunk
+  pub indent_deep : 4096 < indent → indent_on list at ty (Some indent) ≡ None
   indent_deep deep = rw (ne_eqb indent 0 (λ none. omega arith), lt-ltb _ _ deep)
 
   -- behind any other stands a text
-  pub indent_text : (indent ≡ 0 → ⊥) → indent ≤ 4096 → indent_on list at ty (Read indent) ≡ text_at list (at + 2) ty indent
+  pub indent_text : (indent ≡ 0 → ⊥) → indent ≤ 4096 → indent_on list at ty (Some indent) ≡ text_at list (at + 2) ty indent
   indent_text some low = rw (ne_eqb _ _ some, le-ltb _ _ low)
 
 -- ---- what a chunk that is found was laid out as
@@ -74,9 +71,9 @@ pub record Laid (list : List ℕ) (at : ℕ) (chunk : StoredChunk) : Type 0 wher
   pub inside : chunk.end ≤ length list
 
 -- so what is found is laid out, if anything is
-abbrev pub LaidAs : List ℕ → ℕ → ChunkAt → Type 0
-LaidAs list at (Found chunk) = Laid list at chunk
-LaidAs list at NoChunk = Unit
+abbrev pub LaidAs : List ℕ → ℕ → Option StoredChunk → Type 0
+LaidAs list at (Some chunk) = Laid list at chunk
+LaidAs list at None = Unit
 
 -- a text that is found behind a map and an indent
 text_laid : (list : List ℕ) (at place : ℕ) (ty : ChunkType) (indent : ℕ) → get_or list at 0 ≡ type_bits ty + indent_bit indent → indent ≤ 4096
@@ -85,9 +82,9 @@ unfolding text_at
 text_laid list at place ty indent map low stored there =
     let P = LaidAs list at in
     let count = number_at list place in
-    cond_both (λ (n : Number). P (text_on list place ty indent n)) (leb (place + 2) (length list)) (Read count) Missing (λ e1.
-    cond_both P (eqb count 0) NoChunk _ (λ _. tt) (λ e2.
-    cond_both P (ltb (length list) (place + 2 + count)) NoChunk _ (λ _. tt) (λ e3.
+    cond_both (λ (n : Option ℕ). P (text_on list place ty indent n)) (leb (place + 2) (length list)) (Some count) None (λ e1.
+    cond_both P (eqb count 0) None _ (λ _. tt) (λ e2.
+    cond_both P (ltb (length list) (place + 2 + count)) None _ (λ _. tt) (λ e3.
     record {
       map = map;
       low = low;
@@ -106,16 +103,16 @@ chunk_laid list at =
     let map = get_or list at 0 in
     let bits = map % 4 in
     let indent = number_at list (at + 1) in
-    cond_both P (leb (length list) at) NoChunk _ (λ _. tt) (λ e1.
-    cond_both P (ltb 7 map) NoChunk _ (λ _. tt) (λ e2.
-    cond_both P (eqb bits 3) NoChunk _ (λ _. tt) (λ e3.
+    cond_both P (leb (length list) at) None _ (λ _. tt) (λ e1.
+    cond_both P (ltb 7 map) None _ (λ _. tt) (λ e2.
+    cond_both P (eqb bits 3) None _ (λ _. tt) (λ e3.
     let told : type_bits (type_of bits) ≡ bits = bits_of_type bits (omega (arith, eqb-false bits 3 e3)) in
     cond_both P (ltb map 4) _ _
     (λ e4. text_laid list at (at + 1) (type_of bits) 0 (omega (arith, ltb-true map 4 e4)) (omega arith) (λ some. absurd (some refl)) (omega arith))
     (λ e4.
-    cond_both (λ (n : Number). P (indent_on list (at + 1) (type_of bits) n)) (leb (at + 1 + 2) (length list)) (Read indent) Missing (λ e5.
-    cond_both P (eqb indent 0) NoChunk _ (λ _. tt) (λ e6.
-    cond_both P (ltb 4096 indent) NoChunk _ (λ _. tt) (λ e7.
+    cond_both (λ (n : Option ℕ). P (indent_on list (at + 1) (type_of bits) n)) (leb (at + 1 + 2) (length list)) (Some indent) None (λ e5.
+    cond_both P (eqb indent 0) None _ (λ _. tt) (λ e6.
+    cond_both P (ltb 4096 indent) None _ (λ _. tt) (λ e7.
     let some = eqb-false indent 0 e6 in
     text_laid list at (at + 1 + 2) (type_of bits) indent
     (omega (arith, ltb-false map 4 e4, ltb-false 7 map e2, indent_bit_lem indent some)) (ltb-false 4096 indent e7) (λ _. refl) (omega (arith, ap length (indent_stored indent some)))))) (λ _. tt)))))
@@ -133,19 +130,19 @@ indent_found list at ty zero enough map low stored =
 indent_found list at ty (suc n) enough map low stored =
     let bits = map_bits ty (suc n) in
     let small = type_bits_small ty in
-    let number : read_number list (at + 1) ≡ Read (suc n) = rw (le-leb (at + 1 + 2) (length list) (omega arith)) (ap Read (stored (λ none. omega arith))) in
+    let number : read_number list (at + 1) ≡ Some (suc n) = rw (le-leb (at + 1 + 2) (length list) (omega arith)) (ap Some (stored (λ none. omega arith))) in
     rw (map_type ty (suc n)) at (chunk_indented list at (omega arith) (sym map) (omega arith) (λ both. omega arith) (omega arith) number)
     ∙ indent_text list (at + 1) ty (suc n) (λ none. omega arith) low
 
 -- a text length of at least 1 with as many bytes behind it is a text
 text_found : (list : List ℕ) (place : ℕ) (ty : ChunkType) (indent : ℕ) → (number_at list place ≡ 0 → ⊥) → place + 2 + number_at list place ≤ length list
-    → text_at list place ty indent ≡ Found (record { ty = ty; indent = indent; start = place + 2; end = place + 2 + number_at list place })
+    → text_at list place ty indent ≡ Some (record { ty = ty; indent = indent; start = place + 2; end = place + 2 + number_at list place })
 unfolding text_at
 text_found list place ty indent some enough =
     rw (le-leb (place + 2) (length list) (omega arith), ne_eqb _ _ some, le-ltb _ _ enough)
 
 -- what is laid out as a chunk is found as that chunk
-pub laid_found : (list : List ℕ) (at : ℕ) (chunk : StoredChunk) → Laid list at chunk → chunk_at list at ≡ Found chunk
+pub laid_found : (list : List ℕ) (at : ℕ) (chunk : StoredChunk) → Laid list at chunk → chunk_at list at ≡ Some chunk
 laid_found list at chunk laid =
     let place = at + 1 + length (stored_indent chunk.indent) in
     let start : place + 2 ≡ chunk.start = omega (arith, laid.start) in
@@ -157,11 +154,11 @@ laid_found list at chunk laid =
 -- ---- what is found fits
 
 -- of bytes, what is laid out fits
-fits_laid : (list : List ℕ) (at : ℕ) → Bytes list → (found : ChunkAt) → LaidAs list at found → Fits list at found
-fits_laid list at bytes (Found chunk) laid =
+fits_laid : (list : List ℕ) (at : ℕ) → Bytes list → (found : Option StoredChunk) → LaidAs list at found → Fits list at found
+fits_laid list at bytes (Some chunk) laid =
     let place = at + 1 + length (stored_indent chunk.indent) in
     record { behind = omega arith; some = laid.some; inside = laid.inside; short = omega (arith, bytes place, bytes (place + 1)); indent = laid.low }
-fits_laid list at bytes NoChunk laid = tt
+fits_laid list at bytes None laid = tt
 
 -- so what is found does
 pub chunk_fits : (list : List ℕ) (at : ℕ) → Bytes list → Fits list at (chunk_at list at)
@@ -170,13 +167,13 @@ chunk_fits list at bytes = fits_laid list at bytes (chunk_at list at) (chunk_lai
 -- ---- the chunks from a place on
 
 -- what goes on in the same way behind every later place is the same
-rest_same : (list : List ℕ) (at : ℕ) (rest rest' : ℕ → List StoredChunk) (found : ChunkAt) → LaidAs list at found
+rest_same : (list : List ℕ) (at : ℕ) (rest rest' : ℕ → List StoredChunk) (found : Option StoredChunk) → LaidAs list at found
     → ((end : ℕ) → at < end → rest end ≡ rest' end) → rest_on rest found ≡ rest_on rest' found
-rest_same list at rest rest' (Found chunk) laid same = ap (λ (chunks : List StoredChunk). chunk ∷ chunks) (same chunk.end (omega arith))
-rest_same list at rest rest' NoChunk laid same = refl
+rest_same list at rest rest' (Some chunk) laid same = ap (λ (chunks : List StoredChunk). chunk ∷ chunks) (same chunk.end (omega arith))
+rest_same list at rest rest' None laid same = refl
 
 -- no chunk stands at the list's end
-pub chunk_end : (list : List ℕ) (at : ℕ) → length list ≤ at → chunk_at list at ≡ NoChunk
+pub chunk_end : (list : List ℕ) (at : ℕ) → length list ≤ at → chunk_at list at ≡ None
 unfolding chunk_at
 chunk_end list at past = rw (le-leb _ _ past)
 
@@ -193,28 +190,28 @@ unfolding stored_chunks chunks_from
 chunks_at_lem list at = sym (chunks_more (length list) list at (omega arith))
 
 -- where a chunk is found it is the first
-pub chunks_found : (list : List ℕ) (at : ℕ) (chunk : StoredChunk) → chunk_at list at ≡ Found chunk → stored_chunks list at ≡ chunk ∷ stored_chunks list chunk.end
+pub chunks_found : (list : List ℕ) (at : ℕ) (chunk : StoredChunk) → chunk_at list at ≡ Some chunk → stored_chunks list at ≡ chunk ∷ stored_chunks list chunk.end
 chunks_found list at chunk e = chunks_at_lem list at ∙ ap (rest_on (stored_chunks list)) e
 
 -- where none is found there are none
-pub chunks_none : (list : List ℕ) (at : ℕ) → chunk_at list at ≡ NoChunk → stored_chunks list at ≡ []
+pub chunks_none : (list : List ℕ) (at : ℕ) → chunk_at list at ≡ None → stored_chunks list at ≡ []
 chunks_none list at e = chunks_at_lem list at ∙ ap (rest_on (stored_chunks list)) e
 
 -- the same of the chunks with their texts
-pub chunks_at_found : (list : List ℕ) (at : ℕ) (chunk : StoredChunk) → chunk_at list at ≡ Found chunk → chunks_at list at ≡ chunk_of list chunk ∷ chunks_at list chunk.end
+pub chunks_at_found : (list : List ℕ) (at : ℕ) (chunk : StoredChunk) → chunk_at list at ≡ Some chunk → chunks_at list at ≡ chunk_of list chunk ∷ chunks_at list chunk.end
 unfolding chunks_at
 chunks_at_found list at chunk e = ap (map (chunk_of list)) (chunks_found list at chunk e)
 
-pub chunks_at_none : (list : List ℕ) (at : ℕ) → chunk_at list at ≡ NoChunk → chunks_at list at ≡ []
+pub chunks_at_none : (list : List ℕ) (at : ℕ) → chunk_at list at ≡ None → chunks_at list at ≡ []
 unfolding chunks_at
 chunks_at_none list at e = ap (map (chunk_of list)) (chunks_none list at e)
 
 -- ---- every chunk fits, and is well formed
 
 -- a chunk that fits, and those behind it
-rest_fit : (list : List ℕ) (at : ℕ) (rest : ℕ → List StoredChunk) (found : ChunkAt) → Fits list at found → ((end : ℕ) → AllFit list end (rest end)) → AllFit list at (rest_on rest found)
-rest_fit list at rest (Found chunk) fit others = (fit, others chunk.end)
-rest_fit list at rest NoChunk fit others = tt
+rest_fit : (list : List ℕ) (at : ℕ) (rest : ℕ → List StoredChunk) (found : Option StoredChunk) → Fits list at found → ((end : ℕ) → AllFit list end (rest end)) → AllFit list at (rest_on rest found)
+rest_fit list at rest (Some chunk) fit others = (fit, others chunk.end)
+rest_fit list at rest None fit others = tt
 
 -- however many are read
 from_fit : (n : ℕ) (list : List ℕ) (at : ℕ) → Bytes list → AllFit list at (chunks_from n list at)

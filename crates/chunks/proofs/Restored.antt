@@ -1,4 +1,5 @@
 -- Chunks that are read from a list of bytes, stored again, are the list up to where they end.
+use Rattle.std.specs.Prelude.{Option, Some, None}
 use mathlib.Core.Path.{◌≡◌, refl, sym, ap, ◌∙◌}
 use mathlib.Core.List.{List, ◌∷◌, ◌++◌, map, append_assoc}
 use Prim.Native.Nat.{ℕ, zero, suc, ◌+◌, ◌≤◌}
@@ -13,8 +14,6 @@ use Rattle.chunks.specs.Stored.{type_bits, indent_bit, stored_indent, stored_hea
 use Rattle.chunks.specs.Reading.{chunk_at, rest_on, chunks_from, stored_chunks, chunk_of, chunks_at}
 use Rattle.chunks.specs.Judging.{end_from}
 use Rattle.chunks.specs.declared.stored.StoredChunk.{StoredChunk}
-use Rattle.chunks.specs.declared.stored.ChunkAt.{ChunkAt}
-use Rattle.chunks.specs.declared.stored.ChunkAt.TheVariants.{Found, NoChunk}
 use Rattle.chunks.proofs.Parts.{part_drop}
 use Rattle.chunks.proofs.Reading.{Laid, LaidAs, chunk_laid}
 
@@ -50,15 +49,15 @@ module _ (list : List ℕ) (bytes : Bytes list) where
       mapped ∙ rw (indented, counted, parted) (simp append_assoc)
 
   -- a chunk, if there is one, and what is read behind it
-  rest_drop : (at : ℕ) (rest : ℕ → List StoredChunk) (found : ChunkAt) → LaidAs list at found
+  rest_drop : (at : ℕ) (rest : ℕ → List StoredChunk) (found : Option StoredChunk) → LaidAs list at found
       → ((end : ℕ) → drop end list ≡ stored_list (map (chunk_of list) (rest end)) ++ drop (end_from end (rest end)) list)
       → drop at list ≡ stored_list (map (chunk_of list) (rest_on rest found)) ++ drop (end_from at (rest_on rest found)) list
   unfolding stored_list end_from
-  rest_drop at rest (Found chunk) laid others =
+  rest_drop at rest (Some chunk) laid others =
       laid_drop at chunk laid
       ∙ ap (λ (l : List ℕ). stored_chunk (chunk_of list chunk) ++ l) (others chunk.end)
       ∙ sym (append_assoc (stored_chunk (chunk_of list chunk)) (stored_list (map (chunk_of list) (rest chunk.end))) (drop (end_from chunk.end (rest chunk.end)) list))
-  rest_drop at rest NoChunk laid others = refl
+  rest_drop at rest None laid others = refl
 
   -- however many are read
   from_drop : (n at : ℕ) → drop at list ≡ stored_list (map (chunk_of list) (chunks_from n list at)) ++ drop (end_from at (chunks_from n list at)) list

@@ -1,15 +1,15 @@
 -- The closing theorems of the stored list: reading undoes storing, storing undoes reading, and the lists that are accepted are the stored chunks with accepted texts.
+use Rattle.std.specs.Prelude.{Some}
+use Rattle.answers.specs.Numbers.{no_refusal}
 use mathlib.Core.Path.{◌≡◌, refl, sym, ap, ◌∙◌}
 use mathlib.Core.List.{List, [], ◌∷◌, ◌++◌, append_assoc, append-nil}
 use Prim.Native.Nat.{ℕ, ◌+◌, ◌≤◌}
 use native.Mathlib.Omega.{arith}
 use lib.ListN.{length, length-append}
 use lib.Seq.{drop-length}
-use Rattle.answers.specs.declared.Checked.TheVariants.{Passed}
 use Rattle.chunks.specs.Stored.{Chunk, stored_chunk, stored_list, WellFormed, AllWellFormed, AllAccepted, Bytes}
 use Rattle.chunks.specs.Reading.{chunk_at, chunk_of, chunks_at, chunks_of, stored_chunks}
 use Rattle.chunks.specs.Judging.{end_from, chunks_checked}
-use Rattle.chunks.specs.declared.stored.ChunkAt.TheVariants.{Found}
 use Rattle.chunks.proofs.Reading.{laid_found, chunk_end, chunks_at_found, chunks_at_none, chunks_well_formed}
 use Rattle.chunks.proofs.Judging.{end_found, end_none, passed_end, passed_texts, judged_texts, texts_accepted, accepted_texts}
 use Rattle.chunks.proofs.Placed.{stored_at, placed, placed_text}
@@ -17,7 +17,7 @@ use Rattle.chunks.proofs.Restored.{chunks_drop}
 
 -- reading undoes storing: where a chunk was stored it is found, up to the end of its stored form
 pub stored_found : (before : List ℕ) (chunk : Chunk) (after : List ℕ) → WellFormed chunk
-    → (chunk_at (before ++ (stored_chunk chunk ++ after)) (length before) ≡ Found (stored_at (length before) chunk))
+    → (chunk_at (before ++ (stored_chunk chunk ++ after)) (length before) ≡ Some (stored_at (length before) chunk))
     × (chunk_of (before ++ (stored_chunk chunk ++ after)) (stored_at (length before) chunk) ≡ chunk)
     × ((stored_at (length before) chunk).end ≡ length before + length (stored_chunk chunk))
 stored_found before chunk after good = (
@@ -54,14 +54,14 @@ pub stored_injective : (chunks others : List Chunk) → AllWellFormed chunks →
 stored_injective chunks others good fine same = sym (chunks_stored chunks good) ∙ ap chunks_of same ∙ chunks_stored others fine
 
 -- stored chunks within the limit, with accepted texts, are accepted
-pub stored_accepted : (chunks : List Chunk) → AllWellFormed chunks → AllAccepted chunks → length (stored_list chunks) ≤ 1048576 → chunks_checked (stored_list chunks) ≡ Passed
+pub stored_accepted : (chunks : List Chunk) → AllWellFormed chunks → AllAccepted chunks → length (stored_list chunks) ≤ 1048576 → chunks_checked (stored_list chunks) ≡ no_refusal
 unfolding chunks_at
 stored_accepted chunks good fine short =
     let list = stored_list chunks in
     judged_texts list short (stored_back [] chunks good).1 ∙ texts_accepted list (stored_chunks list 0) (rw (chunks_stored chunks good) fine)
 
 -- a list that is accepted is stored chunks, and these are well formed, with accepted texts
-pub accepted_stored : (list : List ℕ) → Bytes list → chunks_checked list ≡ Passed
+pub accepted_stored : (list : List ℕ) → Bytes list → chunks_checked list ≡ no_refusal
     → (stored_list (chunks_of list) ≡ list) × AllWellFormed (chunks_of list) × AllAccepted (chunks_of list)
 unfolding chunks_at
 accepted_stored list bytes passed = (

@@ -1,4 +1,5 @@
 -- Laws of storing a chunk into a room.
+use Rattle.std.specs.Prelude.{Result, Ok, Err}
 use mathlib.Core.Path.{◌≡◌, refl, sym, ◌∙◌}
 use mathlib.Core.List.{List, ◌++◌, append-nil}
 use mathlib.Core.Bool.{Bool, true, false, cond}
@@ -17,8 +18,8 @@ use Rattle.chunks.specs.Stored.{Chunk, type_bits, indent_bit, stored_indent, sto
 use Rattle.chunks.specs.Appending.{with_space, with_colon, capacity, unstorable, appended, room_after}
 use Rattle.chunks.specs.Steps.{byte_if}
 use Rattle.chunks.specs.declared.stored.ChunkType.{ChunkType}
-use Rattle.chunks.specs.declared.append.Appended.{Appended}
-use Rattle.chunks.specs.declared.append.Appended.TheVariants.{Used, NoRoom, NoChunk, UsedPastRoom}
+use Rattle.chunks.specs.declared.append.Unappended.{Unappended}
+use Rattle.chunks.specs.declared.append.Unappended.TheVariants.{NoRoom, NoChunk, UsedPastRoom}
 
 -- bytes that fit are stored
 bytes_fit : (buffer : List ℕ) (at : ℕ) (bytes : List ℕ) → at + length bytes ≤ length buffer → stored_buffer buffer at bytes ≡ sets buffer at bytes
@@ -97,22 +98,22 @@ module _ (spaced : Bool) (text : List ℕ) (colon : Bool) where
 -- ---- the answers, each with what the room then holds
 
 -- what appending a chunk answers, and the room then
-abbrev pub Appends : List ℕ → ℕ → Chunk → Appended → List ℕ → Type 0
+abbrev pub Appends : List ℕ → ℕ → Chunk → Result ℕ Unappended → List ℕ → Type 0
 Appends room used chunk answer after = (answer ≡ appended (length room) used chunk) × (after ≡ room_after room used chunk)
 
 module _ (room : List ℕ) (used : ℕ) (chunk : Chunk) where
   -- a chunk without a stored form is not stored: its indent is too large, its text empty or too long
-  unstored : unstorable chunk ≡ true → Appends room used chunk NoChunk room
+  unstored : unstorable chunk ≡ true → Appends room used chunk (Err NoChunk) room
   unfolding appended room_after
   unstored bad = (rw bad, rw bad)
 
-  pub append_deep : 4096 < chunk.indent → Appends room used chunk NoChunk room
+  pub append_deep : 4096 < chunk.indent → Appends room used chunk (Err NoChunk) room
   append_deep deep = unstored (rw (lt-ltb _ _ deep))
 
-  pub append_empty : length chunk.text ≡ 0 → Appends room used chunk NoChunk room
+  pub append_empty : length chunk.text ≡ 0 → Appends room used chunk (Err NoChunk) room
   append_empty empty = unstored (or_right (ltb 4096 chunk.indent) _ (rw (eq-eqb _ _ empty)))
 
-  pub append_long : 65535 < length chunk.text → Appends room used chunk NoChunk room
+  pub append_long : 65535 < length chunk.text → Appends room used chunk (Err NoChunk) room
   append_long long = unstored (or_right (ltb 4096 chunk.indent) _ (or_right (eqb (length chunk.text) 0) _ (lt-ltb _ _ long)))
 
   module _ (good : WellFormed chunk) where
@@ -121,17 +122,17 @@ module _ (room : List ℕ) (used : ℕ) (chunk : Chunk) where
     storable = rw (le-ltb _ _ good.indent, ne_eqb (length chunk.text) 0 (λ none. omega arith), le-ltb _ _ good.short)
 
     -- it is not stored behind a used length past the room
-    pub append_past : capacity (length room) < used → Appends room used chunk UsedPastRoom room
+    pub append_past : capacity (length room) < used → Appends room used chunk (Err UsedPastRoom) room
     unfolding appended room_after
     append_past past = (rw (storable, lt-ltb _ _ past), rw (storable, lt-ltb _ _ past))
 
     module _ {end : ℕ} (within : used ≤ capacity (length room)) (ends : end ≡ used + length (stored_chunk chunk)) where
       -- nor where it does not fit
-      pub append_no_room : capacity (length room) < end → Appends room used chunk (NoRoom end) room
+      pub append_no_room : capacity (length room) < end → Appends room used chunk (Err (NoRoom end)) room
       unfolding appended room_after
       append_no_room full = (rw (storable, le-ltb _ _ within, ← ends, lt-ltb _ _ full), rw (storable, le-ltb _ _ within, ← ends, lt-ltb _ _ full))
 
       -- where it fits it is stored
-      pub append_stored : {after : List ℕ} → end ≤ capacity (length room) → after ≡ sets room used (stored_chunk chunk) → Appends room used chunk (Used end) after
+      pub append_stored : {after : List ℕ} → end ≤ capacity (length room) → after ≡ sets room used (stored_chunk chunk) → Appends room used chunk (Ok end) after
       unfolding appended room_after
       append_stored fits stored = (rw (storable, le-ltb _ _ within, ← ends, le-ltb _ _ fits), stored ∙ rw (storable, le-ltb _ _ within, ← ends, le-ltb _ _ fits))

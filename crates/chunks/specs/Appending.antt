@@ -1,10 +1,10 @@
 -- Appending a chunk behind the used length of a room: what is answered, and what the room then holds.
-use Rattle.std.specs.Prelude.{ℕ, ◌+◌, min, List, [], ◌∷◌, ◌++◌, Bool, true, false, cond, ◌||◌, length, eqb, ltb}
+use Rattle.std.specs.Prelude.{ℕ, ◌+◌, min, List, [], ◌∷◌, ◌++◌, Bool, true, false, cond, ◌||◌, length, eqb, ltb, Result, Ok, Err}
 use Rattle.std.proofs.lemmas.List.Edits.{sets}
 use Rattle.text.specs.Characters as characters
 use Rattle.chunks.specs.Stored.{Chunk, stored_chunk}
-use Rattle.chunks.specs.declared.append.Appended.{Appended}
-use Rattle.chunks.specs.declared.append.Appended.TheVariants.{Used, NoRoom, NoChunk, UsedPastRoom}
+use Rattle.chunks.specs.declared.append.Unappended.{Unappended}
+use Rattle.chunks.specs.declared.append.Unappended.TheVariants.{NoRoom, NoChunk, UsedPastRoom}
 
 -- "a pending space goes in front"
 abbrev pub with_space : Bool → List ℕ → List ℕ
@@ -25,19 +25,19 @@ abbrev pub unstorable : Chunk → Bool
 unstorable chunk = ltb 4096 chunk.indent || (eqb (length chunk.text) 0 || ltb 65535 (length chunk.text))
 
 -- the answer in a room of so many bytes: the length needed where the chunk does not fit
-unfoldable pub appended : ℕ → ℕ → Chunk → Appended
+unfoldable pub appended : ℕ → ℕ → Chunk → Result ℕ Unappended
 appended room used chunk =
-    cond (unstorable chunk) NoChunk
-    (cond (ltb (capacity room) used) UsedPastRoom
-    (cond (ltb (capacity room) (used + length (stored_chunk chunk))) (NoRoom (used + length (stored_chunk chunk)))
-    (Used (used + length (stored_chunk chunk)))))
+    cond (unstorable chunk) (Err NoChunk)
+    (cond (ltb (capacity room) used) (Err UsedPastRoom)
+    (cond (ltb (capacity room) (used + length (stored_chunk chunk))) (Err (NoRoom (used + length (stored_chunk chunk))))
+    (Ok (used + length (stored_chunk chunk)))))
 
 -- the room: the stored chunk where it was appended, every other byte as it was
-abbrev pub room_on : Appended → List ℕ → ℕ → Chunk → List ℕ
-room_on (Used end) room used chunk = sets room used (stored_chunk chunk)
-room_on (NoRoom needed) room used chunk = room
-room_on NoChunk room used chunk = room
-room_on UsedPastRoom room used chunk = room
+abbrev pub room_on : Result ℕ Unappended → List ℕ → ℕ → Chunk → List ℕ
+room_on (Ok end) room used chunk = sets room used (stored_chunk chunk)
+room_on (Err (NoRoom needed)) room used chunk = room
+room_on (Err NoChunk) room used chunk = room
+room_on (Err UsedPastRoom) room used chunk = room
 
 unfoldable pub room_after : List ℕ → ℕ → Chunk → List ℕ
 room_after room used chunk = room_on (appended (length room) used chunk) room used chunk

@@ -1,10 +1,8 @@
 -- Judging a stored chunk list: refusals 6 and 7 of document 01.
-use Rattle.std.specs.Prelude.{ℕ, ◌+◌, List, [], ◌∷◌, cond, length, eqb, ltb}
+use Rattle.std.specs.Prelude.{ℕ, ◌+◌, List, [], ◌∷◌, cond, length, eqb, ltb, Err}
 use Rattle.std.proofs.Math.Seq.{slice}
-use Rattle.answers.specs.declared.Checked.{Checked}
-use Rattle.answers.specs.declared.Checked.TheVariants.{Passed, Failed}
 use Rattle.answers.specs.declared.Reason.TheVariants.{ChunkLayout, NotAscii}
-use Rattle.answers.specs.Numbers.{and_then, unless_refused}
+use Rattle.answers.specs.Numbers.{no_refusal, and_then, unless_refused, Checked}
 use Rattle.text.specs.Accepted.{accepted_text, fault_at}
 use Rattle.chunks.specs.Reading.{stored_chunks}
 use Rattle.chunks.specs.declared.stored.StoredChunk.{StoredChunk}
@@ -17,17 +15,17 @@ end_from at (chunk ∷ chunks) = end_from chunk.end chunks
 -- "The chunk list breaks its layout or its length limit; place of the first bad chunk, or 0 for the length, which is judged first."
 unfoldable pub layout_checked : List ℕ → Checked
 layout_checked list =
-    cond (ltb 1048576 (length list)) (Failed (record { reason = ChunkLayout; place = 0 }))
-    (cond (eqb (end_from 0 (stored_chunks list 0)) (length list)) Passed
-    (Failed (record { reason = ChunkLayout; place = end_from 0 (stored_chunks list 0) })))
+    cond (ltb 1048576 (length list)) (Err (record { reason = ChunkLayout; place = 0 }))
+    (cond (eqb (end_from 0 (stored_chunks list 0)) (length list)) no_refusal
+    (Err (record { reason = ChunkLayout; place = end_from 0 (stored_chunks list 0) })))
 
 -- "A text ... byte is above 127; the place of the first."
 unfoldable pub texts_checked : List ℕ → List StoredChunk → Checked
-texts_checked list [] = Passed
+texts_checked list [] = no_refusal
 texts_checked list (chunk ∷ chunks) =
     cond (accepted_text (slice chunk.start chunk.end list))
     (texts_checked list chunks)
-    (Failed (record { reason = NotAscii; place = chunk.start + fault_at (slice chunk.start chunk.end list) }))
+    (Err (record { reason = NotAscii; place = chunk.start + fault_at (slice chunk.start chunk.end list) }))
 
 -- 6 over the whole list, then 7
 unfoldable pub chunks_checked : List ℕ → Checked

@@ -1,49 +1,45 @@
 -- Reading a stored chunk list: what stands at a place, and the chunks from the list's start on.
-use Rattle.std.specs.Prelude.{ℕ, zero, suc, ◌+◌, ◌%◌, ◌≤◌, ◌<◌, List, [], ◌∷◌, map, cond, length, get_or, eqb, ltb, leb}
+use Rattle.std.specs.Prelude.{ℕ, zero, suc, ◌+◌, ◌%◌, ◌≤◌, ◌<◌, List, [], ◌∷◌, map, cond, length, get_or, eqb, ltb, leb, Option, Some, None}
 use Rattle.std.proofs.Math.Seq.{slice}
 use Rattle.text.specs.Numbers.{read_number}
-use Rattle.text.specs.declared.numbers.Number.{Number}
-use Rattle.text.specs.declared.numbers.Number.TheVariants.{Read, Missing}
 use Rattle.chunks.specs.Stored.{Chunk}
 use Rattle.chunks.specs.declared.stored.ChunkType.{ChunkType}
 use Rattle.chunks.specs.declared.stored.ChunkType.TheVariants.{Code, Label, Comment}
 use Rattle.chunks.specs.declared.stored.StoredChunk.{StoredChunk}
-use Rattle.chunks.specs.declared.stored.ChunkAt.{ChunkAt}
-use Rattle.chunks.specs.declared.stored.ChunkAt.TheVariants.{Found, NoChunk}
 
 -- bit 0 is a label, bit 1 a comment, neither is code
 abbrev pub type_of : ℕ → ChunkType
 type_of bits = cond (eqb bits 1) Label (cond (eqb bits 2) Comment Code)
 
 -- a text length of at least 1, and as many bytes
-abbrev pub text_on : List ℕ → ℕ → ChunkType → ℕ → Number → ChunkAt
-text_on list at ty indent Missing = NoChunk
-text_on list at ty indent (Read count) =
-    cond (eqb count 0) NoChunk
-    (cond (ltb (length list) (at + 2 + count)) NoChunk
-    (Found (record { ty = ty; indent = indent; start = at + 2; end = at + 2 + count })))
+abbrev pub text_on : List ℕ → ℕ → ChunkType → ℕ → Option ℕ → Option StoredChunk
+text_on list at ty indent None = None
+text_on list at ty indent (Some count) =
+    cond (eqb count 0) None
+    (cond (ltb (length list) (at + 2 + count)) None
+    (Some (record { ty = ty; indent = indent; start = at + 2; end = at + 2 + count })))
 
-unfoldable pub text_at : List ℕ → ℕ → ChunkType → ℕ → ChunkAt
+unfoldable pub text_at : List ℕ → ℕ → ChunkType → ℕ → Option StoredChunk
 text_at list at ty indent = text_on list at ty indent (read_number list at)
 
 -- a stored indent is 1 to 4,096
-abbrev pub indent_on : List ℕ → ℕ → ChunkType → Number → ChunkAt
-indent_on list at ty Missing = NoChunk
-indent_on list at ty (Read indent) = cond (eqb indent 0) NoChunk (cond (ltb 4096 indent) NoChunk (text_at list (at + 2) ty indent))
+abbrev pub indent_on : List ℕ → ℕ → ChunkType → Option ℕ → Option StoredChunk
+indent_on list at ty None = None
+indent_on list at ty (Some indent) = cond (eqb indent 0) None (cond (ltb 4096 indent) None (text_at list (at + 2) ty indent))
 
 -- a map with no bit above bit 2 and not both of bits 0 and 1; where bit 2 stands the indent; then the text
-unfoldable pub chunk_at : List ℕ → ℕ → ChunkAt
+unfoldable pub chunk_at : List ℕ → ℕ → Option StoredChunk
 chunk_at list at =
-    cond (leb (length list) at) NoChunk
-    (cond (ltb 7 (get_or list at 0)) NoChunk
-    (cond (eqb (get_or list at 0 % 4) 3) NoChunk
+    cond (leb (length list) at) None
+    (cond (ltb 7 (get_or list at 0)) None
+    (cond (eqb (get_or list at 0 % 4) 3) None
     (cond (ltb (get_or list at 0) 4) (text_at list (at + 1) (type_of (get_or list at 0 % 4)) 0)
     (indent_on list (at + 1) (type_of (get_or list at 0 % 4)) (read_number list (at + 1))))))
 
 -- The chunks from a place on, as long as there are any. The first argument bounds how many; a list has no more chunks than bytes.
-abbrev pub rest_on : (ℕ → List StoredChunk) → ChunkAt → List StoredChunk
-rest_on rest (Found chunk) = chunk ∷ rest chunk.end
-rest_on rest NoChunk = []
+abbrev pub rest_on : (ℕ → List StoredChunk) → Option StoredChunk → List StoredChunk
+rest_on rest (Some chunk) = chunk ∷ rest chunk.end
+rest_on rest None = []
 
 unfoldable pub chunks_from : ℕ → List ℕ → ℕ → List StoredChunk
 chunks_from zero list at = []
@@ -72,9 +68,9 @@ pub record ChunkFits (list : List ℕ) (at : ℕ) (chunk : StoredChunk) : Type 0
   pub short : chunk.end ≤ chunk.start + 65535
   pub indent : chunk.indent ≤ 4096
 
-abbrev pub Fits : List ℕ → ℕ → ChunkAt → Type 0
-Fits list at (Found chunk) = ChunkFits list at chunk
-Fits list at NoChunk = Unit
+abbrev pub Fits : List ℕ → ℕ → Option StoredChunk → Type 0
+Fits list at (Some chunk) = ChunkFits list at chunk
+Fits list at None = Unit
 
 -- each chunk fits where the one before it ends
 abbrev pub AllFit : List ℕ → ℕ → List StoredChunk → Type 0

@@ -1,10 +1,9 @@
 -- Not part of any promise of this crate: what its inner functions hand on.
-use Rattle.std.specs.Prelude.{ℕ, ◌+◌, ◌≤◌, List, [], ◌∷◌, Bool, true, false, cond, ◌≡◌, length, get_or, ltb}
+use Rattle.chunks.specs.declared.stored.StoredChunk.{StoredChunk}
+use Rattle.std.specs.Prelude.{ℕ, ◌+◌, ◌≤◌, List, [], ◌∷◌, Bool, true, false, cond, ◌≡◌, length, get_or, ltb, Option, Some, None}
 use Rattle.std.proofs.Math.Seq.{slice}
 use Rattle.text.specs.Numbers.{number_at}
 use Rattle.text.specs.Accepted.{fault_at}
-use Rattle.chunks.specs.declared.stored.ChunkAt.{ChunkAt}
-use Rattle.chunks.specs.declared.stored.ChunkAt.TheVariants.{Found, NoChunk}
 
 -- the place that `check_chunks` carries on, a place past the list while no bad byte was found.
 abbrev pub first_fault : List ℕ → ℕ → ℕ → ℕ → ℕ
@@ -13,9 +12,9 @@ first_fault list start end fault =
     (cond (ltb (start + fault_at (slice start end list)) end) (start + fault_at (slice start end list)) fault)
 
 -- where a chunk that was looked for at a place ends, the place itself where there is none
-abbrev pub end_on : ℕ → ChunkAt → ℕ
-end_on at (Found chunk) = chunk.end
-end_on at NoChunk = at
+abbrev pub end_on : ℕ → Option StoredChunk → ℕ
+end_on at (Some chunk) = chunk.end
+end_on at None = at
 
 -- a chunk without indent stands at a place: a map, a text length of at least 1, and as many bytes
 pub record Plain (list : List ℕ) (at : ℕ) : Type 0 where

@@ -8,11 +8,9 @@ ghost use Rattle.chunks.specs.Steps.{byte_if};
 use crate::stored::ChunkType;
 use text::{characters, numbers, stores};
 
-// What appending a chunk gives.
-#[derive(Clone, Copy)]
-pub enum Appended {
-    // The used length, the chunk included.
-    Used(usize),
+// Why a chunk is not appended.
+#[derive(Clone, Copy, Debug, PartialEq, Eq)]
+pub enum Unappended {
     // The chunk does not fit: the length that was needed.
     NoRoom(usize),
     // The text is empty or above 65,535 bytes, or the indent above 4,096: no chunk is stored so.
@@ -52,7 +50,7 @@ fn store_indent(room: &mut [u8], at: usize, indent: usize) -> usize
     if indent == 0 {
         return at;
     }
-    numbers::store_number(room, at, indent);
+    let _ = numbers::store_number(room, at, indent);
     at + 2
 }
 
@@ -65,7 +63,7 @@ fn store_head(room: &mut [u8], at: usize, ty: ChunkType, indent: usize, count: u
 {
     room[at] = map_byte(ty, indent);
     let behind = store_indent(room, at + 1, indent);
-    numbers::store_number(room, behind, count);
+    let _ = numbers::store_number(room, behind, count);
     behind + 2
 }
 
@@ -132,7 +130,7 @@ pub fn append_chunk(
     spaced: bool,
     text: &[u8],
     colon: bool,
-) -> Appended
+) -> Result<usize, Unappended>
     ensures answer { let stored = with_space spaced (with_colon colon text.now) in
         let chunk : Chunk = record { ty = ty; indent = indent; text = stored } in
         result ≡ appended (length room.old) used chunk }
@@ -141,29 +139,29 @@ pub fn append_chunk(
         room.new ≡ room_after room.old used chunk }
 {
     if 4096 < indent {
-        return Appended::NoChunk;
+        return Err(Unappended::NoChunk);
     }
     if 65535 < text.len() {
-        return Appended::NoChunk;
+        return Err(Unappended::NoChunk);
     }
     let count = text_length(spaced, text, colon);
     if count == 0 {
-        return Appended::NoChunk;
+        return Err(Unappended::NoChunk);
     }
     if 65535 < count {
-        return Appended::NoChunk;
+        return Err(Unappended::NoChunk);
     }
     let limit = capacity(room.len());
     if limit < used {
-        return Appended::UsedPastRoom;
+        return Err(Unappended::UsedPastRoom);
     }
     let end = used + head_length(indent) + count;
     if limit < end {
-        return Appended::NoRoom(end);
+        return Err(Unappended::NoRoom(end));
     }
     let behind = store_head(room, used, ty, indent, count);
     store_text(room, behind, spaced, text, colon);
-    Appended::Used(end)
+    Ok(end)
 }
 
 // "room above 1,048,576 bytes counts as that"

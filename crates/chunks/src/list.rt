@@ -8,7 +8,6 @@ ghost use Rattle.chunks.specs.Judging.{end_from, chunks_checked, chunks_numbers}
 ghost use Rattle.chunks.specs.Steps.{first_fault, Plain, end_on};
 
 use crate::stored;
-use crate::stored::ChunkAt;
 use answers::{Checked, Reason, Refusal};
 use text::{numbers, scans};
 
@@ -49,8 +48,8 @@ fn chunk_end(list: &[u8], at: usize) -> usize
     }
     let found = stored::chunk_at(list, at);
     match found {
-        ChunkAt::Found(chunk) => chunk.end,
-        ChunkAt::NoChunk => at,
+        Some(chunk) => chunk.end,
+        None => at,
     }
 }
 
@@ -77,9 +76,9 @@ fn check_layout(list: &[u8]) -> Checked
 {
     let end = layout_end(list);
     if end == list.len() {
-        return Checked::Passed;
+        return Ok(());
     }
-    Checked::Failed(Refusal {
+    Err(Refusal {
         reason: Reason::ChunkLayout,
         place: end,
     })
@@ -107,7 +106,7 @@ pub fn check_chunks(list: &[u8]) -> Checked
 {
     let length = list.len();
     if 1048576 < length {
-        return Checked::Failed(Refusal {
+        return Err(Refusal {
             reason: Reason::ChunkLayout,
             place: 0,
         });
@@ -119,8 +118,8 @@ pub fn check_chunks(list: &[u8]) -> Checked
     let mut fault = length;
     while at < length {
         let found = stored::chunk_at(list, at);
-        let ChunkAt::Found(chunk) = found else {
-            return Checked::Failed(Refusal {
+        let Some(chunk) = found else {
+            return Err(Refusal {
                 reason: Reason::ChunkLayout,
                 place: at,
             });
@@ -129,10 +128,10 @@ pub fn check_chunks(list: &[u8]) -> Checked
         at = chunk.end;
     }
     if fault < length {
-        return Checked::Failed(Refusal {
+        return Err(Refusal {
             reason: Reason::NotAscii,
             place: fault,
         });
     }
-    Checked::Passed
+    Ok(())
 }

@@ -3,7 +3,6 @@ ghost use Rattle.std.specs.Prelude.{◌≡◌};
 ghost use Rattle.chunks.specs.Reading.{text_at, chunk_at, Fits, type_of};
 
 use text::numbers;
-use text::numbers::Number;
 
 // What a chunk's text is. (The source has no name for code: it is a chunk without a type.)
 #[derive(Clone, Copy)]
@@ -22,14 +21,6 @@ pub struct StoredChunk {
     pub end: usize,
 }
 
-// What stands at a place of a list.
-#[derive(Clone, Copy)]
-pub enum ChunkAt {
-    Found(StoredChunk),
-    // No chunk: the list ends there, or what stands there breaks the layout.
-    NoChunk,
-}
-
 // The type that the two lowest bits of a map tell.
 fn type_of(bits: usize) -> ChunkType
     ensures { result ≡ type_of bits }
@@ -44,21 +35,21 @@ fn type_of(bits: usize) -> ChunkType
 }
 
 // A chunk whose text length stands at a place.
-fn text_at(list: &[u8], at: usize, ty: ChunkType, indent: usize) -> ChunkAt
+fn text_at(list: &[u8], at: usize, ty: ChunkType, indent: usize) -> Option<StoredChunk>
     ensures { result ≡ text_at list.now at ty indent }
 {
     let number = numbers::read_number(list, at);
-    let Number::Read(count) = number else {
-        return ChunkAt::NoChunk;
+    let Some(count) = number else {
+        return None;
     };
     if count == 0 {
-        return ChunkAt::NoChunk;
+        return None;
     }
     let start = at + 2;
     if list.len() - start < count {
-        return ChunkAt::NoChunk;
+        return None;
     }
-    ChunkAt::Found(StoredChunk {
+    Some(StoredChunk {
         ty: ty,
         indent: indent,
         start: start,
@@ -67,34 +58,34 @@ fn text_at(list: &[u8], at: usize, ty: ChunkType, indent: usize) -> ChunkAt
 }
 
 // The chunk at a place of a list.
-pub fn chunk_at(list: &[u8], at: usize) -> ChunkAt
+pub fn chunk_at(list: &[u8], at: usize) -> Option<StoredChunk>
     ensures answer { result ≡ chunk_at list.now at }
     ensures fits { Fits list.now at result }
 {
     if list.len() <= at {
-        return ChunkAt::NoChunk;
+        return None;
     }
     let map = numbers::wide(list[at]);
     if 7 < map {
-        return ChunkAt::NoChunk;
+        return None;
     }
     let bits = map % 4;
     if bits == 3 {
-        return ChunkAt::NoChunk;
+        return None;
     }
     let ty = type_of(bits);
     if map < 4 {
         return text_at(list, at + 1, ty, 0);
     }
     let number = numbers::read_number(list, at + 1);
-    let Number::Read(indent) = number else {
-        return ChunkAt::NoChunk;
+    let Some(indent) = number else {
+        return None;
     };
     if indent == 0 {
-        return ChunkAt::NoChunk;
+        return None;
     }
     if 4096 < indent {
-        return ChunkAt::NoChunk;
+        return None;
     }
     text_at(list, at + 3, ty, indent)
 }

@@ -3,6 +3,7 @@
 --   text_short : length (stored_list chunks) ≤ 1048576 → length (text_of margins chunks) < 2 ^ 32
 -- A piece adds itself and at most 511 spaces, and a newline where it ends a line: at most 513 bytes for each of its own.
 -- A line's indent, at most 4,096, is paid for by the chunk that set it, whose head has at least 3 bytes. A standalone line gets no longer.
+use Rattle.std.specs.Prelude.{Option, Some, None}
 use mathlib.Core.Path.{◌≡◌}
 use mathlib.Core.List.{List, [], ◌∷◌, ◌++◌, map}
 use mathlib.Core.Bool.{Bool, true, false, cond, not}
@@ -21,8 +22,6 @@ use Rattle.columns.specs.Pieces.{Piece, cut, pieces_of, pieces, following}
 use Rattle.columns.specs.Layout.{added, Line, fresh, indent_with, indent_of, add, standalone, placed, set_line, Before, at_start, kept_lines}
 use Rattle.columns.specs.Setting.{lines_kept, text_of}
 use Rattle.columns.specs.declared.Margins.{Margins}
-use Rattle.columns.specs.declared.Indent.{Indent}
-use Rattle.columns.specs.declared.Indent.TheVariants.{Unset, Set}
 use Rattle.columns.specs.declared.Follows.{Follows}
 use Rattle.columns.proofs.Texts.{texts_of, flat_cut, Each, each_piece, added_between, kept_before, kept_cases}
 
@@ -61,11 +60,11 @@ pieces_cost (chunk ∷ chunks) (good, rest) =
 -- ---- the length of a line set
 
 -- a piece that starts a chunk may set the indent
-indent_cost : (indent : Indent) (piece : Piece) → indent_of (indent_with indent piece) ≤ indent_of indent + start_cost piece.starts piece.indent
-indent_cost (Set indent) piece = omega arith
-indent_cost Unset piece = at_start_lem piece.starts
+indent_cost : (indent : Option ℕ) (piece : Piece) → indent_of (indent_with indent piece) ≤ indent_of indent + start_cost piece.starts piece.indent
+indent_cost (Some indent) piece = omega arith
+indent_cost None piece = at_start_lem piece.starts
   where
-    at_start_lem : (starts : Bool) → indent_of (cond starts (Set piece.indent) Unset) ≤ 0 + start_cost starts piece.indent
+    at_start_lem : (starts : Bool) → indent_of (cond starts (Some piece.indent) None) ≤ 0 + start_cost starts piece.indent
     at_start_lem true = omega arith
     at_start_lem false = omega arith
 

@@ -2,6 +2,7 @@
 --   one_label : let n = length (line_of margins ps).bytes in (ltb 0 n && leb n margins.label) ≡ one_label_alone margins ps
 --   ignored_exactly : ignored margins (length (line_of margins ps).bytes) piece ≡ (lone_newline piece && one_label_alone margins ps)
 --   newlines_vanish, where one_label_alone margins (label ∷ ns) ≡ true : kept_lines margins before fresh ((label ∷ ns) ++ rest) ≡ kept_lines margins before fresh (label ∷ rest)
+use Rattle.std.specs.Prelude.{Some}
 use mathlib.Core.Path.{◌≡◌, refl, sym, ap, ◌∙◌}
 use mathlib.Core.List.{List, [], ◌∷◌, ◌++◌, append-nil}
 use mathlib.Core.Bool.{Bool, true, false, not, ◌&&◌, and-true, and-false, and_assoc}
@@ -21,7 +22,6 @@ use Rattle.columns.specs.Pieces.{Piece}
 use Rattle.columns.specs.Layout.{aligned, labelled, commented, ignored_in, ignored, laid, added, Line, fresh, indent_with, add, is_last, ends, Before, kept_lines}
 use Rattle.columns.specs.Moving.{line_on, line_of, open_on, still_open, is_label, is_code, lone_newline, all_newlines, one_label_alone}
 use Rattle.columns.specs.declared.Margins.{Margins}
-use Rattle.columns.specs.declared.Indent.TheVariants.{Set}
 use Rattle.columns.specs.declared.Follows.{Follows}
 use Rattle.columns.specs.declared.Follows.TheVariants.{Nothing, Newline, Other}
 use Rattle.columns.proofs.Texts.{texts_of, Each, added_between}
@@ -145,7 +145,7 @@ module _ (margins : Margins) where
       (line_goes_on before next ps rest (and_true_right (not (ends margins n piece)) (open_on margins next ps) e))
 
   -- lone newlines change nothing of a short line that has its indent
-  newlines_nothing : (line : Line) (indent : ℕ) (ns : List Piece) → line.indent ≡ Set indent → is_short (length line.bytes) ≡ true → all_newlines ns ≡ true
+  newlines_nothing : (line : Line) (indent : ℕ) (ns : List Piece) → line.indent ≡ Some indent → is_short (length line.bytes) ≡ true → all_newlines ns ≡ true
       → line_on margins line ns ≡ line
   unfolding line_on add all_newlines
   newlines_nothing line indent [] set short all = refl
@@ -169,7 +169,7 @@ module _ (margins : Margins) where
       let labels : is_label label.ty ≡ true = and_true_left (is_label label.ty) (narrow && all_newlines ns) alone in
       let fits : (narrow && all_newlines ns) ≡ true = and_true_right (is_label label.ty) (narrow && all_newlines ns) alone in
       let short : is_short (length next.bytes) ≡ true = one_label (label ∷ []) (some, tt) ∙ rw (labels, and_true_left narrow (all_newlines ns) fits) in
-      let set : next.indent ≡ Set label.indent = rw starts in
+      let set : next.indent ≡ Some label.indent = rw starts in
       line_goes_on before fresh (label ∷ ns) rest going
       ∙ ap (λ (line : Line). kept_lines margins before line rest) (newlines_nothing next label.indent ns set short (and_true_right narrow (all_newlines ns) fits))
       ∙ sym (line_goes_on before fresh (label ∷ []) rest (rw on))

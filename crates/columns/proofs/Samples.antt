@@ -1,12 +1,12 @@
 -- The starred samples of document 01, stored and set, by computing: the outcome, and the answer and the buffer afterwards in a buffer of 64 bytes.
 --   samples_set : map found samples ≡ map wanted samples
+use Rattle.std.specs.Prelude.{Ok}
+use Rattle.answers.specs.Numbers.{Answer}
 use mathlib.Core.Path.{◌≡◌, refl}
 use mathlib.Core.List.{List, ◌++◌, map}
 use Prim.Native.Nat.{ℕ, ◌-◌}
 use lib.ListN.{replicate}
 use Rattle.answers.specs.Texts.{Outcome, text, answer_in, buffer_after}
-use Rattle.answers.specs.declared.Answer.{Answer}
-use Rattle.answers.specs.declared.Answer.TheVariants.{Accepted}
 use Rattle.text.specs.Ink.{blank, all_blank, trim_end}
 use Rattle.text.specs.Lines.{has_newline, behind, joined, is_newline}
 use Rattle.text.specs.Accepted.{accepted_byte, accepted_text}
@@ -30,7 +30,7 @@ found sample =
     (outcome, answer_in outcome 64, buffer_after outcome (marks 64))
 
 abbrev pub wanted : Sample → Outcome × Answer × List ℕ
-wanted sample = (text sample.text, Accepted sample.length, sample.text ++ marks (64 - sample.length))
+wanted sample = (text sample.text, Ok sample.length, sample.text ++ marks (64 - sample.length))
 
 pub samples_set : map found samples ≡ map wanted samples
 unfolding ascii stored_indent stored_head stored_chunk stored_list text_at chunk_at chunks_from stored_chunks chunks_at end_from layout_checked texts_checked

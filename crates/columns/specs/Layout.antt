@@ -1,5 +1,5 @@
 -- How pieces become lines: document 01, `join_chunks`, sentence by sentence. L is `margins.label`, C is `margins.code`.
-use Rattle.std.specs.Prelude.{ℕ, ◌+◌, ◌-◌, List, [], ◌∷◌, ◌++◌, Bool, true, false, cond, not, ◌&&◌, ◌||◌, length, take, drop, ltb, leb}
+use Rattle.std.specs.Prelude.{ℕ, ◌+◌, ◌-◌, List, [], ◌∷◌, ◌++◌, Bool, true, false, cond, not, ◌&&◌, ◌||◌, length, take, drop, ltb, leb, Option, Some, None}
 use Rattle.text.specs.Ink.{all_blank, trim_end, spaces}
 use Rattle.text.specs.Lines.{has_newline, is_newline}
 use Rattle.options.specs.declared.Alignment.{Alignment}
@@ -10,8 +10,6 @@ use Rattle.columns.specs.Pieces.{Piece}
 use Rattle.columns.specs.declared.Margins.{Margins}
 use Rattle.columns.specs.declared.Follows.{Follows}
 use Rattle.columns.specs.declared.Follows.TheVariants.{Nothing, Newline, Other}
-use Rattle.columns.specs.declared.Indent.{Indent}
-use Rattle.columns.specs.declared.Indent.TheVariants.{Unset, Set}
 
 -- ---- what a piece adds to a line of n bytes
 
@@ -59,20 +57,20 @@ added margins n piece = cond (ignored margins n piece) [] (laid piece.ty margins
 
 pub record Line : Type 0 where
   pub bytes : List ℕ
-  pub indent : Indent
+  pub indent : Option ℕ
 
 abbrev pub fresh : Line
-fresh = record { bytes = []; indent = Unset }
+fresh = record { bytes = []; indent = None }
 
 -- "A line takes the indent of the first chunk to start while it is unset."
-abbrev pub indent_with : Indent → Piece → Indent
-indent_with (Set indent) piece = Set indent
-indent_with Unset piece = cond piece.starts (Set piece.indent) Unset
+abbrev pub indent_with : Option ℕ → Piece → Option ℕ
+indent_with (Some indent) piece = Some indent
+indent_with None piece = cond piece.starts (Some piece.indent) None
 
 -- "the indent is unset until the next chunk; 0 if none comes"
-abbrev pub indent_of : Indent → ℕ
-indent_of (Set indent) = indent
-indent_of Unset = 0
+abbrev pub indent_of : Option ℕ → ℕ
+indent_of (Some indent) = indent
+indent_of None = 0
 
 unfoldable pub add : Margins → Line → Piece → Line
 add margins line piece = record {

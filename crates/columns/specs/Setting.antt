@@ -1,13 +1,11 @@
 -- The text of chunks, and what `join_chunks` comes to.
-use Rattle.std.specs.Prelude.{ℕ, List, map}
+use Rattle.answers.specs.declared.Refusal.{Refusal}
+use Rattle.answers.specs.Numbers.{Checked}
+use Rattle.std.specs.Prelude.{ℕ, List, map, Result, Ok, Err}
 use Rattle.answers.specs.Texts.{Outcome, text, refusal}
-use Rattle.answers.specs.declared.Checked.{Checked}
-use Rattle.answers.specs.declared.Checked.TheVariants.{Passed, Failed}
 use Rattle.text.specs.Lines.{joined}
 use Rattle.options.specs.Stored.{read_options}
 use Rattle.options.specs.declared.FormattingOptions.{FormattingOptions}
-use Rattle.options.specs.declared.OptionsRead.{OptionsRead}
-use Rattle.options.specs.declared.OptionsRead.TheVariants.{Options, Refused}
 use Rattle.chunks.specs.Stored.{Chunk}
 use Rattle.chunks.specs.Reading.{chunks_of}
 use Rattle.chunks.specs.Judging.{chunks_checked}
@@ -31,12 +29,12 @@ margins_of options = record {
 }
 
 abbrev pub unless_failed : Checked → List ℕ → Outcome
-unless_failed Passed bytes = text bytes
-unless_failed (Failed why) bytes = refusal why
+unless_failed (Ok tt) bytes = text bytes
+unless_failed (Err why) bytes = refusal why
 
-abbrev pub outcome_on : OptionsRead → List ℕ → Outcome
-outcome_on (Options options) list = unless_failed (chunks_checked list) (text_of (margins_of options) (chunks_of list))
-outcome_on (Refused why) list = refusal why
+abbrev pub outcome_on : Result FormattingOptions Refusal → List ℕ → Outcome
+outcome_on (Ok options) list = unless_failed (chunks_checked list) (text_of (margins_of options) (chunks_of list))
+outcome_on (Err why) list = refusal why
 
 -- "The column setter alone takes no work room and checks 1, 2, 6, 7, 9": all but 9, which looks at the buffer
 unfoldable pub join_outcome : List ℕ → List ℕ → Outcome

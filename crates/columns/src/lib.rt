@@ -22,13 +22,6 @@ pub enum Follows {
     Other,
 }
 
-// The indent that a line takes from the first chunk to start on it.
-#[derive(Clone, Copy)]
-pub enum Indent {
-    Unset,
-    Set(usize),
-}
-
 // The margins and the alignment that the options ask for.
 pub fn margins_of(options: FormattingOptions) -> Margins
     ensures { result ≡ margins_of options }

@@ -1,6 +1,7 @@
 -- The chunks that are held for a tree that passed are chunks that the column setter accepts, and reading their stored form gives them back.
 --   file_accepted : .. batch_checked bytes ≡ Passed → .. hold room (events_of .. (read_file 64 bytes).tree) (held [] false) ≡ held chunks pending
 --       → Acceptable (reverse chunks)
+use Rattle.answers.specs.Numbers.{no_refusal}
 use mathlib.Core.Path.{◌≡◌}
 use mathlib.Core.Logic.{⊎_elim}
 use mathlib.Core.List.Memᴰ
@@ -10,7 +11,6 @@ use Prim.Native.Nat.{ℕ, ◌+◌, ◌≤◌}
 use native.Mathlib.Omega.{arith}
 use lib.ListN.{length, replicate, length-append, length-take, length-replicate}
 use lib.Dec.{ltb}
-use Rattle.answers.specs.declared.Checked.TheVariants.{Passed}
 use Rattle.answers.proofs.Cases.{failed_passed}
 use Rattle.options.specs.declared.FormattingOptions.{FormattingOptions}
 use Rattle.text.specs.Accepted.{accepted_byte, accepted_text}
@@ -121,17 +121,17 @@ held_length_lem room events fine {chunks} {pending} is =
 -- ---- a file that passed
 
 -- its texts
-texts_passed : (texts : List Placed) → texts_checked texts ≡ Passed → Holds (λ text. accepted_text text ≡ true) texts
+texts_passed : (texts : List Placed) → texts_checked texts ≡ no_refusal → Holds (λ text. accepted_text text ≡ true) texts
 unfolding texts_checked
 texts_passed [] e text member = absurd (Memᴰ.not-nil member)
 texts_passed (other ∷ texts) e text member =
-    by_choice (accepted_text other.bytes) _ _ Passed e
+    by_choice (accepted_text other.bytes) _ _ no_refusal e
     (λ t f. ⊎_elim (λ is. rw is t) (λ rest. texts_passed texts f text rest) (Memᴰ.cases_cons member))
     (λ t f. failed_passed f)
 
 -- what is held for a file that passed
 pub file_accepted : (bytes : List ℕ) (options : FormattingOptions) (room : ℕ) {chunks : List Chunk} {pending : Bool}
-    → batch_checked bytes ≡ Passed → options.whitespace.indent ≤ 64
+    → batch_checked bytes ≡ no_refusal → options.whitespace.indent ≤ 64
     → hold room (events_of (record { options = options; indent = 0 }) (read_file 64 bytes).tree) (held [] false) ≡ held chunks pending
     → Acceptable (reverse chunks)
 unfolding accepted_text accepted_byte

@@ -9,6 +9,7 @@
 --   own_refused, own_read : the same of a record's own bytes and its own trivia
 --   number_read : read_own bytes at class levels ≡ Record own → token_number (read levels bytes class at .tree) ≡ get_or bytes at 0
 --   block_read : read_own bytes at class levels ≡ Record own → has_block (read levels bytes class at .tree) ≡ block_bit (get_or bytes at 0) (own.map / 2)
+use Rattle.std.specs.Prelude.{Result, Some, Ok, Err}
 use mathlib.Core.Path.{◌≡◌, refl, sym, ap, ◌∙◌}
 use mathlib.Core.List.{List, [], ◌∷◌}
 use mathlib.Core.Bool.{Bool, true, false, cond, not, ◌&&◌, ◌||◌}
@@ -19,9 +20,7 @@ use lib.ListN.{length, get_or}
 use lib.Dec.{eqb, leb}
 use borrow.Author.Tests.{eqb-true, eqb-false, leb-true, le-leb}
 use Rattle.answers.specs.declared.Refusal.{Refusal}
-use Rattle.answers.specs.declared.Checked.{Checked}
-use Rattle.answers.specs.declared.Checked.TheVariants.{Passed, Failed}
-use Rattle.answers.specs.Numbers.{and_then}
+use Rattle.answers.specs.Numbers.{no_refusal, and_then, Checked}
 use Rattle.text.proofs.Choices.{by_test, true_false, and_true_left, and_true_right}
 use Rattle.tree.specs.Grammar.{Slot, must, kind_of, nodes, rule, fields}
 use Rattle.tree.specs.Own.{may_stand, fields_fit, read_own}
@@ -30,17 +29,10 @@ use Rattle.tree.specs.Parts.{skipped, first_class, second_field, field_head, inn
 use Rattle.tree.specs.Tree.{Tree, Trivium, absent, built}
 use Rattle.tree.specs.declared.grammar.Kind.{Kind}
 use Rattle.tree.specs.declared.grammar.Kind.TheVariants as variant
-use Rattle.tree.specs.declared.grammar.KindRead.TheVariants.{Known}
 use Rattle.tree.specs.declared.grammar.Class.{Class}
 use Rattle.tree.specs.declared.grammar.Class.TheVariants.{DataSize, BinaryOp, LocatedExpression, BareExpression, BlockRecord, ExpressionArguments}
 use Rattle.tree.specs.declared.own.Own.{Own}
-use Rattle.tree.specs.declared.own.OwnRead.{OwnRead}
-use Rattle.tree.specs.declared.own.OwnRead.TheVariants.{Record, Refused}
 use Rattle.tree.specs.declared.parts.Head.{Head}
-use Rattle.tree.specs.declared.parts.Skipped.{Skipped}
-use Rattle.tree.specs.declared.parts.Skipped.TheVariants.{Next, NotSkipped}
-use Rattle.tree.specs.declared.parts.HeadRead.{HeadRead}
-use Rattle.tree.specs.declared.parts.HeadRead.TheVariants.{Found, NoHead}
 use Rattle.tree.proofs.OwnBytes.{leaf_number}
 use Rattle.tree.proofs.Readings.{no_record}
 use Rattle.events.specs.Views.{view, own_trivia, head_of, head_trivia, token_number, stands, has_block, bit_at, block_bit}
@@ -51,23 +43,23 @@ use Rattle.events.proofs.Refusals.{skip_passed, skip_refused}
 -- ---- what is claimed
 
 -- what own bytes say of a refusal and trivia
-abbrev OwnSays : List ℕ → Checked → List Trivium → OwnRead → Type 0
-OwnSays bytes refusal trivia (Record own) = (refusal ≡ Passed) × (trivia ≡ trivia_of bytes own)
-OwnSays bytes refusal trivia (Refused why) = refusal ≡ Failed why
+abbrev OwnSays : List ℕ → Checked → List Trivium → Result Own Refusal → Type 0
+OwnSays bytes refusal trivia (Ok own) = (refusal ≡ no_refusal) × (trivia ≡ trivia_of bytes own)
+OwnSays bytes refusal trivia (Err why) = refusal ≡ Err why
 
 -- what a head that was found says of a refusal and the record that is the head
-abbrev HeadSays : List ℕ → Checked → Tree → HeadRead → Type 0
-HeadSays bytes refusal head (Found found) = (head ≡ (read found.levels bytes found.class found.place).tree) × (refusal ≡ own_refusal head)
-HeadSays bytes refusal head (NoHead why) = refusal ≡ Failed why
+abbrev HeadSays : List ℕ → Checked → Tree → Result Head Refusal → Type 0
+HeadSays bytes refusal head (Ok found) = (head ≡ (read found.levels bytes found.class found.place).tree) × (refusal ≡ own_refusal head)
+HeadSays bytes refusal head (Err why) = refusal ≡ Err why
 
 -- ---- a record's own bytes
 
 -- the tree of a record that was read, or not
-on_says : (reader : Reader) (bytes : List ℕ) (class : Class) (at : ℕ) (own : OwnRead)
+on_says : (reader : Reader) (bytes : List ℕ) (class : Class) (at : ℕ) (own : Result Own Refusal)
     → OwnSays bytes (own_refusal (read_on reader bytes class at own).tree) (own_trivia (read_on reader bytes class at own).tree) own
 unfolding own_refusal view
-on_says reader bytes class at (Record own) = (refl, refl)
-on_says reader bytes class at (Refused why) = refl
+on_says reader bytes class at (Ok own) = (refl, refl)
+on_says reader bytes class at (Err why) = refl
 
 -- at any level
 own_says : (levels : ℕ) (bytes : List ℕ) (class : Class) (at : ℕ)
@@ -78,16 +70,16 @@ own_says (suc levels) bytes class at = on_says (read levels bytes) bytes class a
 
 module _ (levels : ℕ) (bytes : List ℕ) (class : Class) (at : ℕ) where
   -- own bytes that are refused are the tree's refusal
-  pub own_refused : (why : Refusal) → read_own bytes at class levels ≡ Refused why → own_refusal (read levels bytes class at).tree ≡ Failed why
+  pub own_refused : (why : Refusal) → read_own bytes at class levels ≡ Err why → own_refusal (read levels bytes class at).tree ≡ Err why
   own_refused why is = rw is at (own_says levels bytes class at)
 
   -- those that were read hold the tree's own trivia
-  pub own_read : (own : Own) → read_own bytes at class levels ≡ Record own
-      → (own_refusal (read levels bytes class at).tree ≡ Passed) × (own_trivia (read levels bytes class at).tree ≡ trivia_of bytes own)
+  pub own_read : (own : Own) → read_own bytes at class levels ≡ Ok own
+      → (own_refusal (read levels bytes class at).tree ≡ no_refusal) × (own_trivia (read levels bytes class at).tree ≡ trivia_of bytes own)
   own_read own is = rw is at (own_says levels bytes class at)
 
 -- a record whose own bytes were read, of its parts
-read_record : (levels : ℕ) (bytes : List ℕ) (class : Class) (at : ℕ) (own : Own) → read_own bytes at class (suc levels) ≡ Record own
+read_record : (levels : ℕ) (bytes : List ℕ) (class : Class) (at : ℕ) (own : Own) → read_own bytes at class (suc levels) ≡ Ok own
     → read (suc levels) bytes class at ≡ record_of bytes at own (read_parts (read levels bytes) (parts_due class own) own.end)
 unfolding read
 read_record levels bytes class at own is = ap (read_on (read levels bytes) bytes class at) is
@@ -186,13 +178,13 @@ second_says : (levels : ℕ) (bytes : List ℕ) (class next : Class) (at : ℕ)
     (read levels bytes next (read levels bytes class at).end).tree (second_field levels next (skipped levels bytes class at))
 second_says levels bytes class next at = go (skipped levels bytes class at) refl
   where
-    go : (found : Skipped) → skipped levels bytes class at ≡ found
+    go : (found : Result ℕ Refusal) → skipped levels bytes class at ≡ found
         → HeadSays bytes (and_then (first_refusal (read levels bytes class at).tree) (own_refusal (read levels bytes next (read levels bytes class at).end).tree))
         (read levels bytes next (read levels bytes class at).end).tree (second_field levels next found)
-    go (Next end) is = let passed = skip_passed levels bytes class at end is in rw (passed.0, passed.1) (refl, refl)
-    go (NotSkipped why) is = rw (skip_refused levels bytes class at why is)
+    go (Ok end) is = let passed = skip_passed levels bytes class at end is in rw (passed.0, passed.1) (refl, refl)
+    go (Err why) is = rw (skip_refused levels bytes class at why is)
 
-module _ (levels : ℕ) (bytes : List ℕ) (class : Class) (at : ℕ) (own : Own) (is : read_own bytes at class (suc levels) ≡ Record own) where
+module _ (levels : ℕ) (bytes : List ℕ) (class : Class) (at : ℕ) (own : Own) (is : read_own bytes at class (suc levels) ≡ Ok own) where
   -- the trees of a record's parts
   abbrev part_trees : List Tree
   part_trees = (read_parts (read levels bytes) (parts_due class own) own.end).trees
@@ -202,7 +194,7 @@ module _ (levels : ℕ) (bytes : List ℕ) (class : Class) (at : ℕ) (own : Own
   record_tree = built own.kind (text_of bytes own) part_trees
 
   -- its kind
-  known_kind : kind_of (get_or bytes at 0) ≡ Known own.kind
+  known_kind : kind_of (get_or bytes at 0) ≡ Some own.kind
   known_kind = (record_headed bytes at class (suc levels) own is).1.kind_is
 
   -- its number
@@ -253,7 +245,7 @@ module _ (levels : ℕ) (bytes : List ℕ) (class : Class) (at : ℕ) (own : Own
         → HeadSays bytes (head_refusal record_tree) (head_of record_tree) (second_field levels DataSize (skipped levels bytes ExpressionArguments own.end))
     unfolding built head_refusal view
     data_says five =
-        let kind : kind_of 5 ≡ Known own.kind = rw (eqb-true (get_or bytes at 0) 5 five) at known_kind in
+        let kind : kind_of 5 ≡ Some own.kind = rw (eqb-true (get_or bytes at 0) 5 five) at known_kind in
         let same : own.kind ≡ variant.Data = cc in
         behind_says variant.Data ExpressionArguments DataSize [] same refl refl refl
 
@@ -262,14 +254,14 @@ module _ (levels : ℕ) (bytes : List ℕ) (class : Class) (at : ℕ) (own : Own
         → HeadSays bytes (head_refusal record_tree) (head_of record_tree) (second_field levels LocatedExpression (skipped levels bytes BinaryOp own.end))
     unfolding built head_refusal view
     binary_says binary =
-        let kind : kind_of 28 ≡ Known own.kind = rw (eqb-true (get_or bytes at 0) 28 binary) at known_kind in
+        let kind : kind_of 28 ≡ Some own.kind = rw (eqb-true (get_or bytes at 0) 28 binary) at known_kind in
         let same : own.kind ≡ variant.BinaryExpression = cc in
         behind_says variant.BinaryExpression BinaryOp LocatedExpression (must LocatedExpression ∷ []) same refl refl refl
 
     -- any other
     first_says : heads (get_or bytes at 0) ≡ true → eqb (get_or bytes at 0) 5 ≡ false → eqb (get_or bytes at 0) 28 ≡ false
         → HeadSays bytes (head_refusal record_tree) (head_of record_tree)
-        (Found (record { place = own.end; class = first_class class (fields own.kind (rule class).value); levels = levels }))
+        (Ok (record { place = own.end; class = first_class class (fields own.kind (rule class).value); levels = levels }))
     first_says nodal five binary =
         let field : Class = first_class class (fields own.kind (rule class).value) in
         let parts = first_head own.kind class (rule class).value (text_of bytes own) part_trees (rw own_number nodal) (rw own_number five) (rw own_number binary) in
@@ -296,17 +288,17 @@ inner_says : (levels : ℕ) (bytes : List ℕ) (class : Class) (at : ℕ) → ((
 unfolding inner_head read head_refusal view
 inner_says zero bytes class at nodal = go (read_own bytes at class zero) refl
   where
-    go : (found : OwnRead) → read_own bytes at class zero ≡ found
+    go : (found : Result Own Refusal) → read_own bytes at class zero ≡ found
         → HeadSays bytes (head_refusal (read_on unread bytes class at found).tree) (head_of (read_on unread bytes class at found).tree) (inner_on zero bytes class at found)
-    go (Record own) is = no_record bytes at class own is
-    go (Refused why) is = refl
+    go (Ok own) is = no_record bytes at class own is
+    go (Err why) is = refl
 inner_says (suc levels) bytes class at nodal = go (read_own bytes at class (suc levels)) refl
   where
-    go : (found : OwnRead) → read_own bytes at class (suc levels) ≡ found
+    go : (found : Result Own Refusal) → read_own bytes at class (suc levels) ≡ found
         → HeadSays bytes (head_refusal (read_on (read levels bytes) bytes class at found).tree) (head_of (read_on (read levels bytes) bytes class at found).tree)
         (inner_on (suc levels) bytes class at found)
-    go (Record own) is = field_says levels bytes class at own is (nodal (get_or bytes at 0) (record_headed bytes at class (suc levels) own is).1.standing)
-    go (Refused why) is = refl
+    go (Ok own) is = field_says levels bytes class at own is (nodal (get_or bytes at 0) (record_headed bytes at class (suc levels) own is).1.standing)
+    go (Err why) is = refl
 
 -- numbers in a range
 within : (low high number : ℕ) → (leb low number && leb number high) ≡ true → (low ≤ number) × (number ≤ high)
@@ -344,7 +336,7 @@ token_nodal located number stand block expression =
 
 -- of a class of tokens
 module _ (bytes : List ℕ) (class : Class) (located : Bool) (tokens : rule class ≡ nodes 0 23 located) where
-  module _ (levels : ℕ) (at : ℕ) (own : Own) (is : read_own bytes at class (suc levels) ≡ Record own) where
+  module _ (levels : ℕ) (at : ℕ) (own : Own) (is : read_own bytes at class (suc levels) ≡ Ok own) where
     -- a token of its own bytes
     abbrev token : Tree
     token = record_tree levels bytes class at own is
@@ -372,12 +364,12 @@ module _ (bytes : List ℕ) (class : Class) (located : Bool) (tokens : rule clas
         by_test (eqb (get_or bytes at 0) 2)
         (λ two.
         let byte : get_or bytes at 0 ≡ 2 = eqb-true (get_or bytes at 0) 2 two in
-        let kind : kind_of 2 ≡ Known own.kind = rw byte at (known_kind levels bytes class at own is) in
+        let kind : kind_of 2 ≡ Some own.kind = rw byte at (known_kind levels bytes class at own is) in
         let same : own.kind ≡ variant.Braces = cc in
         wrapped_says variant.Braces BlockRecord block_nodal (rw byte) (rw byte) same refl refl refl)
         (λ two.
         let byte : get_or bytes at 0 ≡ 3 = eqb-true (get_or bytes at 0) 3 (rw two at block) in
-        let kind : kind_of 3 ≡ Known own.kind = rw byte at (known_kind levels bytes class at own is) in
+        let kind : kind_of 3 ≡ Some own.kind = rw byte at (known_kind levels bytes class at own is) in
         let same : own.kind ≡ variant.Config = cc in
         wrapped_says variant.Config BlockRecord block_nodal (rw byte) (rw byte) same refl refl refl)
 
@@ -386,12 +378,12 @@ module _ (bytes : List ℕ) (class : Class) (located : Bool) (tokens : rule clas
     unfolding built head_refusal view
     expression_says nine =
         let byte : get_or bytes at 0 ≡ 9 = eqb-true (get_or bytes at 0) 9 nine in
-        let kind : kind_of 9 ≡ Known own.kind = rw byte at (known_kind levels bytes class at own is) in
+        let kind : kind_of 9 ≡ Some own.kind = rw byte at (known_kind levels bytes class at own is) in
         let same : own.kind ≡ variant.Expression = cc in
         wrapped_says variant.Expression BareExpression expression_nodal (rw byte) (rw byte) same refl refl refl
 
     -- that of any token is what the bytes say
-    record_says : HeadSays bytes (head_refusal token) (head_of token) (head_on (suc levels) bytes class at (Record own))
+    record_says : HeadSays bytes (head_refusal token) (head_of token) (head_on (suc levels) bytes class at (Ok own))
     record_says =
         let stand : may_stand (nodes 0 23 located) (get_or bytes at 0) ≡ true = rw tokens at (record_headed bytes at class (suc levels) own is).1.standing in
         by_test (eqb (get_or bytes at 0) 2 || eqb (get_or bytes at 0) 3)
@@ -406,41 +398,41 @@ module _ (bytes : List ℕ) (class : Class) (located : Bool) (tokens : rule clas
   unfolding head_at read head_refusal view
   token_says zero at = go (read_own bytes at class zero) refl
     where
-      go : (found : OwnRead) → read_own bytes at class zero ≡ found
+      go : (found : Result Own Refusal) → read_own bytes at class zero ≡ found
           → HeadSays bytes (head_refusal (read_on unread bytes class at found).tree) (head_of (read_on unread bytes class at found).tree) (head_on zero bytes class at found)
-      go (Record own) is = no_record bytes at class own is
-      go (Refused why) is = refl
+      go (Ok own) is = no_record bytes at class own is
+      go (Err why) is = refl
   token_says (suc levels) at = go (read_own bytes at class (suc levels)) refl
     where
-      go : (found : OwnRead) → read_own bytes at class (suc levels) ≡ found
+      go : (found : Result Own Refusal) → read_own bytes at class (suc levels) ≡ found
           → HeadSays bytes (head_refusal (read_on (read levels bytes) bytes class at found).tree) (head_of (read_on (read levels bytes) bytes class at found).tree)
           (head_on (suc levels) bytes class at found)
-      go (Record own) is = record_says levels at own is
-      go (Refused why) is = refl
+      go (Ok own) is = record_says levels at own is
+      go (Err why) is = refl
 
   -- a head that was found is the token's
-  pub head_is : (levels : ℕ) (at : ℕ) (head : Head) → head_at levels bytes class at ≡ Found head
+  pub head_is : (levels : ℕ) (at : ℕ) (head : Head) → head_at levels bytes class at ≡ Ok head
       → head_of (read levels bytes class at).tree ≡ (read head.levels bytes head.class head.place).tree
   head_is levels at head found = (rw found at (token_says levels at)).0
 
   module _ (levels : ℕ) (at : ℕ) where
     -- a refusal on the way to the head
-    pub head_missing : (why : Refusal) → head_at levels bytes class at ≡ NoHead why → head_refusal (read levels bytes class at).tree ≡ Failed why
+    pub head_missing : (why : Refusal) → head_at levels bytes class at ≡ Err why → head_refusal (read levels bytes class at).tree ≡ Err why
     head_missing why found = rw found at (token_says levels at)
 
     -- the refusal of a head that was found is its own
-    head_own_lem : (head : Head) → head_at levels bytes class at ≡ Found head
+    head_own_lem : (head : Head) → head_at levels bytes class at ≡ Ok head
         → head_refusal (read levels bytes class at).tree ≡ own_refusal (read head.levels bytes head.class head.place).tree
     head_own_lem head found = let says = rw found at (token_says levels at) in says.1 ∙ ap own_refusal says.0
 
     -- a refusal of the head's own bytes
-    pub head_refused : (head : Head) (why : Refusal) → head_at levels bytes class at ≡ Found head → read_own bytes head.place head.class head.levels ≡ Refused why
-        → head_refusal (read levels bytes class at).tree ≡ Failed why
+    pub head_refused : (head : Head) (why : Refusal) → head_at levels bytes class at ≡ Ok head → read_own bytes head.place head.class head.levels ≡ Err why
+        → head_refusal (read levels bytes class at).tree ≡ Err why
     head_refused head why found is = head_own_lem head found ∙ own_refused head.levels bytes head.class head.place why is
 
     -- a head that was read
-    pub head_read : (head : Head) (own : Own) → head_at levels bytes class at ≡ Found head → read_own bytes head.place head.class head.levels ≡ Record own
-        → (head_refusal (read levels bytes class at).tree ≡ Passed) × (head_trivia (read levels bytes class at).tree ≡ trivia_of bytes own)
+    pub head_read : (head : Head) (own : Own) → head_at levels bytes class at ≡ Ok head → read_own bytes head.place head.class head.levels ≡ Ok own
+        → (head_refusal (read levels bytes class at).tree ≡ no_refusal) × (head_trivia (read levels bytes class at).tree ≡ trivia_of bytes own)
     head_read head own found is =
         let reads = own_read head.levels bytes head.class head.place own is in
         (head_own_lem head found ∙ reads.0, ap own_trivia (head_is levels at head found) ∙ reads.1)
@@ -448,10 +440,10 @@ module _ (bytes : List ℕ) (class : Class) (located : Bool) (tokens : rule clas
 -- ---- a token's number and its block
 
 -- a tree that was read stands
-stands_on : (reader : Reader) (bytes : List ℕ) (class : Class) (at : ℕ) (own : OwnRead) → stands (read_on reader bytes class at own).tree ≡ true
+stands_on : (reader : Reader) (bytes : List ℕ) (class : Class) (at : ℕ) (own : Result Own Refusal) → stands (read_on reader bytes class at own).tree ≡ true
 unfolding view
-stands_on reader bytes class at (Record own) = refl
-stands_on reader bytes class at (Refused why) = refl
+stands_on reader bytes class at (Ok own) = refl
+stands_on reader bytes class at (Err why) = refl
 
 -- at any level
 pub read_stands : (levels : ℕ) (bytes : List ℕ) (class : Class) (at : ℕ) → stands (read levels bytes class at).tree ≡ true
@@ -519,7 +511,7 @@ block_built variant.ImportAll text trees = refl
 block_built variant.SpecificImportArg text trees = refl
 block_built variant.ArgItem text trees = refl
 
-module _ (levels : ℕ) (bytes : List ℕ) (class : Class) (at : ℕ) (own : Own) (is : read_own bytes at class (suc levels) ≡ Record own) where
+module _ (levels : ℕ) (bytes : List ℕ) (class : Class) (at : ℕ) (own : Own) (is : read_own bytes at class (suc levels) ≡ Ok own) where
   -- a field of a record that is no list stands where its bit does
   part_stands : (kind : Kind) (place : ℕ) → eqb (get_or bytes at 0) 24 ≡ false → own.kind ≡ kind → place < length (fields kind (rule class).value)
       → stands (get_or (part_trees levels bytes class at own is) place absent) ≡ bit_at place (own.map / 2)
@@ -534,7 +526,7 @@ module _ (levels : ℕ) (bytes : List ℕ) (class : Class) (at : ℕ) (own : Own
       ≡ stands (get_or (read_parts (read levels bytes) (parts_due class own) own.end).trees 4 absent)
   unfolding built view
   else_stands same =
-      let ten : 10 ≡ get_or bytes at 0 = token_number_lem (get_or bytes at 0) variant.If [] [] (known_kind levels bytes class at own is ∙ ap Known same) in
+      let ten : 10 ≡ get_or bytes at 0 = token_number_lem (get_or bytes at 0) variant.If [] [] (known_kind levels bytes class at own is ∙ ap Some same) in
       let list : eqb (get_or bytes at 0) 24 ≡ false = rw (← ten) refl in
       let ends = (record_fields bytes at class (suc levels) own is list).ends (rw (← ten) refl) in
       part_stands variant.If 3 list same (omega arith) ∙ both_stand (own.map / 2) (rw (← ten) at ends)
@@ -547,26 +539,26 @@ module _ (levels : ℕ) (bytes : List ℕ) (class : Class) (at : ℕ) (own : Own
       ∙ rw (own_number levels bytes class at own is) (by_test (eqb (get_or bytes at 0) 11)
       (λ eleven.
       let byte : get_or bytes at 0 ≡ 11 = eqb-true (get_or bytes at 0) 11 eleven in
-      let kind : kind_of 11 ≡ Known own.kind = rw byte at (known_kind levels bytes class at own is) in
+      let kind : kind_of 11 ≡ Some own.kind = rw byte at (known_kind levels bytes class at own is) in
       let same : own.kind ≡ variant.Import = cc in
       rw eleven (part_stands variant.Import 4 (rw byte) same (omega arith)))
       (λ eleven. by_test (eqb (get_or bytes at 0) 14)
       (λ fourteen.
       let byte : get_or bytes at 0 ≡ 14 = eqb-true (get_or bytes at 0) 14 fourteen in
-      let kind : kind_of 14 ≡ Known own.kind = rw byte at (known_kind levels bytes class at own is) in
+      let kind : kind_of 14 ≡ Some own.kind = rw byte at (known_kind levels bytes class at own is) in
       let same : own.kind ≡ variant.Label = cc in
       rw (eleven, fourteen) (part_stands variant.Label 2 (rw byte) same (omega arith)))
       (λ fourteen. rw (eleven, fourteen))))
 
 -- a token's number is its first byte
-pub number_read : (levels : ℕ) (bytes : List ℕ) (class : Class) (at : ℕ) (own : Own) → read_own bytes at class levels ≡ Record own
+pub number_read : (levels : ℕ) (bytes : List ℕ) (class : Class) (at : ℕ) (own : Own) → read_own bytes at class levels ≡ Ok own
     → token_number (read levels bytes class at).tree ≡ get_or bytes at 0
 unfolding view
 number_read zero bytes class at own is = no_record bytes at class own is
 number_read (suc levels) bytes class at own is = rw (read_record levels bytes class at own is) (own_number levels bytes class at own is)
 
 -- it has a block where that bit of its map stands
-pub block_read : (levels : ℕ) (bytes : List ℕ) (class : Class) (at : ℕ) (own : Own) → read_own bytes at class levels ≡ Record own
+pub block_read : (levels : ℕ) (bytes : List ℕ) (class : Class) (at : ℕ) (own : Own) → read_own bytes at class levels ≡ Ok own
     → has_block (read levels bytes class at).tree ≡ block_bit (get_or bytes at 0) (own.map / 2)
 unfolding view
 block_read zero bytes class at own is = no_record bytes at class own is

@@ -1,13 +1,13 @@
 -- A tree that was read has no refusal where its events do not stop: whatever a walk passes it judges.
 --   read_judged : Free (events_in context place shown (read levels bytes class at .tree)) → read levels bytes class at .checked ≡ Passed
+use Rattle.std.specs.Prelude.{Ok, Err}
+use Rattle.answers.specs.Numbers.{no_refusal, Checked}
 use mathlib.Core.Path.{◌≡◌, refl, sym, ◌∙◌}
 use mathlib.Core.List.{List, [], ◌∷◌}
 use mathlib.Core.Bool.{Bool, true, false, cond}
 use Prim.Native.Nat.{ℕ, zero, suc}
 use lib.ListN.{get_or}
 use lib.Dec.{eqb}
-use Rattle.answers.specs.declared.Checked.{Checked}
-use Rattle.answers.specs.declared.Checked.TheVariants.{Passed, Failed}
 use Rattle.options.specs.declared.BracePosition.{BracePosition}
 use Rattle.options.specs.declared.BracePosition.TheVariants.{SameLine, NewLine}
 use Rattle.text.proofs.Choices.{by_test, true_false}
@@ -18,7 +18,6 @@ use Rattle.tree.specs.declared.grammar.Kind.{Kind}
 use Rattle.tree.specs.declared.grammar.Kind.TheVariants as variant
 use Rattle.tree.specs.declared.grammar.Class.{Class}
 use Rattle.tree.specs.declared.own.Own.{Own}
-use Rattle.tree.specs.declared.own.OwnRead.TheVariants.{Record}
 use Rattle.tree.proofs.Readings.{every_reading}
 use Rattle.printing.specs.Events.{Events, ◌▹◌}
 use Rattle.printing.specs.Events as event
@@ -34,14 +33,14 @@ use Rattle.events.proofs.Refusals.{read_refusal}
 
 -- where the events of a tree do not stop it has no refusal, wherever it stands
 abbrev Judges : Tree → Type 0
-Judges tree = (context : Context) (place : Place) (shown : Bool) → Unstopped (events_in context place shown tree) → first_refusal tree ≡ Passed
+Judges tree = (context : Context) (place : Place) (shown : Bool) → Unstopped (events_in context place shown tree) → first_refusal tree ≡ no_refusal
 
 -- ---- what surrounds trees
 
 -- what was skipped
-stop_passed : (found : Checked) → Unstopped (stop_at found) → found ≡ Passed
-stop_passed Passed free = refl
-stop_passed (Failed why) free = absurd free
+stop_passed : (found : Checked) → Unstopped (stop_at found) → found ≡ no_refusal
+stop_passed (Ok tt) free = refl
+stop_passed (Err why) free = absurd free
 
 brace_free : (context : Context) (position : BracePosition) (brace : Events) → Unstopped (opening context position brace) → Unstopped brace
 brace_free context SameLine brace free = free.0
@@ -58,17 +57,17 @@ suffix_free mode rchar suffix free =
 
 -- the parts behind the first branch of an `If`, of which nothing is printed where the tag does not stand
 abbrev Together : Tree → Tree → Type 0
-Together tag block = stands tag ≡ false → (first_refusal tag ≡ Passed) × (first_refusal block ≡ Passed)
+Together tag block = stands tag ≡ false → (first_refusal tag ≡ no_refusal) × (first_refusal block ≡ no_refusal)
 
 branch_judged : (context : Context) (position : BracePosition) (tag block : Tree) → Judges tag → Judges block
     → Unstopped (else_events context position (events_in context (leaf plain) true tag) (events_in context (leaf plain) true block))
-    → (first_refusal tag ≡ Passed) × (first_refusal block ≡ Passed)
+    → (first_refusal tag ≡ no_refusal) × (first_refusal block ≡ no_refusal)
 branch_judged context SameLine tag block one other free = (one context (leaf plain) true free.1.0, other context (leaf plain) true free.1.1.1)
 branch_judged context NewLine tag block one other free = (one context (leaf plain) true free.1.0, other context (leaf plain) true free.1.1)
 
 else_judged : (context : Context) (position : BracePosition) (tag block : Tree) → Judges tag → Judges block → Together tag block
     → Unstopped (cond (stands tag) (else_events context position (events_in context (leaf plain) true tag) (events_in context (leaf plain) true block)) event.nothing)
-    → (first_refusal tag ≡ Passed) × (first_refusal block ≡ Passed)
+    → (first_refusal tag ≡ no_refusal) × (first_refusal block ≡ no_refusal)
 else_judged context position tag block one other together free =
     by_test (stands tag) (λ q. branch_judged context position tag block one other (rw q at free)) together
 
@@ -77,7 +76,7 @@ else_judged context position tag block one other together free =
 -- an item, and those behind it
 item_judged : (context : Context) (place : Place) (item items : Tree) → Judges item → Judges items
     → Unstopped (item_events context place item (events_in context (leaf plain) false item) (events_in context place true item) (λ next. events_in context next true items))
-    → (first_refusal item ≡ Passed) × (first_refusal items ≡ Passed)
+    → (first_refusal item ≡ no_refusal) × (first_refusal items ≡ no_refusal)
 item_judged context (leaf style) item items one rest free = (one context (leaf style) true free.0, rest context (leaf style) true free.1)
 item_judged context labelled item items one rest free = (one context labelled true free.0, rest context labelled true free.1)
 item_judged context arguments item items one rest free = (one context arguments true free.0, rest context arguments true free.1)
@@ -223,7 +222,7 @@ module _ (reader : Reader) where
 
   -- one that does not stand is absent
   parts_absent : ((class : Class) (at : ℕ) → stands (reader class at).tree ≡ true) → (parts : List Due) (at index : ℕ)
-      → stands (get_or (read_parts reader parts at).trees index absent) ≡ false → first_refusal (get_or (read_parts reader parts at).trees index absent) ≡ Passed
+      → stands (get_or (read_parts reader parts at).trees index absent) ≡ false → first_refusal (get_or (read_parts reader parts at).trees index absent) ≡ no_refusal
   unfolding read_parts first_refusal
   parts_absent stand [] at index none = refl
   parts_absent stand (nothing ∷ parts) at zero none = refl
@@ -232,7 +231,7 @@ module _ (reader : Reader) where
   parts_absent stand (due class ∷ parts) at (suc index) none = parts_absent stand parts (reader class at).end index none
 
 -- a record of its own bytes, where its parts judge
-record_judges : (levels : ℕ) (bytes : List ℕ) (class : Class) (at : ℕ) (own : Own) → read_own bytes at class (suc levels) ≡ Record own
+record_judges : (levels : ℕ) (bytes : List ℕ) (class : Class) (at : ℕ) (own : Own) → read_own bytes at class (suc levels) ≡ Ok own
     → ((field : Class) (place : ℕ) → Judges (read levels bytes field place).tree)
     → Judges (record_of bytes at own (read_parts (read levels bytes) (parts_due class own) own.end)).tree
 unfolding events_in first_refusal
@@ -255,6 +254,6 @@ read_judges levels bytes =
 
 -- so reading met no refusal
 pub read_judged : (levels : ℕ) (bytes : List ℕ) (class : Class) (at : ℕ) (context : Context) (place : Place) (shown : Bool)
-    → Free (events_in context place shown (read levels bytes class at).tree) → (read levels bytes class at).checked ≡ Passed
+    → Free (events_in context place shown (read levels bytes class at).tree) → (read levels bytes class at).checked ≡ no_refusal
 read_judged levels bytes class at context place shown free =
     sym (read_refusal levels bytes class at) ∙ read_judges levels bytes class at context place shown (unstopped free)

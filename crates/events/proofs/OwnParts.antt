@@ -2,6 +2,7 @@
 --   token_number_lem : kind_of number ≡ Known kind → token_number (built kind text trees) ≡ number
 --   record_parts : read_own bytes at class levels ≡ Record own → (own.kind ≡ variant.Vec) ⊎ Fielded bytes at class own
 --   record_fields : read_own bytes at class levels ≡ Record own → eqb (get_or bytes at 0) 24 ≡ false → Fielded bytes at class own
+use Rattle.std.specs.Prelude.{Some, Ok}
 use mathlib.Core.Path.{◌≡◌, refl, sym, ap, ◌∙◌}
 use mathlib.Core.Logic.{◌⊎◌, inl, inr, ⊎_elim}
 use mathlib.Core.List.{List, [], append-nil}
@@ -19,10 +20,8 @@ use Rattle.tree.specs.Stored.{stored_with}
 use Rattle.tree.specs.Tree.{Tree, built}
 use Rattle.tree.specs.declared.grammar.Kind.{Kind}
 use Rattle.tree.specs.declared.grammar.Kind.TheVariants as variant
-use Rattle.tree.specs.declared.grammar.KindRead.TheVariants.{Known}
 use Rattle.tree.specs.declared.grammar.Class.{Class}
 use Rattle.tree.specs.declared.own.Own.{Own}
-use Rattle.tree.specs.declared.own.OwnRead.TheVariants.{Record}
 use Rattle.tree.specs.declared.own.TriviaSpan.{TriviaSpan}
 use Rattle.tree.proofs.KindLayout.{kind_number, kind_number_lem}
 use Rattle.tree.proofs.OwnBytes.{Headed, leaf_number, own_cases, leaf_other}
@@ -79,7 +78,7 @@ number_built variant.SpecificImportArg text trees = refl
 number_built variant.ArgItem text trees = refl
 
 -- so it has the byte of its kind
-pub token_number_lem : (number : ℕ) (kind : Kind) (text : List ℕ) (trees : List Tree) → kind_of number ≡ Known kind → token_number (built kind text trees) ≡ number
+pub token_number_lem : (number : ℕ) (kind : Kind) (text : List ℕ) (trees : List Tree) → kind_of number ≡ Some kind → token_number (built kind text trees) ≡ number
 token_number_lem number kind text trees known = number_built kind text trees ∙ kind_number_lem number kind known
 
 -- both fields behind the first branch of an `If` stand or none
@@ -101,7 +100,7 @@ pub record Fielded (bytes : List ℕ) (at : ℕ) (class : Class) (own : Own) : T
   pub ends : leaf_number (get_or bytes at 0) ≡ false → else_fits (get_or bytes at 0) (own.map / 2) ≡ true
 
 -- the kind of a record that was read is that of its byte, and may stand there
-pub record_headed : (bytes : List ℕ) (at : ℕ) (class : Class) (levels : ℕ) (own : Own) → read_own bytes at class levels ≡ Record own
+pub record_headed : (bytes : List ℕ) (at : ℕ) (class : Class) (levels : ℕ) (own : Own) → read_own bytes at class levels ≡ Ok own
     → (trivia : TriviaSpan) × Headed bytes at class own.kind trivia
 record_headed bytes at class =
     own_cases bytes at class (λ (own : Own). (trivia : TriviaSpan) × Headed bytes at class own.kind trivia)
@@ -126,23 +125,23 @@ module _ (bytes : List ℕ) (at : ℕ) (class : Class) where
   }
 
   -- a record that was read is a list or has its fields
-  pub record_parts : (levels : ℕ) (own : Own) → read_own bytes at class levels ≡ Record own → Parted own
+  pub record_parts : (levels : ℕ) (own : Own) → read_own bytes at class levels ≡ Ok own → Parted own
   record_parts =
       own_cases bytes at class Parted
       (λ kind trivia headed number room.
-      let known : kind_of 24 ≡ Known kind = rw number at headed.kind_is in
+      let known : kind_of 24 ≡ Some kind = rw number at headed.kind_is in
       let same : kind ≡ variant.Vec = cc in
       inl same)
       (λ kind trivia end headed leaf stands text. inr (fielded kind trivia (trivia.end + 2) end headed (leaf_other (get_or bytes at 0) leaf)))
       (λ kind trivia headed list no_text. inr (fielded kind trivia trivia.end trivia.end headed list))
 
   -- so one that is no list has its fields
-  pub record_fields : (levels : ℕ) (own : Own) → read_own bytes at class levels ≡ Record own → eqb (get_or bytes at 0) 24 ≡ false → Fielded bytes at class own
+  pub record_fields : (levels : ℕ) (own : Own) → read_own bytes at class levels ≡ Ok own → eqb (get_or bytes at 0) 24 ≡ false → Fielded bytes at class own
   unfolding built view
   record_fields levels own is other =
       ⊎_elim
       (λ list.
-      let number : 24 ≡ get_or bytes at 0 = token_number_lem (get_or bytes at 0) variant.Vec [] [] ((record_headed bytes at class levels own is).1.kind_is ∙ ap Known list) in
+      let number : 24 ≡ get_or bytes at 0 = token_number_lem (get_or bytes at 0) variant.Vec [] [] ((record_headed bytes at class levels own is).1.kind_is ∙ ap Some list) in
       true_false (sym (eq-eqb (get_or bytes at 0) 24 (sym number)) ∙ other))
       (λ held. held)
       (record_parts levels own is)

@@ -1,7 +1,6 @@
 -- A tree without refusal has none on the way to its head.
 use mathlib.Core.Path.{◌≡◌, refl}
-use Rattle.answers.specs.declared.Checked.TheVariants.{Passed}
-use Rattle.answers.specs.Numbers.{and_then}
+use Rattle.answers.specs.Numbers.{no_refusal, and_then}
 use Rattle.answers.proofs.Cases.{failed_passed}
 use Rattle.tree.specs.Tree.{Tree, absent, refused, node, nil, cons, Align, Assert, Braces, Config, ConfigPair, Data, Definition, Eof, Error}
 use Rattle.tree.specs.Tree.{Expression, If, Import, File, Instruction, Label, Loop, MacroDefinition, MacroInvocation, ProgramCounterDefinition}
@@ -12,7 +11,7 @@ use Rattle.tree.proofs.Cases.{both_passed}
 use Rattle.events.specs.Refusals.{first_refusal, own_refusal, head_refusal}
 
 -- its own bytes were read
-pub own_passed : (tree : Tree) → first_refusal tree ≡ Passed → own_refusal tree ≡ Passed
+pub own_passed : (tree : Tree) → first_refusal tree ≡ no_refusal → own_refusal tree ≡ no_refusal
 unfolding first_refusal own_refusal
 own_passed absent passed = refl
 own_passed (refused refusal) passed = failed_passed passed
@@ -64,7 +63,7 @@ own_passed (SpecificImportArg path alias) passed = refl
 own_passed (ArgItem value comma) passed = refl
 
 -- and so were its head's
-pub head_passed : (tree : Tree) → first_refusal tree ≡ Passed → head_refusal tree ≡ Passed
+pub head_passed : (tree : Tree) → first_refusal tree ≡ no_refusal → head_refusal tree ≡ no_refusal
 unfolding first_refusal head_refusal
 head_passed absent passed = refl
 head_passed (refused refusal) passed = failed_passed passed

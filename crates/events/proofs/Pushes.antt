@@ -1,5 +1,7 @@
 -- What every text of a tree has, every text that its events push has, with an indent that a chunk may have.
 --   file_push : .. EveryPush P (events_of (record { options = options; indent = 0 }) (read_file levels bytes).tree)
+use Rattle.std.specs.Prelude.{Ok, Err}
+use Rattle.answers.specs.Numbers.{Checked}
 use mathlib.Core.Path.{◌≡◌, refl}
 use mathlib.Core.List.{List, [], ◌∷◌, ◌++◌, map}
 use mathlib.Core.Bool.{Bool, true, false, cond, not, ◌&&◌, ◌||◌}
@@ -10,8 +12,6 @@ use lib.ListN.{length, get_or, length-map}
 use lib.Dec.{eqb, leb}
 use borrow.Author.Tests.{leb-true, le-leb}
 use Rattle.answers.specs.declared.Refusal.{Refusal}
-use Rattle.answers.specs.declared.Checked.{Checked}
-use Rattle.answers.specs.declared.Checked.TheVariants.{Passed, Failed}
 use Rattle.options.specs.Casings.{cased_byte, cased}
 use Rattle.options.specs.declared.Casing.{Casing}
 use Rattle.options.specs.declared.Casing.TheVariants.{Uppercase, Lowercase}
@@ -169,8 +169,8 @@ module _ (Q P : List ℕ → Type 0)
 
     -- a refusal that a reading may have found
     stop_push : (found : Checked) → EveryPush P (stop_at found)
-    stop_push Passed = none
-    stop_push (Failed why) = stops
+    stop_push (Ok tt) = none
+    stop_push (Err why) = stops
 
     -- a field that is skipped
     skip_push : (tree : Tree) → EveryPush P (skipping tree)

@@ -2,6 +2,7 @@
 --   read_refusal : first_refusal (read levels bytes class at .tree) ≡ read levels bytes class at .checked
 --   skip_passed : skipped levels bytes class at ≡ Next end → (first_refusal (read levels bytes class at .tree) ≡ Passed) × (end ≡ read levels bytes class at .end)
 --   skip_refused : skipped levels bytes class at ≡ NotSkipped why → first_refusal (read levels bytes class at .tree) ≡ Failed why
+use Rattle.std.specs.Prelude.{Ok, Err}
 use mathlib.Core.Path.{◌≡◌, refl, sym, ap, ◌∙◌}
 use mathlib.Core.Logic.{⊎_elim}
 use mathlib.Core.List.{List, [], ◌∷◌}
@@ -11,9 +12,7 @@ use native.Mathlib.Omega.{arith}
 use lib.ListN.{length, get_or}
 use lib.Dec.{eqb}
 use Rattle.answers.specs.declared.Refusal.{Refusal}
-use Rattle.answers.specs.declared.Checked.{Checked}
-use Rattle.answers.specs.declared.Checked.TheVariants.{Passed, Failed}
-use Rattle.answers.specs.Numbers.{and_then}
+use Rattle.answers.specs.Numbers.{no_refusal, and_then, Checked}
 use Rattle.text.proofs.Choices.{true_false}
 use Rattle.tree.specs.Grammar.{rule, fields}
 use Rattle.tree.specs.Own.{read_own}
@@ -24,8 +23,6 @@ use Rattle.tree.specs.declared.grammar.Kind.{Kind}
 use Rattle.tree.specs.declared.grammar.Kind.TheVariants as variant
 use Rattle.tree.specs.declared.grammar.Class.{Class}
 use Rattle.tree.specs.declared.own.Own.{Own}
-use Rattle.tree.specs.declared.own.OwnRead.TheVariants.{Record}
-use Rattle.tree.specs.declared.parts.Skipped.TheVariants.{Next, NotSkipped}
 use Rattle.tree.proofs.Readings.{every_reading}
 use Rattle.tree.proofs.RoundTrip.{trees_counted, fields_counted}
 use Rattle.events.specs.Views.{view, token_number}
@@ -36,12 +33,12 @@ use Rattle.events.proofs.OwnParts.{Fielded, token_number_lem, record_headed, rec
 
 -- the first refusal in some trees
 abbrev refusal_in : List Tree → Checked
-refusal_in [] = Passed
+refusal_in [] = no_refusal
 refusal_in (tree ∷ trees) = and_then (first_refusal tree) (refusal_in trees)
 
 -- in so many trees from a place of a list on
 abbrev refusal_from : ℕ → ℕ → List Tree → Checked
-refusal_from place zero trees = Passed
+refusal_from place zero trees = no_refusal
 refusal_from place (suc zero) trees = first_refusal (get_or trees place absent)
 refusal_from place (suc (suc count)) trees = and_then (first_refusal (get_or trees place absent)) (refusal_from (suc place) (suc count) trees)
 
@@ -100,9 +97,9 @@ items_refusal [] = refl
 items_refusal (tree ∷ trees) = rw (items_refusal trees)
 
 -- nothing is behind the last
-last_refusal : (found : Checked) → and_then found Passed ≡ found
-last_refusal Passed = refl
-last_refusal (Failed why) = refl
+last_refusal : (found : Checked) → and_then found no_refusal ≡ found
+last_refusal (Ok tt) = refl
+last_refusal (Err why) = refl
 
 -- in trees behind the first
 refusal_behind : (place count : ℕ) (tree : Tree) (trees : List Tree) → refusal_from (suc place) count (tree ∷ trees) ≡ refusal_from place count trees
@@ -127,7 +124,7 @@ parts_refusal reader below (nothing ∷ parts) at = parts_refusal reader below p
 parts_refusal reader below (due class ∷ parts) at = rw (below class at, parts_refusal reader below parts (reader class at).end)
 
 -- a record of its own bytes has that of its parts
-record_refusal : (bytes : List ℕ) (reader : Reader) (at : ℕ) (class : Class) (levels : ℕ) (own : Own) → read_own bytes at class levels ≡ Record own
+record_refusal : (bytes : List ℕ) (reader : Reader) (at : ℕ) (class : Class) (levels : ℕ) (own : Own) → read_own bytes at class levels ≡ Ok own
     → first_refusal (built own.kind (text_of bytes own) (read_parts reader (parts_due class own) own.end).trees) ≡ refusal_in (read_parts reader (parts_due class own) own.end).trees
 unfolding first_refusal built
 record_refusal bytes reader at class levels own is =
@@ -155,24 +152,24 @@ read_refusal levels bytes =
 -- ---- skipping
 
 -- by what reading met
-skip_on : (end place : ℕ) (checked : Checked) → skipped_on end checked ≡ Next place → (checked ≡ Passed) × (place ≡ end)
-skip_on end place Passed e = (refl, (cc))
-skip_on end place (Failed why) e = let z : ◌≡◌ {A = ℕ} 0 1 = cc in absurd (omega arith)
+skip_on : (end place : ℕ) (checked : Checked) → skipped_on end checked ≡ Ok place → (checked ≡ no_refusal) × (place ≡ end)
+skip_on end place (Ok tt) e = (refl, (cc))
+skip_on end place (Err why) e = let z : ◌≡◌ {A = ℕ} 0 1 = cc in absurd (omega arith)
 
-stop_on : (end : ℕ) (why : Refusal) (checked : Checked) → skipped_on end checked ≡ NotSkipped why → checked ≡ Failed why
-stop_on end why Passed e = let z : ◌≡◌ {A = ℕ} 0 1 = cc in absurd (omega arith)
-stop_on end why (Failed other) e = let same : other ≡ why = cc in rw same
+stop_on : (end : ℕ) (why : Refusal) (checked : Checked) → skipped_on end checked ≡ Err why → checked ≡ Err why
+stop_on end why (Ok tt) e = let z : ◌≡◌ {A = ℕ} 0 1 = cc in absurd (omega arith)
+stop_on end why (Err other) e = let same : other ≡ why = cc in rw same
 
 module _ (levels : ℕ) (bytes : List ℕ) (class : Class) (at : ℕ) where
   -- a record that was skipped holds no refusal
-  pub skip_passed : (end : ℕ) → skipped levels bytes class at ≡ Next end
-      → (first_refusal (read levels bytes class at).tree ≡ Passed) × (end ≡ (read levels bytes class at).end)
+  pub skip_passed : (end : ℕ) → skipped levels bytes class at ≡ Ok end
+      → (first_refusal (read levels bytes class at).tree ≡ no_refusal) × (end ≡ (read levels bytes class at).end)
   unfolding skipped
   skip_passed end e =
       let found = skip_on (read levels bytes class at).end end (read levels bytes class at).checked e in
       (read_refusal levels bytes class at ∙ found.0, found.1)
 
   -- one that was not holds the refusal that was met
-  pub skip_refused : (why : Refusal) → skipped levels bytes class at ≡ NotSkipped why → first_refusal (read levels bytes class at).tree ≡ Failed why
+  pub skip_refused : (why : Refusal) → skipped levels bytes class at ≡ Err why → first_refusal (read levels bytes class at).tree ≡ Err why
   unfolding skipped
   skip_refused why e = read_refusal levels bytes class at ∙ stop_on (read levels bytes class at).end why (read levels bytes class at).checked e

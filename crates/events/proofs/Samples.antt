@@ -2,13 +2,13 @@
 --   rows_held : map found rows ≡ map wanted rows
 -- And where the Rust's formatter puts a newline between two tokens, for every pair of kinds.
 --   breaks_held : map (λ previous. map (break_digit previous) kinds) kinds ≡ map ascii break_rows
+use Rattle.std.specs.Prelude.{Err}
+use Rattle.answers.specs.Numbers.{no_refusal, Checked}
 use Prim.Native.Nat.{ℕ}
 use Prim.Native.String.{String}
 use mathlib.Core.Path.{◌≡◌, refl}
 use mathlib.Core.List.{List, [], ◌∷◌, map, reverse}
 use mathlib.Core.Bool.{true, false, cond}
-use Rattle.answers.specs.declared.Checked.{Checked}
-use Rattle.answers.specs.declared.Checked.TheVariants.{Passed, Failed}
 use Rattle.options.specs.Types.{options_of}
 use Rattle.options.specs.Casings.{cased}
 use Rattle.options.specs.declared.FormattingOptions.{FormattingOptions}
@@ -310,15 +310,15 @@ rows =
     ∷ []
 
 abbrev outcome : Held → Checked × List Chunk
-outcome (held chunks pending) = (Passed, reverse chunks)
-outcome (refused why) = (Failed why, [])
+outcome (held chunks pending) = (no_refusal, reverse chunks)
+outcome (refused why) = (Err why, [])
 
 abbrev found : Row → Checked × List Chunk
 found sample =
     outcome (hold 1048576 (events_of (record { options = sample.options; indent = 0 }) (read_file 64 sample.tree).tree) (held [] false))
 
 abbrev wanted : Row → Checked × List Chunk
-wanted sample = (Passed, sample.chunks)
+wanted sample = (no_refusal, sample.chunks)
 
 -- every row holds
 pub rows_held : map found rows ≡ map wanted rows

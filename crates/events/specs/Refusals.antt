@@ -1,7 +1,6 @@
 -- Refusals that reading a tree meets: the first in it, the one of a record's own bytes, and the first on the way to a token's head. A tree that passed has none.
-use Rattle.answers.specs.declared.Checked.{Checked}
-use Rattle.answers.specs.declared.Checked.TheVariants.{Passed, Failed}
-use Rattle.answers.specs.Numbers.{and_then}
+use Rattle.std.specs.Prelude.{Err}
+use Rattle.answers.specs.Numbers.{no_refusal, and_then, Checked}
 use Rattle.tree.specs.Tree.{Tree, absent, refused, node, nil, cons, Align, Assert, Braces, Config, ConfigPair, Data, Definition, Eof, Error}
 use Rattle.tree.specs.Tree.{Expression, If, Import, File, Instruction, Label, Loop, MacroDefinition, MacroInvocation, ProgramCounterDefinition}
 use Rattle.tree.specs.Tree.{Segment, Test, Text, Trace, VariableDefinition, Vec, Leaf, PathItem, Block, BinaryExpression, Factor}
@@ -10,10 +9,10 @@ use Rattle.tree.specs.Tree.{RegisterSuffix, ImportAs, ImportAll, SpecificImportA
 
 -- the first refusal in a tree, in stored order
 unfoldable pub first_refusal : Tree → Checked
-first_refusal absent = Passed
-first_refusal (refused refusal) = Failed refusal
+first_refusal absent = no_refusal
+first_refusal (refused refusal) = Err refusal
 first_refusal (node place trivia tree) = first_refusal tree
-first_refusal nil = Passed
+first_refusal nil = no_refusal
 first_refusal (cons item items) = and_then (first_refusal item) (first_refusal items)
 first_refusal (Align tag value) = and_then (first_refusal tag) (first_refusal value)
 first_refusal (Assert tag value message) = and_then (first_refusal tag) (and_then (first_refusal value) (first_refusal message))
@@ -43,8 +42,8 @@ first_refusal (Text tag encoding text) = and_then (first_refusal tag) (and_then 
 first_refusal (Trace tag lparen args rparen) = and_then (first_refusal tag) (and_then (first_refusal lparen) (and_then (first_refusal args) (first_refusal rparen)))
 first_refusal (VariableDefinition ty id eq value) = and_then (first_refusal ty) (and_then (first_refusal id) (and_then (first_refusal eq) (first_refusal value)))
 first_refusal (Vec items) = first_refusal items
-first_refusal (Leaf text) = Passed
-first_refusal (PathItem text) = Passed
+first_refusal (Leaf text) = no_refusal
+first_refusal (PathItem text) = no_refusal
 first_refusal (Block lparen inner rparen) = and_then (first_refusal lparen) (and_then (first_refusal inner) (first_refusal rparen))
 first_refusal (BinaryExpression op lhs rhs) = and_then (first_refusal op) (and_then (first_refusal lhs) (first_refusal rhs))
 first_refusal (Factor factor tag_not tag_neg) = and_then (first_refusal factor) (and_then (first_refusal tag_not) (first_refusal tag_neg))
@@ -65,62 +64,62 @@ first_refusal (ArgItem value comma) = and_then (first_refusal value) (first_refu
 
 -- that of a record's own bytes
 unfoldable pub own_refusal : Tree → Checked
-own_refusal absent = Passed
-own_refusal (refused refusal) = Failed refusal
-own_refusal (node place trivia tree) = Passed
-own_refusal nil = Passed
-own_refusal (cons item items) = Passed
-own_refusal (Align tag value) = Passed
-own_refusal (Assert tag value message) = Passed
-own_refusal (Braces block) = Passed
-own_refusal (Config block) = Passed
-own_refusal (ConfigPair key eq value) = Passed
-own_refusal (Data values size) = Passed
-own_refusal (Definition tag id value) = Passed
-own_refusal (Eof unit) = Passed
-own_refusal (Error text) = Passed
-own_refusal (Expression expression) = Passed
-own_refusal (If tag_if value then tag_else otherwise) = Passed
-own_refusal (Import tag args source filename block) = Passed
-own_refusal (File tag filename) = Passed
-own_refusal (Instruction mnemonic operand) = Passed
-own_refusal (Label id colon block) = Passed
-own_refusal (Loop tag expr block) = Passed
-own_refusal (MacroDefinition tag id lparen args rparen block) = Passed
-own_refusal (MacroInvocation id lparen args rparen) = Passed
-own_refusal (ProgramCounterDefinition star eq value) = Passed
-own_refusal (Segment tag id block) = Passed
-own_refusal (Test tag id block) = Passed
-own_refusal (Text tag encoding text) = Passed
-own_refusal (Trace tag lparen args rparen) = Passed
-own_refusal (VariableDefinition ty id eq value) = Passed
-own_refusal (Vec items) = Passed
-own_refusal (Leaf text) = Passed
-own_refusal (PathItem text) = Passed
-own_refusal (Block lparen inner rparen) = Passed
-own_refusal (BinaryExpression op lhs rhs) = Passed
-own_refusal (Factor factor tag_not tag_neg) = Passed
-own_refusal (CurrentProgramCounter star) = Passed
-own_refusal (ExprParens lparen inner rparen) = Passed
-own_refusal (FunctionCall name lparen args rparen) = Passed
-own_refusal (IdentifierValue path modifier) = Passed
-own_refusal (Number ty value) = Passed
-own_refusal (StringFactor string) = Passed
-own_refusal (InterpolatedString lquote items) = Passed
-own_refusal (Operand expr lchar rchar mode suffix) = Passed
-own_refusal (RegisterSuffix comma register) = Passed
-own_refusal (ImportAs tag path) = Passed
-own_refusal (ImportAll star alias) = Passed
-own_refusal (SpecificImportArg path alias) = Passed
-own_refusal (ArgItem value comma) = Passed
+own_refusal absent = no_refusal
+own_refusal (refused refusal) = Err refusal
+own_refusal (node place trivia tree) = no_refusal
+own_refusal nil = no_refusal
+own_refusal (cons item items) = no_refusal
+own_refusal (Align tag value) = no_refusal
+own_refusal (Assert tag value message) = no_refusal
+own_refusal (Braces block) = no_refusal
+own_refusal (Config block) = no_refusal
+own_refusal (ConfigPair key eq value) = no_refusal
+own_refusal (Data values size) = no_refusal
+own_refusal (Definition tag id value) = no_refusal
+own_refusal (Eof unit) = no_refusal
+own_refusal (Error text) = no_refusal
+own_refusal (Expression expression) = no_refusal
+own_refusal (If tag_if value then tag_else otherwise) = no_refusal
+own_refusal (Import tag args source filename block) = no_refusal
+own_refusal (File tag filename) = no_refusal
+own_refusal (Instruction mnemonic operand) = no_refusal
+own_refusal (Label id colon block) = no_refusal
+own_refusal (Loop tag expr block) = no_refusal
+own_refusal (MacroDefinition tag id lparen args rparen block) = no_refusal
+own_refusal (MacroInvocation id lparen args rparen) = no_refusal
+own_refusal (ProgramCounterDefinition star eq value) = no_refusal
+own_refusal (Segment tag id block) = no_refusal
+own_refusal (Test tag id block) = no_refusal
+own_refusal (Text tag encoding text) = no_refusal
+own_refusal (Trace tag lparen args rparen) = no_refusal
+own_refusal (VariableDefinition ty id eq value) = no_refusal
+own_refusal (Vec items) = no_refusal
+own_refusal (Leaf text) = no_refusal
+own_refusal (PathItem text) = no_refusal
+own_refusal (Block lparen inner rparen) = no_refusal
+own_refusal (BinaryExpression op lhs rhs) = no_refusal
+own_refusal (Factor factor tag_not tag_neg) = no_refusal
+own_refusal (CurrentProgramCounter star) = no_refusal
+own_refusal (ExprParens lparen inner rparen) = no_refusal
+own_refusal (FunctionCall name lparen args rparen) = no_refusal
+own_refusal (IdentifierValue path modifier) = no_refusal
+own_refusal (Number ty value) = no_refusal
+own_refusal (StringFactor string) = no_refusal
+own_refusal (InterpolatedString lquote items) = no_refusal
+own_refusal (Operand expr lchar rchar mode suffix) = no_refusal
+own_refusal (RegisterSuffix comma register) = no_refusal
+own_refusal (ImportAs tag path) = no_refusal
+own_refusal (ImportAll star alias) = no_refusal
+own_refusal (SpecificImportArg path alias) = no_refusal
+own_refusal (ArgItem value comma) = no_refusal
 
 -- the first on the way to a token's head, the head's own bytes included: a `Data` is read behind its values, a binary expression behind its operator
 unfoldable pub head_refusal : Tree → Checked
-head_refusal absent = Passed
-head_refusal (refused refusal) = Failed refusal
+head_refusal absent = no_refusal
+head_refusal (refused refusal) = Err refusal
 head_refusal (node place trivia tree) = head_refusal tree
-head_refusal nil = Passed
-head_refusal (cons item items) = Passed
+head_refusal nil = no_refusal
+head_refusal (cons item items) = no_refusal
 head_refusal (Align tag value) = own_refusal tag
 head_refusal (Assert tag value message) = own_refusal tag
 head_refusal (Braces block) = head_refusal block
@@ -145,22 +144,22 @@ head_refusal (Test tag id block) = own_refusal tag
 head_refusal (Text tag encoding text) = own_refusal tag
 head_refusal (Trace tag lparen args rparen) = own_refusal tag
 head_refusal (VariableDefinition ty id eq value) = own_refusal ty
-head_refusal (Vec items) = Passed
-head_refusal (Leaf text) = Passed
-head_refusal (PathItem text) = Passed
+head_refusal (Vec items) = no_refusal
+head_refusal (Leaf text) = no_refusal
+head_refusal (PathItem text) = no_refusal
 head_refusal (Block lparen inner rparen) = own_refusal lparen
 head_refusal (BinaryExpression op lhs rhs) = and_then (first_refusal op) (own_refusal lhs)
 head_refusal (Factor factor tag_not tag_neg) = own_refusal factor
-head_refusal (CurrentProgramCounter star) = Passed
-head_refusal (ExprParens lparen inner rparen) = Passed
-head_refusal (FunctionCall name lparen args rparen) = Passed
-head_refusal (IdentifierValue path modifier) = Passed
-head_refusal (Number ty value) = Passed
-head_refusal (StringFactor string) = Passed
-head_refusal (InterpolatedString lquote items) = Passed
-head_refusal (Operand expr lchar rchar mode suffix) = Passed
-head_refusal (RegisterSuffix comma register) = Passed
-head_refusal (ImportAs tag path) = Passed
-head_refusal (ImportAll star alias) = Passed
-head_refusal (SpecificImportArg path alias) = Passed
-head_refusal (ArgItem value comma) = Passed
+head_refusal (CurrentProgramCounter star) = no_refusal
+head_refusal (ExprParens lparen inner rparen) = no_refusal
+head_refusal (FunctionCall name lparen args rparen) = no_refusal
+head_refusal (IdentifierValue path modifier) = no_refusal
+head_refusal (Number ty value) = no_refusal
+head_refusal (StringFactor string) = no_refusal
+head_refusal (InterpolatedString lquote items) = no_refusal
+head_refusal (Operand expr lchar rchar mode suffix) = no_refusal
+head_refusal (RegisterSuffix comma register) = no_refusal
+head_refusal (ImportAs tag path) = no_refusal
+head_refusal (ImportAll star alias) = no_refusal
+head_refusal (SpecificImportArg path alias) = no_refusal
+head_refusal (ArgItem value comma) = no_refusal

@@ -1,7 +1,6 @@
 -- The events of a tree: formatting/mod.rs arm by arm, from `format_tokens` to the `Formattable` types. A clause for each kind, in the order of printing.
-use Rattle.std.specs.Prelude.{ℕ, ◌+◌, List, [], ◌∷◌, ◌++◌, Bool, true, false, cond, not, ◌&&◌, ◌||◌, get_or, eqb}
-use Rattle.answers.specs.declared.Checked.{Checked}
-use Rattle.answers.specs.declared.Checked.TheVariants.{Passed, Failed}
+use Rattle.answers.specs.Numbers.{Checked}
+use Rattle.std.specs.Prelude.{ℕ, ◌+◌, List, [], ◌∷◌, ◌++◌, Bool, true, false, cond, not, ◌&&◌, ◌||◌, get_or, eqb, Ok, Err}
 use Rattle.options.specs.declared.BracePosition.{BracePosition}
 use Rattle.options.specs.declared.BracePosition.TheVariants.{SameLine, NewLine}
 use Rattle.chunks.specs.declared.stored.ChunkType.TheVariants as chunk
@@ -35,8 +34,8 @@ newline context = word context (characters.newline ∷ [])
 -- ---- "A reading that finds a refusal ends the walk there."; what was accepted has none
 
 abbrev pub stop_at : Checked → Events
-stop_at Passed = nothing
-stop_at (Failed why) = stop why
+stop_at (Ok tt) = nothing
+stop_at (Err why) = stop why
 
 -- a field that is not printed, or not yet, is skipped on the way to the next
 abbrev pub skipping : Tree → Events

@@ -1,13 +1,12 @@
 -- The numbers of answers are small.
 --   number_small : .. given ≡ numbers answer .0 → given ≤ 9
+use Rattle.std.specs.Prelude.{Ok, Err}
 use Prim.Native.Nat.{ℕ, ◌≤◌}
 use mathlib.Core.Path.{◌≡◌}
 use native.Mathlib.Omega.{arith}
-use Rattle.answers.specs.Numbers.{number, numbers}
+use Rattle.answers.specs.Numbers.{number, numbers, Answer}
 use Rattle.answers.specs.declared.Reason.{Reason}
 use Rattle.answers.specs.declared.Reason.TheVariants.{OptionsLength, OptionsValue, TreeLength, TreeDepth, TreeLayout, ChunkLayout, NotAscii, WorkRoom, TextRoom}
-use Rattle.answers.specs.declared.Answer.{Answer}
-use Rattle.answers.specs.declared.Answer.TheVariants.{Accepted, Refused}
 
 reason_small : (reason : Reason) → number reason ≤ 9
 reason_small OptionsLength = omega arith
@@ -21,5 +20,5 @@ reason_small WorkRoom = omega arith
 reason_small TextRoom = omega arith
 
 pub number_small : (answer : Answer) (given : ℕ) → given ≡ (numbers answer).0 → given ≤ 9
-number_small (Accepted length) given is = omega (arith, is)
-number_small (Refused refusal) given is = omega (arith, is, reason_small refusal.reason)
+number_small (Ok length) given is = omega (arith, is)
+number_small (Err refusal) given is = omega (arith, is, reason_small refusal.reason)

@@ -4,13 +4,12 @@
 -- And both parts can be read off every packed number whose second part is below 2^32.
 --   parts_read : .. Small answer → (packed_of answer / 4294967296 ≡ (numbers answer).0)
 --       × (packed_of answer % 4294967296 ≡ (numbers answer).1)
+use Rattle.std.specs.Prelude.{Ok, Err}
 use Prim.Native.Nat.{ℕ, ◌/◌, ◌%◌}
 use mathlib.Core.Path.{◌≡◌, refl}
 use mathlib.Core.List.{List, [], ◌∷◌, map}
 use native.Mathlib.Omega.{arith}
-use Rattle.answers.specs.Numbers.{numbers}
-use Rattle.answers.specs.declared.Answer.{Answer}
-use Rattle.answers.specs.declared.Answer.TheVariants.{Accepted, Refused}
+use Rattle.answers.specs.Numbers.{numbers, Answer}
 use Rattle.answers.specs.declared.Reason.{Reason}
 use Rattle.answers.specs.declared.Reason.TheVariants.{OptionsLength, OptionsValue, TreeLength, TreeDepth, TreeLayout}
 use Rattle.answers.specs.declared.Reason.TheVariants.{ChunkLayout, NotAscii, WorkRoom, TextRoom}
@@ -19,14 +18,14 @@ use Rattle.losses.specs.Lost.{loss_answer}
 use Rattle.exports.specs.Packed.{packed_of, Small}
 
 abbrev refused : Reason → ℕ → Answer
-refused reason place = Refused (record { reason = reason; place = place })
+refused reason place = Err (record { reason = reason; place = place })
 
 -- an answer and its packed number
 abbrev pub rows : List (Answer × ℕ)
 rows =
-    (Accepted 0, 0)
-    ∷ (Accepted 23, 23)
-    ∷ (Accepted 4294967295, 4294967295)
+    (Ok 0, 0)
+    ∷ (Ok 23, 23)
+    ∷ (Ok 4294967295, 4294967295)
     ∷ (refused OptionsLength 0, 4294967296)
     ∷ (refused OptionsValue 8, 8589934600)
     ∷ (refused TreeLength 0, 12884901888)

@@ -1,5 +1,8 @@
 -- The length that a push needs is below 2^32: what is held is at most 1,048,576 bytes, and a chunk at most 65,540.
 --   held_within : (tree options : List ℕ) (size : ℕ) → HeldWithin (chunks_held tree options size)
+use Rattle.std.specs.Prelude.{Result, Ok, Err}
+use Rattle.answers.specs.declared.Refusal.{Refusal}
+use Rattle.answers.specs.Numbers.{Checked}
 use mathlib.Core.Path.{◌≡◌, refl}
 use mathlib.Core.List.{List, [], ◌∷◌}
 use mathlib.Core.Bool.{Bool, true, false}
@@ -8,12 +11,8 @@ use native.Mathlib.Omega.{arith}
 use lib.ListN.{length}
 use lib.Dec.{ltb}
 use borrow.Author.Tests.{ltb-false}
-use Rattle.answers.specs.declared.Checked.{Checked}
-use Rattle.answers.specs.declared.Checked.TheVariants.{Passed, Failed}
 use Rattle.options.specs.Stored.{read_options}
 use Rattle.options.specs.declared.FormattingOptions.{FormattingOptions}
-use Rattle.options.specs.declared.OptionsRead.{OptionsRead}
-use Rattle.options.specs.declared.OptionsRead.TheVariants.{Options, Refused}
 use Rattle.text.specs.Lines.{is_empty, is_newline}
 use Rattle.text.proofs.Choices.{cond_both}
 use Rattle.chunks.specs.Stored.{Chunk, stored_chunk}
@@ -82,14 +81,14 @@ module _ (tree : List ℕ) (size : ℕ) (options : FormattingOptions) (narrow : 
   walked_within : (checked : Checked) → batch_checked tree ≡ checked → Within 65535 checked
       → HeldWithin (held_unless checked (hold size (file_events options tree) (held [] false)))
   unfolding held_length
-  walked_within Passed passed within =
+  walked_within (Ok tt) passed within =
       let short = length_passed 65535 tree (file_passed 65535 64 tree passed).size in
       events_within size (file_free tree options passed) (file_storable 64 tree short options (omega arith) narrow) (held [] false) (omega arith)
-  walked_within (Failed why) is within = omega (arith, within)
+  walked_within (Err why) is within = omega (arith, within)
 
-read_within : (tree : List ℕ) (size : ℕ) (found : OptionsRead) → ReadWithin found → HeldWithin (held_with found tree size)
-read_within tree size (Options options) narrow = walked_within tree size options narrow (batch_checked tree) refl (tree_within tree)
-read_within tree size (Refused why) within = omega (arith, within)
+read_within : (tree : List ℕ) (size : ℕ) (found : Result FormattingOptions Refusal) → ReadWithin found → HeldWithin (held_with found tree size)
+read_within tree size (Ok options) narrow = walked_within tree size options narrow (batch_checked tree) refl (tree_within tree)
+read_within tree size (Err why) within = omega (arith, within)
 
 pub held_within : (tree options : List ℕ) (size : ℕ) → HeldWithin (chunks_held tree options size)
 unfolding chunks_held

@@ -1,18 +1,16 @@
 -- The length or place of each call's answer is below 2^32.
+use Rattle.std.specs.Prelude.{Option, Result, Some, None, Ok, Err}
+use Rattle.answers.specs.declared.Refusal.{Refusal}
+use Rattle.options.specs.declared.FormattingOptions.{FormattingOptions}
 use mathlib.Core.Path.{◌≡◌, sym}
 use mathlib.Core.List.{List, reverse}
 use Prim.Native.Nat.{ℕ, ◌<◌, ◌≤◌}
 use native.Mathlib.Omega.{arith}
 use lib.ListN.{length}
 use lib.Dec.{leb}
-use Rattle.answers.specs.Numbers.{answer_of}
+use Rattle.answers.specs.Numbers.{answer_of, Answer, Checked}
 use Rattle.answers.specs.Texts.{text, answer_in}
-use Rattle.answers.specs.declared.Answer.{Answer}
-use Rattle.answers.specs.declared.Checked.{Checked}
-use Rattle.answers.specs.declared.Checked.TheVariants.{Passed, Failed}
 use Rattle.options.specs.Stored.{read_options}
-use Rattle.options.specs.declared.OptionsRead.{OptionsRead}
-use Rattle.options.specs.declared.OptionsRead.TheVariants.{Options, Refused}
 use Rattle.text.proofs.Choices.{cond_both}
 use Rattle.chunks.specs.Stored.{Chunk, stored_list}
 use Rattle.chunks.specs.Reading.{chunks_of}
@@ -27,8 +25,6 @@ use Rattle.tokens.specs.Chunks.{chunks_held, chunks_answer, RoomHolds}
 use Rattle.formatting.specs.Formatting.{outcome_of, formatted}
 use Rattle.formatting.specs.Demands.{LessonUnder, Lesson}
 use Rattle.losses.specs.Lost.{firsts_in, least_of, answer_with, lost_on, lost_from, loss_answer, Narrow}
-use Rattle.losses.specs.declared.firsts.First.{First}
-use Rattle.losses.specs.declared.firsts.First.TheVariants.{At, Never}
 use Rattle.losses.specs.declared.firsts.Firsts.{Firsts}
 use Rattle.losses.specs.declared.search.Loss.{Loss}
 use Rattle.losses.specs.declared.search.Loss.TheVariants.{Used}
@@ -44,29 +40,29 @@ text_small : (bytes : List ℕ) (room : ℕ) → length bytes < 4294967296 → S
 text_small bytes room short = cond_both Small (leb (length bytes) room) _ _ (λ fits. short) (λ longer. short)
 
 checked_small : (checked : Checked) → Within 65535 checked → Small (answer_of checked)
-checked_small Passed within = omega arith
-checked_small (Failed why) within = omega (arith, within)
+checked_small (Ok tt) within = omega arith
+checked_small (Err why) within = omega (arith, within)
 
 held_small : (found : Held) (room : List ℕ) → HeldWithin found → RoomHolds found room → Small (chunks_answer found)
 held_small (held chunks pending) room within holds = omega (arith, passed_short (stored_list (reverse chunks)) holds.1.checked)
 held_small (refused why) room within holds = omega (arith, within)
 
-format_small : (tree : List ℕ) (found : OptionsRead) (chunks : Held) (room : ℕ) → ReadWithin found → HeldWithin chunks
+format_small : (tree : List ℕ) (found : Result FormattingOptions Refusal) (chunks : Held) (room : ℕ) → ReadWithin found → HeldWithin chunks
     → LessonUnder tree found (outcome_of found chunks) → Small (answer_in (outcome_of found chunks) room)
-format_small tree (Options options) (held chunks pending) room within fits kept = text_small (text_of (margins_of options) (reverse chunks)) room kept.short
-format_small tree (Options options) (refused why) room within fits kept = omega (arith, fits)
-format_small tree (Refused why) chunks room within fits kept = omega (arith, within)
+format_small tree (Ok options) (held chunks pending) room within fits kept = text_small (text_of (margins_of options) (reverse chunks)) room kept.short
+format_small tree (Ok options) (refused why) room within fits kept = omega (arith, fits)
+format_small tree (Err why) chunks room within fits kept = omega (arith, within)
 
 judged_small : (chunks : List Chunk) (bytes : List ℕ) (checked : Checked) (room : ℕ) → Within 1048576 checked
     → Promised chunks (unless_failed checked bytes) → Small (answer_in (unless_failed checked bytes) room)
-judged_small chunks bytes Passed room within kept = text_small bytes room kept.short
-judged_small chunks bytes (Failed why) room within kept = omega (arith, within)
+judged_small chunks bytes (Ok tt) room within kept = text_small bytes room kept.short
+judged_small chunks bytes (Err why) room within kept = omega (arith, within)
 
-join_small : (list : List ℕ) (found : OptionsRead) (room : ℕ) → ReadWithin found → Promised (chunks_of list) (outcome_on found list)
+join_small : (list : List ℕ) (found : Result FormattingOptions Refusal) (room : ℕ) → ReadWithin found → Promised (chunks_of list) (outcome_on found list)
     → Small (answer_in (outcome_on found list) room)
-join_small list (Options options) room within kept =
+join_small list (Ok options) room within kept =
     judged_small (chunks_of list) (text_of (margins_of options) (chunks_of list)) (chunks_checked list) room (list_within list) kept
-join_small list (Refused why) room within kept = omega (arith, within)
+join_small list (Err why) room within kept = omega (arith, within)
 
 -- ---- the answers
 
@@ -94,13 +90,13 @@ join_answer answer list options room is promised = rw is (join_small list (read_
 pub used_narrow : {loss : Loss} {at letters : ℕ} → Narrow loss → loss ≡ Used at letters → (at ≤ 65535) × (1 ≤ letters) × (letters ≤ 255)
 used_narrow narrow is = rw is at narrow
 
-loss_small : (firsts : Firsts) (least : First) → Narrow (answer_with firsts least) → Small (loss_answer (answer_with firsts least))
-loss_small firsts Never narrow = omega arith
-loss_small firsts (At at) narrow = omega (arith, narrow.0, narrow.2)
+loss_small : (firsts : Firsts) (least : Option ℕ) → Narrow (answer_with firsts least) → Small (loss_answer (answer_with firsts least))
+loss_small firsts None narrow = omega arith
+loss_small firsts (Some at) narrow = omega (arith, narrow.0, narrow.2)
 
 lost_on_small : (from : ℕ) (tree : Tree) (checked : Checked) → Within 65535 checked → Narrow (lost_on from tree checked) → Small (loss_answer (lost_on from tree checked))
-lost_on_small from tree Passed within narrow = loss_small (firsts_in from tree) (least_of (firsts_in from tree)) narrow
-lost_on_small from tree (Failed why) within narrow = omega (arith, within)
+lost_on_small from tree (Ok tt) within narrow = loss_small (firsts_in from tree) (least_of (firsts_in from tree)) narrow
+lost_on_small from tree (Err why) within narrow = omega (arith, within)
 
 pub lost_answer : (from : ℕ) (bytes : List ℕ) (loss : Loss) → loss ≡ lost_from from bytes → Narrow loss → Small (loss_answer loss)
 unfolding lost_from

@@ -1,14 +1,13 @@
 -- The events of a tree without refusal do not stop.
 --   file_free : (bytes : List ℕ) (options : FormattingOptions) → batch_checked bytes ≡ Passed → Free (file_events options bytes)
+use Rattle.std.specs.Prelude.{Ok, Err}
 use mathlib.Core.Path.{◌≡◌, ◌∙◌}
 use mathlib.Core.List.{List, [], ◌∷◌}
 use mathlib.Core.Bool.{Bool, true, false, cond, ◌||◌}
 use Prim.Native.Nat.{ℕ}
 use lib.ListN.{get_or}
 use lib.Dec.{eqb}
-use Rattle.answers.specs.declared.Checked.{Checked}
-use Rattle.answers.specs.declared.Checked.TheVariants.{Passed, Failed}
-use Rattle.answers.specs.Numbers.{and_then}
+use Rattle.answers.specs.Numbers.{no_refusal, and_then, Checked}
 use Rattle.answers.proofs.Cases.{failed_passed}
 use Rattle.options.specs.declared.BracePosition.{BracePosition}
 use Rattle.options.specs.declared.BracePosition.TheVariants.{SameLine, NewLine}
@@ -38,27 +37,27 @@ use Rattle.tokens.specs.Chunks.{file_events}
 
 -- ---- of judgements in order that passed each did
 
-three : (a b c : Checked) → and_then a (and_then b c) ≡ Passed → (a ≡ Passed) × ((b ≡ Passed) × (c ≡ Passed))
+three : (a b c : Checked) → and_then a (and_then b c) ≡ no_refusal → (a ≡ no_refusal) × ((b ≡ no_refusal) × (c ≡ no_refusal))
 three a b c e = let p = both_passed a (and_then b c) e in (p.0, both_passed b c p.1)
 
-four : (a b c d : Checked) → and_then a (and_then b (and_then c d)) ≡ Passed → (a ≡ Passed) × ((b ≡ Passed) × ((c ≡ Passed) × (d ≡ Passed)))
+four : (a b c d : Checked) → and_then a (and_then b (and_then c d)) ≡ no_refusal → (a ≡ no_refusal) × ((b ≡ no_refusal) × ((c ≡ no_refusal) × (d ≡ no_refusal)))
 four a b c d e = let p = both_passed a (and_then b (and_then c d)) e in (p.0, three b c d p.1)
 
-five : (a b c d f : Checked) → and_then a (and_then b (and_then c (and_then d f))) ≡ Passed
-    → (a ≡ Passed) × ((b ≡ Passed) × ((c ≡ Passed) × ((d ≡ Passed) × (f ≡ Passed))))
+five : (a b c d f : Checked) → and_then a (and_then b (and_then c (and_then d f))) ≡ no_refusal
+    → (a ≡ no_refusal) × ((b ≡ no_refusal) × ((c ≡ no_refusal) × ((d ≡ no_refusal) × (f ≡ no_refusal))))
 five a b c d f e = let p = both_passed a (and_then b (and_then c (and_then d f))) e in (p.0, four b c d f p.1)
 
-six : (a b c d f g : Checked) → and_then a (and_then b (and_then c (and_then d (and_then f g)))) ≡ Passed
-    → (a ≡ Passed) × ((b ≡ Passed) × ((c ≡ Passed) × ((d ≡ Passed) × ((f ≡ Passed) × (g ≡ Passed)))))
+six : (a b c d f g : Checked) → and_then a (and_then b (and_then c (and_then d (and_then f g)))) ≡ no_refusal
+    → (a ≡ no_refusal) × ((b ≡ no_refusal) × ((c ≡ no_refusal) × ((d ≡ no_refusal) × ((f ≡ no_refusal) × (g ≡ no_refusal)))))
 six a b c d f g e = let p = both_passed a (and_then b (and_then c (and_then d (and_then f g)))) e in (p.0, five b c d f g p.1)
 
 -- ---- what surrounds trees
 
-stop_free : (found : Checked) → found ≡ Passed → Free (stop_at found)
-stop_free Passed e = none
-stop_free (Failed why) e = failed_passed e
+stop_free : (found : Checked) → found ≡ no_refusal → Free (stop_at found)
+stop_free (Ok tt) e = none
+stop_free (Err why) e = failed_passed e
 
-skip_free : (tree : Tree) → first_refusal tree ≡ Passed → Free (skipping tree)
+skip_free : (tree : Tree) → first_refusal tree ≡ no_refusal → Free (skipping tree)
 skip_free tree e = stop_free (first_refusal tree) e
 
 chosen : (test : Bool) (some others : Events) → Free some → Free others → Free (cond test some others)
@@ -88,7 +87,7 @@ break_free c (behind previous) number block = chosen (breaks previous number blo
 -- a closing brace that has no refusal
 abbrev ClosingPassed : Closing → Type 0
 ClosingPassed file_end = Unit
-ClosingPassed (block_end rparen) = own_refusal rparen ≡ Passed
+ClosingPassed (block_end rparen) = own_refusal rparen ≡ no_refusal
 
 abbrev PlacePassed : Place → Type 0
 PlacePassed (leaf style) = Unit
@@ -111,7 +110,7 @@ end_free c imports closed = clears
 end_free c in_string closed = none
 end_free c (tokens drops before closing) closed = closing_free c drops before closing closed
 
-item_free : (c : Context) (place : Place) → PlacePassed place → (item : Tree) → first_refusal item ≡ Passed
+item_free : (c : Context) (place : Place) → PlacePassed place → (item : Tree) → first_refusal item ≡ no_refusal
     → (bare whole : Events) → Free bare → Free whole → (rest : Place → Events) → ((next : Place) → PlacePassed next → Free (rest next))
     → Free (item_events c place item bare whole rest)
 item_free c (leaf style) closed item e bare whole b w rest r = w and r (leaf style) tt
@@ -144,7 +143,7 @@ operand_free mode rchar suffix r s = chosen (eqb (get_or mode 0 0) 3) _ _ (s and
 
 -- ---- a tree
 
-free : (c : Context) (place : Place) (shown : Bool) (tree : Tree) → PlacePassed place → first_refusal tree ≡ Passed → Free (events_in c place shown tree)
+free : (c : Context) (place : Place) (shown : Bool) (tree : Tree) → PlacePassed place → first_refusal tree ≡ no_refusal → Free (events_in c place shown tree)
 unfolding events_in first_refusal
 free c place shown absent closed e = none
 free c place shown (refused refusal) closed e = failed_passed e
@@ -279,7 +278,7 @@ free c place shown (ArgItem value comma) closed e =
     free c (leaf plain) (value_shown place) value tt p.0 and free c (leaf plain) true comma tt p.1 and spaces
 
 -- a file that passed
-pub file_free : (bytes : List ℕ) (options : FormattingOptions) → batch_checked bytes ≡ Passed → Free (file_events options bytes)
+pub file_free : (bytes : List ℕ) (options : FormattingOptions) → batch_checked bytes ≡ no_refusal → Free (file_events options bytes)
 file_free bytes options passed =
     let file = file_passed 65535 64 bytes passed in
     free (record { options = options; indent = 0 }) (tokens false first file_end) true (read_file 64 bytes).tree tt (read_refusal 64 bytes Tokens 0 ∙ file.layout)

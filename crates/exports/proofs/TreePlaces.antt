@@ -1,5 +1,8 @@
 -- The place of a tree's refusal is at most 65,535.
 --   tree_within : (bytes : List ℕ) → Within 65535 (batch_checked bytes)
+use Rattle.std.specs.Prelude.{Option, Result, Some, None, Ok, Err}
+use Rattle.answers.specs.declared.Refusal.{Refusal}
+use Rattle.tree.specs.declared.own.Own.{Own}
 use mathlib.Core.List.{List, [], ◌∷◌, Memᴰ}
 use Prim.Native.Nat.{ℕ, zero, suc, ◌+◌, ◌%◌, ◌≤◌}
 use native.Mathlib.Omega.{arith}
@@ -8,12 +11,9 @@ use mathlib.Core.Bool.{◌&&◌, ◌||◌}
 use lib.ListN.{length, get_or}
 use lib.Dec.{eqb, ltb, leb}
 use borrow.Author.Tests.{ltb-true, ltb-false, leb-false}
-use Rattle.answers.specs.declared.Checked.{Checked}
-use Rattle.answers.specs.Numbers.{and_then}
+use Rattle.answers.specs.Numbers.{and_then, Checked}
 use Rattle.text.specs.Accepted.{accepted_text}
 use Rattle.text.specs.Numbers.{read_number}
-use Rattle.text.specs.declared.numbers.Number.{Number}
-use Rattle.text.specs.declared.numbers.Number.TheVariants.{Read, Missing}
 use Rattle.text.proofs.Accepted.{fault_some}
 use Rattle.text.proofs.Choices.{cond_both}
 use Rattle.tree.specs.Grammar.{rule, kind_of}
@@ -22,37 +22,29 @@ use Rattle.tree.specs.Own.{may_stand, map_fits, trivia_read, text_end, list_on, 
 use Rattle.tree.specs.Reading.{Placed, Due, nothing, due, Reader, Reading, parts_due, read_parts, read_on, unread, read}
 use Rattle.tree.specs.Checking.{read_file, length_checked, end_checked, texts_checked, tree_checked, batch_checked}
 use Rattle.tree.specs.declared.grammar.Kind.{Kind}
-use Rattle.tree.specs.declared.grammar.KindRead.{KindRead}
-use Rattle.tree.specs.declared.grammar.KindRead.TheVariants.{Known, Unknown}
 use Rattle.tree.specs.declared.grammar.TextRule.{TextRule}
 use Rattle.tree.specs.declared.grammar.Class.{Class}
 use Rattle.tree.specs.declared.grammar.Class.TheVariants.{Tokens}
-use Rattle.tree.specs.declared.own.OwnRead.{OwnRead}
-use Rattle.tree.specs.declared.own.OwnRead.TheVariants.{Record, Refused}
-use Rattle.tree.specs.declared.own.Span.{Span}
-use Rattle.tree.specs.declared.own.Span.TheVariants.{Behind, Broken}
 use Rattle.tree.specs.declared.own.TriviaSpan.{TriviaSpan}
-use Rattle.tree.specs.declared.own.TriviaRead.{TriviaRead}
-use Rattle.tree.specs.declared.own.TriviaRead.TheVariants.{Trivia, BrokenTrivia}
 use Rattle.tree.proofs.Bounds.{Inside, texts_inside}
 use Rattle.exports.proofs.Within.{Within, both_within, wider}
 
 -- a record whose own bytes were refused
-abbrev OwnWithin : ℕ → OwnRead → Type 0
-OwnWithin limit (Record own) = Unit
-OwnWithin limit (Refused why) = why.place ≤ limit
+abbrev OwnWithin : ℕ → Result Own Refusal → Type 0
+OwnWithin limit (Ok own) = Unit
+OwnWithin limit (Err why) = why.place ≤ limit
 
 module _ (bytes : List ℕ) where
   -- ---- a record's own bytes are refused at its place, or at the end
 
   module _ (at : ℕ) (inside : at ≤ length bytes) where
-    list_within : (kind : Kind) (map : ℕ) (trivia : TriviaSpan) (count : Number) → OwnWithin (length bytes) (list_on at kind map trivia count)
-    list_within kind map trivia (Read count) = tt
-    list_within kind map trivia Missing = inside
+    list_within : (kind : Kind) (map : ℕ) (trivia : TriviaSpan) (count : Option ℕ) → OwnWithin (length bytes) (list_on at kind map trivia count)
+    list_within kind map trivia (Some count) = tt
+    list_within kind map trivia None = inside
 
-    leaf_within : (kind : Kind) (map : ℕ) (trivia : TriviaSpan) (span : Span) → OwnWithin (length bytes) (leaf_on at kind map trivia span)
-    leaf_within kind map trivia (Behind end) = tt
-    leaf_within kind map trivia Broken = inside
+    leaf_within : (kind : Kind) (map : ℕ) (trivia : TriviaSpan) (span : Option ℕ) → OwnWithin (length bytes) (leaf_on at kind map trivia span)
+    leaf_within kind map trivia (Some end) = tt
+    leaf_within kind map trivia None = inside
 
     rest_within : (text : TextRule) (number : ℕ) (kind : Kind) (map : ℕ) (trivia : TriviaSpan) → OwnWithin (length bytes) (rest_of bytes at text number kind map trivia)
     unfolding rest_of
@@ -62,14 +54,14 @@ module _ (bytes : List ℕ) where
         cond_both (OwnWithin (length bytes)) ((eqb number 25 || eqb number 26) && leb 2 map) _ _
         (λ some. leaf_within kind map trivia (text_end bytes trivia.end text)) (λ none. tt))
 
-    trivia_within : (given : Rule) (number : ℕ) (kind : Kind) (map : ℕ) (trivia : TriviaRead)
+    trivia_within : (given : Rule) (number : ℕ) (kind : Kind) (map : ℕ) (trivia : Option TriviaSpan)
         → OwnWithin (length bytes) (trivia_of_record bytes at given number kind map trivia)
-    trivia_within given number kind map (Trivia trivia) = rest_within given.text number kind map trivia
-    trivia_within given number kind map BrokenTrivia = inside
+    trivia_within given number kind map (Some trivia) = rest_within given.text number kind map trivia
+    trivia_within given number kind map None = inside
 
-    map_within : (given : Rule) (number : ℕ) (kind : KindRead) → OwnWithin (length bytes) (map_of_record bytes at given number kind)
-    map_within given number Unknown = inside
-    map_within given number (Known kind) =
+    map_within : (given : Rule) (number : ℕ) (kind : Option Kind) → OwnWithin (length bytes) (map_of_record bytes at given number kind)
+    map_within given number None = inside
+    map_within given number (Some kind) =
         cond_both (OwnWithin (length bytes)) (ltb (length bytes) (at + 2)) _ _ (λ short. inside)
         (λ long.
         let map = get_or bytes (at + 1) 0 in
@@ -99,9 +91,9 @@ module _ (bytes : List ℕ) where
       (below class at) (parts_within reader below parts (reader class at).end)
 
   record_within : (reader : Reader) → ((class : Class) (at : ℕ) → Within (length bytes) (reader class at).checked)
-      → (class : Class) (at : ℕ) (own : OwnRead) → OwnWithin (length bytes) own → Within (length bytes) (read_on reader bytes class at own).checked
-  record_within reader below class at (Record own) within = parts_within reader below (parts_due class own) own.end
-  record_within reader below class at (Refused why) within = within
+      → (class : Class) (at : ℕ) (own : Result Own Refusal) → OwnWithin (length bytes) own → Within (length bytes) (read_on reader bytes class at own).checked
+  record_within reader below class at (Ok own) within = parts_within reader below (parts_due class own) own.end
+  record_within reader below class at (Err why) within = within
 
   read_within : (levels : ℕ) (class : Class) (at : ℕ) → Within (length bytes) (read levels bytes class at).checked
   unfolding read

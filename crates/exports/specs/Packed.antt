@@ -1,7 +1,6 @@
 -- An answer as one number, for callers in other languages.
 use Rattle.std.specs.Prelude.{ℕ, ◌+◌, ◌*◌, ◌<◌}
-use Rattle.answers.specs.Numbers.{numbers}
-use Rattle.answers.specs.declared.Answer.{Answer}
+use Rattle.answers.specs.Numbers.{numbers, Answer}
 
 -- 2^32 times the refusal's number, 0 for acceptance, plus the text's length or the place
 abbrev pub packed_of : Answer → ℕ

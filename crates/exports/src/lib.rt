@@ -18,7 +18,7 @@ ghost use Rattle.formatting.specs.Demands.{Lesson};
 ghost use Rattle.losses.specs.Lost.{lost_from, loss_answer, Narrow};
 ghost use Rattle.exports.specs.Packed.{packed_of, Small};
 
-use answers::Answer;
+use answers::{Answer, Numbered};
 use losses::search::Loss;
 use text::scans;
 
@@ -52,7 +52,7 @@ pub fn felgutrosa_check_tree(tree: &[u8]) -> u64
     ensures small { Small (answer_of (batch_checked tree.now)) }
 {
     let checked = tree::check_tree(tree);
-    packed(checked.answer())
+    packed(answers::answer_of(checked))
 }
 
 // `tokens::chunks`: the chunks of a stored tree, stored at the start of the work room; or refusal 1, 2, 3, 4, 5, 7 or 8.
@@ -89,9 +89,9 @@ fn loss_answer(loss: Loss) -> Answer
     ensures { result ≡ loss_answer loss }
 {
     match loss {
-        Loss::Used(at, letters) => Answer::Accepted(65536 * letters + at),
-        Loss::Unused => Answer::Accepted(0),
-        Loss::Refused(refusal) => Answer::Refused(refusal),
+        Loss::Used(at, letters) => Ok(65536 * letters + at),
+        Loss::Unused => Ok(0),
+        Loss::Refused(refusal) => Err(refusal),
     }
 }
 

@@ -1,5 +1,6 @@
 -- Laws of the expressions' printers: which kind is left where no other stands, what is shown of fields that are printed in another order than they are stored, and
 -- what is shown of a list item by item.
+use Rattle.std.specs.Prelude.{Some, None}
 use denote.Enum.Declared.{tag_of}
 use Rattle.tree.specs.contracts.grammar.Kind as kinds
 use Rattle.tree.specs.declared.grammar.Kind.{Kind}
@@ -20,7 +21,6 @@ use Rattle.tree.specs.Reading.{Reader, read}
 use Rattle.tree.specs.Stored.{stored_with}
 use Rattle.tree.specs.declared.grammar.Class.{Class}
 use Rattle.tree.specs.declared.grammar.Class.TheVariants as class
-use Rattle.tree.specs.declared.grammar.Items.TheVariants.{NoList, ListOf}
 use Rattle.tree.specs.declared.grammar.Kind.TheVariants as variant
 use Rattle.tree.specs.declared.own.Own.{Own}
 use Rattle.tree.proofs.KindLayout.{kind_number, kind_number_lem}
@@ -47,12 +47,12 @@ use Rattle.expressions.specs.declared.expression.Arguments.TheVariants.{Expressi
 -- ---- the classes
 
 -- an expression's
-expression_rule : (located : Bool) → (rule (expression_class located)).items ≡ NoList
+expression_rule : (located : Bool) → (rule (expression_class located)).items ≡ None
 expression_rule true = refl
 expression_rule false = refl
 
 -- an argument's
-pub item_rule : (of : Arguments) → ((rule (item_class of)).items ≡ NoList) × ((rule (item_class of)).first ≡ 42) × ((rule (item_class of)).last ≡ 42)
+pub item_rule : (of : Arguments) → ((rule (item_class of)).items ≡ None) × ((rule (item_class of)).first ≡ 42) × ((rule (item_class of)).last ≡ 42)
     × ((rule (item_class of)).value ≡ value_class of)
 item_rule Expressions = (refl, refl, refl, refl)
 item_rule Identifiers = (refl, refl, refl, refl)
@@ -186,7 +186,7 @@ module _ {context : Context} {shown : Bool} {levels : ℕ} {bytes : List ℕ} {o
         opened_by_number opens is 24 variant.Vec number refl
 
 -- the items of such a list
-pub list_items : (of : Arguments) → (rule (list_class of)).items ≡ ListOf (item_class of)
+pub list_items : (of : Arguments) → (rule (list_class of)).items ≡ Some (item_class of)
 list_items Expressions = refl
 list_items Identifiers = refl
 list_items Imports = refl

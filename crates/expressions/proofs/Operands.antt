@@ -1,4 +1,5 @@
 -- Laws of operands and of paths with a modifier: parts that are stored behind the one they are printed before, and the addressing mode.
+use Rattle.std.specs.Prelude.{Result, Ok, Err}
 use mathlib.Core.Path.{◌≡◌, refl, sym, ap, ◌∙◌}
 use mathlib.Core.List.{List, [], ◌∷◌}
 use mathlib.Core.Bool.{Bool, true, false, cond}
@@ -17,8 +18,6 @@ use Rattle.tree.specs.Reading.{trivia_of, text_of, fields_due, parts_due, read_p
 use Rattle.tree.specs.declared.grammar.Class.TheVariants.{Word, Char, LocatedExpression, AddressModifier, AddressingMode, SuffixRecord}
 use Rattle.tree.specs.declared.grammar.Kind.TheVariants as variant
 use Rattle.tree.specs.declared.own.Own.{Own}
-use Rattle.tree.specs.declared.own.OwnRead.{OwnRead}
-use Rattle.tree.specs.declared.own.OwnRead.TheVariants as own_is
 use Rattle.printing.specs.Events.{Events, nothing, ◌▹◌}
 use Rattle.printing.specs.Running.{Run, going, run, Shown}
 use Rattle.printing.specs.declared.CodeFormatter.{CodeFormatter}
@@ -134,7 +133,7 @@ module _ (bytes : List ℕ) (start end : ℕ) where
       rw (slice-cons start end bytes 0 before inside.1) there
 
 -- its record is a leaf, and ends with its own bytes
-mode_read : (bytes : List ℕ) (at levels : ℕ) (own : Own) → read_own bytes at AddressingMode levels ≡ own_is.Record own
+mode_read : (bytes : List ℕ) (at levels : ℕ) (own : Own) → read_own bytes at AddressingMode levels ≡ Ok own
     → ((read levels bytes AddressingMode at).tree ≡ node at (trivia_of bytes own) (Leaf (text_of bytes own))) × ((read levels bytes AddressingMode at).end ≡ own.end)
 unfolding built read_parts parts_due fields_due
 mode_read bytes at levels own is =
@@ -143,9 +142,9 @@ mode_read bytes at levels own is =
 -- ---- the tail of an operand
 
 module _ (context : Context) (levels : ℕ) (bytes : List ℕ) (at : ℕ) (rchar suffix : Bool) {mode : ℕ} (there : mode ≡ mode_place rchar (read levels bytes) at)
-    {found : OwnRead} (same : found ≡ read_own bytes mode AddressingMode levels) {room : List ℕ} {before : Run} where
+    {found : Result Own Refusal} (same : found ≡ read_own bytes mode AddressingMode levels) {room : List ℕ} {before : Run} where
   -- the mode between the closing character and the register is the one that was read there
-  pub tail_shown : {answer : Printed} {own : Own} {index : ℕ} → found ≡ own_is.Record own → index ≡ get_or (slice own.text own.end bytes) 0 0
+  pub tail_shown : {answer : Printed} {own : Own} {index : ℕ} → found ≡ Ok own → index ≡ get_or (slice own.text own.end bytes) 0 0
       → Shown answer room (skipping (cond rchar (read levels bytes Char at).tree absent) ▹ end_events context index rchar at suffix (read levels bytes) own.end) before
       (cond suffix (read levels bytes SuffixRecord own.end).end own.end)
       → Shown answer room (tail_events context rchar suffix (read levels bytes) at) before (tail_end rchar suffix (read levels bytes) at)
@@ -155,7 +154,7 @@ module _ (context : Context) (levels : ℕ) (bytes : List ℕ) (at : ℕ) (rchar
       rw (← there, mode_is.0, mode_is.1) (alike (λ x. refl) (rw read_as at done))
 
   -- one that cannot be read ends the walk there
-  pub tail_refused : {why said : Refusal} {state : CodeFormatter} → found ≡ own_is.Refused why → said ≡ refusal_of found
+  pub tail_refused : {why said : Refusal} {state : CodeFormatter} → found ≡ Err why → said ≡ refusal_of found
       → Ran (skipping (cond rchar (read levels bytes Char at).tree absent)) before (going room state) → state.full ≡ 0
       → Shown (Refused said) room (tail_events context rchar suffix (read levels bytes) at) before (tail_end rchar suffix (read levels bytes) at)
   unfolding first_refusal

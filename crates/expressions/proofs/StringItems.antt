@@ -1,4 +1,5 @@
 -- Laws of strings: a list's kind, an item by its kind, and the items one behind the other.
+use Rattle.std.specs.Prelude.{Ok}
 use mathlib.Core.Path.{◌≡◌, refl, ◌∙◌}
 use mathlib.Core.List.{List}
 use mathlib.Core.Bool.{Bool, true, false, ◌&&◌}
@@ -17,7 +18,6 @@ use Rattle.tree.specs.Stored.{stored_with}
 use Rattle.tree.specs.declared.grammar.Class.TheVariants as class
 use Rattle.tree.specs.declared.grammar.Kind.TheVariants as variant
 use Rattle.tree.specs.declared.own.Own.{Own}
-use Rattle.tree.specs.declared.own.OwnRead.TheVariants as own_is
 use Rattle.tree.proofs.KindLayout.{kind_number, kind_number_lem}
 use Rattle.printing.specs.Events.{nothing, ◌▹◌}
 use Rattle.printing.specs.Running.{Run, Shown}
@@ -74,13 +74,13 @@ module _ {context : Context} {shown : Bool} {levels : ℕ} {bytes : List ℕ} {s
 
 module _ (bytes : List ℕ) (levels : ℕ) (own : Own) where
   -- a text is read as one
-  pub text_read : own.kind ≡ variant.Leaf → (at : ℕ) → read_own bytes at class.StringItem levels ≡ own_is.Record own
+  pub text_read : own.kind ≡ variant.Leaf → (at : ℕ) → read_own bytes at class.StringItem levels ≡ Ok own
       → ((read levels bytes class.StringItem at).tree ≡ node at (trivia_of bytes own) (Leaf (slice own.text own.end bytes))) × ((read levels bytes class.StringItem at).end ≡ own.end)
   unfolding parts_due fields_due read_parts built
   text_read kind at is = rw ((read_record bytes class.StringItem at levels own is).1, kind) (refl, refl)
 
   -- and a path
-  pub path_read : own.kind ≡ variant.PathItem → (at : ℕ) → read_own bytes at class.StringItem levels ≡ own_is.Record own
+  pub path_read : own.kind ≡ variant.PathItem → (at : ℕ) → read_own bytes at class.StringItem levels ≡ Ok own
       → ((read levels bytes class.StringItem at).tree ≡ node at (trivia_of bytes own) (PathItem (slice own.text own.end bytes))) × ((read levels bytes class.StringItem at).end ≡ own.end)
   unfolding parts_due fields_due read_parts built
   path_read kind at is = rw ((read_record bytes class.StringItem at levels own is).1, kind) (refl, refl)

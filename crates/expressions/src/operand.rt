@@ -15,7 +15,7 @@ use leaves::{leaf, record};
 use printing::{Context, Printed};
 use text::numbers;
 use tree::grammar::Class;
-use tree::own::{Own, OwnRead};
+use tree::own::Own;
 use tree::{codes, own};
 
 // A register behind a comma, which may stand or not.
@@ -160,7 +160,7 @@ fn format_tail(
         return at_mode;
     };
     let found = own::read_own(tree, at, Class::AddressingMode, levels);
-    let OwnRead::Record(own) = found else {
+    let Ok(own) = found else {
         return Printed::Refused(own::refusal_of(found));
     };
     let mode = mode_of(tree, own);

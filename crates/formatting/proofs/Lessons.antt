@@ -1,5 +1,7 @@
 -- The tree call comes to what its definition says, and keeps demand 3: by the walk's promise and the column setter's alone.
 --   refused_lesson : a tree that the walk refuses; joined_lesson : one whose chunks the setter joins
+use Rattle.std.specs.Prelude.{Result, Ok, Err}
+use Rattle.answers.specs.Numbers.{no_refusal, Answer, Checked}
 use mathlib.Core.Path.{◌≡◌, refl, sym, ap, ◌∙◌}
 use mathlib.Core.List.{List, [], reverse}
 use mathlib.Core.Bool.{Bool, false}
@@ -7,15 +9,9 @@ use Prim.Native.Nat.{ℕ, ◌≤◌}
 use native.Mathlib.Omega.{arith}
 use lib.ListN.{length, take, length-take}
 use Rattle.answers.specs.Texts.{refusal, answer_in, buffer_after}
-use Rattle.answers.specs.declared.Answer.{Answer}
-use Rattle.answers.specs.declared.Answer.TheVariants as answer
-use Rattle.answers.specs.declared.Checked.{Checked}
-use Rattle.answers.specs.declared.Checked.TheVariants.{Passed, Failed}
 use Rattle.answers.specs.declared.Refusal.{Refusal}
 use Rattle.options.specs.Stored.{read_options}
 use Rattle.options.specs.declared.FormattingOptions.{FormattingOptions}
-use Rattle.options.specs.declared.OptionsRead.{OptionsRead}
-use Rattle.options.specs.declared.OptionsRead.TheVariants.{Options, Refused}
 use Rattle.text.specs.Ink.{inks}
 use Rattle.chunks.specs.Stored.{Chunk, stored_list}
 use Rattle.chunks.specs.Reading.{chunks_of}
@@ -32,7 +28,7 @@ use Rattle.formatting.specs.Formatting.{formatted}
 use Rattle.formatting.specs.Demands.{Kept, LessonUnder, Lesson}
 
 -- two answers, or two that are held, of different cases are not equal
-accepted_refused : {R : Type 0} {used : ℕ} {why : Refusal} → answer.Accepted used ≡ answer.Refused why → R
+accepted_refused : {R : Type 0} {used : ℕ} {why : Refusal} → Ok used ≡ Err why → R
 accepted_refused e = let z : ◌≡◌ {A = ℕ} 0 1 = cc in absurd (omega arith)
 
 refused_held : {R : Type 0} {why : Refusal} {chunks : List Chunk} {pending : Bool} → refused why ≡ held chunks pending → R
@@ -42,20 +38,20 @@ module _ (tree options : List ℕ) (size : ℕ) where
   -- ---- a walk that was refused
 
   -- the tree call is refused for the same
-  refused_as : (why : Refusal) (found : OptionsRead) → read_options options ≡ found → chunks_held tree options size ≡ refused why → formatted tree options size ≡ refusal why
+  refused_as : (why : Refusal) (found : Result FormattingOptions Refusal) → read_options options ≡ found → chunks_held tree options size ≡ refused why → formatted tree options size ≡ refusal why
   unfolding formatted chunks_held
-  refused_as why (Options chosen) is e = rw (e, is) refl
-  refused_as why (Refused reason) is e = let same : refused reason ≡ refused why = rw is at e in let one : reason ≡ why = cc in rw (is, one) refl
+  refused_as why (Ok chosen) is e = rw (e, is) refl
+  refused_as why (Err reason) is e = let same : refused reason ≡ refused why = rw is at e in let one : reason ≡ why = cc in rw (is, one) refl
 
   -- what is held of it
-  refused_by : (why : Refusal) (found : Held) → answer.Refused why ≡ chunks_answer found → found ≡ refused why
+  refused_by : (why : Refusal) (found : Held) → Err why ≡ chunks_answer found → found ≡ refused why
   refused_by why (held chunks pending) e = accepted_refused (sym e)
   refused_by why (refused reason) e = let one : why ≡ reason = cc in ap refused (sym one)
 
   -- there is nothing to promise of a refusal
-  no_lesson : (why : Refusal) (found : OptionsRead) → LessonUnder tree found (refusal why)
-  no_lesson why (Options chosen) = tt
-  no_lesson why (Refused reason) = tt
+  no_lesson : (why : Refusal) (found : Result FormattingOptions Refusal) → LessonUnder tree found (refusal why)
+  no_lesson why (Ok chosen) = tt
+  no_lesson why (Err reason) = tt
 
   -- what is promised of the call, under the name of its answer and of the buffer afterwards
   pub record Formats (said : Answer) (before after : List ℕ) : Type 0 where
@@ -64,7 +60,7 @@ module _ (tree options : List ℕ) (size : ℕ) where
     pub lesson : Lesson tree options (formatted tree options size)
 
   -- a refusal is handed on, and the buffer is as before
-  pub refused_lesson : {said : Answer} {why : Refusal} {before : List ℕ} → said ≡ chunks_answer (chunks_held tree options size) → said ≡ answer.Refused why
+  pub refused_lesson : {said : Answer} {why : Refusal} {before : List ℕ} → said ≡ chunks_answer (chunks_held tree options size) → said ≡ Err why
       → Formats said before before
   refused_lesson {said} {why} says is =
       let known = refused_as why _ refl (refused_by why _ (sym is ∙ says)) in
@@ -77,8 +73,8 @@ module _ (tree options : List ℕ) (size : ℕ) where
     chosen : FormattingOptions
     chunks : List Chunk
     pending : Bool
-    read : read_options options ≡ Options chosen
-    passed : batch_checked tree ≡ Passed
+    read : read_options options ≡ Ok chosen
+    passed : batch_checked tree ≡ no_refusal
     holds : hold size (file_events chosen tree) (held [] false) ≡ held chunks pending
     whole : chunks_held tree options size ≡ held chunks pending
     count : used ≡ length (stored_list (reverse chunks))
@@ -87,18 +83,18 @@ module _ (tree options : List ℕ) (size : ℕ) where
 
   -- the check passed
   held_passed : (found : Checked) (those : Held) {chunks : List Chunk} {pending : Bool} → held_unless found those ≡ held chunks pending
-      → (found ≡ Passed) × (those ≡ held chunks pending)
-  held_passed Passed those e = (refl, e)
-  held_passed (Failed why) those e = refused_held e
+      → (found ≡ no_refusal) × (those ≡ held chunks pending)
+  held_passed (Ok tt) those e = (refl, e)
+  held_passed (Err why) those e = refused_held e
 
   module _ {used : ℕ} {left : List ℕ} where
     -- the options were read
-    walked_read : (found : OptionsRead) → read_options options ≡ found → (chunks : List Chunk) (pending : Bool) → chunks_held tree options size ≡ held chunks pending
-        → answer.Accepted used ≡ answer.Accepted (length (stored_list (reverse chunks)))
+    walked_read : (found : Result FormattingOptions Refusal) → read_options options ≡ found → (chunks : List Chunk) (pending : Bool) → chunks_held tree options size ≡ held chunks pending
+        → ◌≡◌ {A = Answer} (Ok used) (Ok (length (stored_list (reverse chunks))))
         → (take (length (stored_list (reverse chunks))) left ≡ stored_list (reverse chunks)) × Acceptable (reverse chunks) → Walked used left
     unfolding chunks_held
-    walked_read (Refused reason) is chunks pending e counted room = refused_held (rw is at e)
-    walked_read (Options chosen) is chunks pending e counted room =
+    walked_read (Err reason) is chunks pending e counted room = refused_held (rw is at e)
+    walked_read (Ok chosen) is chunks pending e counted room =
         let known = held_passed (batch_checked tree) (hold size (file_events chosen tree) (held [] false)) (rw is at e) in
         let count : used ≡ length (stored_list (reverse chunks)) = cc in
         record {
@@ -115,11 +111,11 @@ module _ (tree options : List ℕ) (size : ℕ) where
         }
 
     -- chunks are held
-    walked_held : (found : Held) → chunks_held tree options size ≡ found → answer.Accepted used ≡ chunks_answer found → RoomHolds found left → Walked used left
+    walked_held : (found : Held) → chunks_held tree options size ≡ found → Ok used ≡ chunks_answer found → RoomHolds found left → Walked used left
     walked_held (held chunks pending) is says room = walked_read _ refl chunks pending is says room
     walked_held (refused why) is says room = accepted_refused says
 
-  module _ (left : List ℕ) {said : Answer} {used : ℕ} (says : said ≡ chunks_answer (chunks_held tree options size)) (is : said ≡ answer.Accepted used)
+  module _ (left : List ℕ) {said : Answer} {used : ℕ} (says : said ≡ chunks_answer (chunks_held tree options size)) (is : said ≡ Ok used)
       (room : RoomHolds (chunks_held tree options size) left)
     where
       walked : Walked used left

@@ -1,12 +1,12 @@
 -- The starred samples of document 01, of both calls, from stored bytes, by computing: the outcome, and the answer and the buffer afterwards in a buffer of 64 bytes.
 --   samples_answered : map found rows ≡ map wanted rows
+use Rattle.std.specs.Prelude.{Ok}
+use Rattle.answers.specs.Numbers.{Answer}
 use Prim.Native.Nat.{ℕ, ◌-◌}
 use mathlib.Core.Path.{◌≡◌, refl}
 use mathlib.Core.List.{List, [], ◌∷◌, ◌++◌, map}
 use lib.ListN.{replicate}
 use Rattle.answers.specs.Texts.{Outcome, text, answer_in, buffer_after}
-use Rattle.answers.specs.declared.Answer.{Answer}
-use Rattle.answers.specs.declared.Answer.TheVariants.{Accepted}
 use Rattle.options.specs.Casings.{cased}
 use Rattle.options.specs.Stored.{standing, values_checked, stored_options, read_options}
 use Rattle.text.specs.Accepted.{accepted_byte, accepted_text}
@@ -73,7 +73,7 @@ found row =
     (outcome, answer_in outcome 64, buffer_after outcome (marks 64))
 
 abbrev pub wanted : Row → Outcome × Answer × List ℕ
-wanted row = (text row.text, Accepted row.length, row.text ++ marks (64 - row.length))
+wanted row = (text row.text, Ok row.length, row.text ++ marks (64 - row.length))
 
 pub samples_answered : map found rows ≡ map wanted rows
 unfolding ascii stored_indent stored_head stored_chunk stored_list text_at chunk_at chunks_from stored_chunks chunks_at end_from layout_checked

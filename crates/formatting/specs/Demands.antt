@@ -1,10 +1,9 @@
 -- Demand 3, of every tree whose text `format` gives, whether it fits its buffer or not.
-use Rattle.std.specs.Prelude.{ℕ, ◌<◌, ◌^◌, ◌≡◌, List, true, false, length}
+use Rattle.answers.specs.declared.Refusal.{Refusal}
+use Rattle.std.specs.Prelude.{ℕ, ◌<◌, ◌^◌, ◌≡◌, List, true, false, length, Result, Ok, Err}
 use Rattle.answers.specs.Texts.{Outcome, text, refusal}
 use Rattle.options.specs.Stored.{read_options}
 use Rattle.options.specs.declared.FormattingOptions.{FormattingOptions}
-use Rattle.options.specs.declared.OptionsRead.{OptionsRead}
-use Rattle.options.specs.declared.OptionsRead.TheVariants.{Options, Refused}
 use Rattle.text.specs.Ink.{ink, inks}
 use Rattle.text.specs.Lines.{no_line_ends_in_blank, no_empty_lines_touch}
 use Rattle.tree.specs.Checking.{read_file}
@@ -22,10 +21,10 @@ pub record Kept (tree : List ℕ) (options : FormattingOptions) (bytes : List �
   -- a length that four bytes hold
   pub short : length bytes < 2 ^ 32
 
-abbrev pub LessonUnder : List ℕ → OptionsRead → Outcome → Type 0
-LessonUnder tree (Options options) (text bytes) = Kept tree options bytes
-LessonUnder tree (Options options) (refusal why) = Unit
-LessonUnder tree (Refused why) outcome = Unit
+abbrev pub LessonUnder : List ℕ → Result FormattingOptions Refusal → Outcome → Type 0
+LessonUnder tree (Ok options) (text bytes) = Kept tree options bytes
+LessonUnder tree (Ok options) (refusal why) = Unit
+LessonUnder tree (Err why) outcome = Unit
 
 abbrev pub Lesson : List ℕ → List ℕ → Outcome → Type 0
 Lesson tree options outcome = LessonUnder tree (read_options options) outcome

@@ -21,7 +21,7 @@ fn format_in(tree: &[u8], options: &[u8], work: &mut [u8], text: &mut [u8]) -> A
         Lesson tree.now options.now lesson }
 {
     let walked = tokens::chunks_in_one_pass(tree, options, work);
-    let Answer::Accepted(used) = walked else {
+    let Ok(used) = walked else {
         return walked;
     };
     join::join_chunks(&work[..used], options, text)

@@ -1,4 +1,5 @@
 -- Laws of places in a list that was judged: before its end a chunk stands, and a spot is in a chunk's text or at the list's end.
+use Rattle.std.specs.Prelude.{Option, Some, None}
 use mathlib.Core.Path.{◌≡◌, refl, sym, ap, ◌∙◌}
 use mathlib.Core.List.{List, []}
 use mathlib.Core.Bool.{Bool, true, false, cond}
@@ -15,8 +16,6 @@ use Rattle.chunks.specs.Reading.{type_of, chunk_at, chunks_at, ChunkFits}
 use Rattle.chunks.specs.declared.stored.ChunkType.{ChunkType}
 use Rattle.chunks.specs.declared.stored.ChunkType.TheVariants.{Code}
 use Rattle.chunks.specs.declared.stored.StoredChunk.{StoredChunk}
-use Rattle.chunks.specs.declared.stored.ChunkAt.{ChunkAt}
-use Rattle.chunks.specs.declared.stored.ChunkAt.TheVariants.{Found, NoChunk}
 use Rattle.chunks.proofs.Forms.{map_bits, map_type, indent_bit_lem, indent_stored, type_bits_small}
 use Rattle.chunks.proofs.Reading.{chunk_laid, chunk_fits, chunk_end, chunks_at_found, chunks_at_none}
 use Rattle.chunks.proofs.Reading as reading
@@ -32,12 +31,12 @@ use Rattle.join.proofs.Pieces.{newline_lone, slice_one}
 -- ---- the chunk at a place
 
 -- what holds of any chunk that is found holds where one is found
-by_found : {P : Type 0} (found : ChunkAt) → (found ≡ NoChunk → ⊥) → ((chunk : StoredChunk) → found ≡ Found chunk → P) → P
-by_found (Found chunk) some each = each chunk refl
-by_found NoChunk some each = absurd (some refl)
+by_found : {P : Type 0} (found : Option StoredChunk) → (found ≡ None → ⊥) → ((chunk : StoredChunk) → found ≡ Some chunk → P) → P
+by_found (Some chunk) some each = each chunk refl
+by_found None some each = absurd (some refl)
 
 -- a chunk that is found is laid out at its place
-found_laid : (list : List ℕ) (place : ℕ) (chunk : StoredChunk) → chunk_at list place ≡ Found chunk → reading.Laid list place chunk
+found_laid : (list : List ℕ) (place : ℕ) (chunk : StoredChunk) → chunk_at list place ≡ Some chunk → reading.Laid list place chunk
 found_laid list place chunk e = rw e at (chunk_laid list place)
 
 -- an indent whose bit is not set is 0
@@ -59,7 +58,7 @@ type_told list place chunk stored bits e =
 
 module _ (list : List ℕ) (place : ℕ) (laid : Laid list place) (inside : place < length list) where
   -- before the list's end a chunk is found
-  by_chunk : {P : Type 0} → ((chunk : StoredChunk) → chunk_at list place ≡ Found chunk → P) → P
+  by_chunk : {P : Type 0} → ((chunk : StoredChunk) → chunk_at list place ≡ Some chunk → P) → P
   by_chunk each = by_found (chunk_at list place) (λ none. omega (arith, laid, end_none list place none)) each
 
   -- whose head is three bytes at least
@@ -68,7 +67,7 @@ module _ (list : List ℕ) (place : ℕ) (laid : Laid list place) (inside : plac
 
   -- a chunk without an indent is found by its map and its text length
   pub found_plain : {map count : ℕ} {ty : ChunkType} → map ≡ get_or list place 0 → map < 4 → ty ≡ type_of map → count ≡ number_at list (place + 1)
-      → chunk_at list place ≡ Found (record { ty = ty; indent = 0; start = place + 3; end = place + 3 + count })
+      → chunk_at list place ≡ Some (record { ty = ty; indent = 0; start = place + 3; end = place + 3 + count })
   unfolding stored_indent
   found_plain {map} here unset ty count =
       by_chunk (λ chunk e.
@@ -77,7 +76,7 @@ module _ (list : List ℕ) (place : ℕ) (laid : Laid list place) (inside : plac
       let width : length (stored_indent chunk.indent) ≡ 0 = rw none in
       let there : place + 1 + length (stored_indent chunk.indent) ≡ place + 1 = omega arith in
       let end = rw there at stored.end in
-      e ∙ ap Found (same_chunk chunk (ty ∙ type_told list place chunk stored map (omega (arith, ap indent_bit none))) (sym none) (omega arith) (omega arith)))
+      e ∙ ap Some (same_chunk chunk (ty ∙ type_told list place chunk stored map (omega (arith, ap indent_bit none))) (sym none) (omega arith) (omega arith)))
 
   -- a chunk with an indent
   module _ {map : ℕ} (here : map ≡ get_or list place 0) (set : 4 ≤ map) where
@@ -94,7 +93,7 @@ module _ (list : List ℕ) (place : ℕ) (laid : Laid list place) (inside : plac
 
     -- it is found by its map, its indent and its text length
     pub found_indented : {indent count : ℕ} {ty : ChunkType} → ty ≡ type_of (map - 4) → indent ≡ number_at list (place + 1) → count ≡ number_at list (place + 3)
-        → chunk_at list place ≡ Found (record { ty = ty; indent = indent; start = place + 5; end = place + 5 + count })
+        → chunk_at list place ≡ Some (record { ty = ty; indent = indent; start = place + 5; end = place + 5 + count })
     found_indented ty indent count =
         by_chunk (λ chunk e.
         let stored = found_laid list place chunk e in
@@ -102,11 +101,11 @@ module _ (list : List ℕ) (place : ℕ) (laid : Laid list place) (inside : plac
         let width : length (stored_indent chunk.indent) ≡ 2 = ap length (indent_stored chunk.indent some) in
         let there : place + 1 + length (stored_indent chunk.indent) ≡ place + 3 = omega arith in
         let end = rw there at stored.end in
-        e ∙ ap Found (same_chunk chunk
+        e ∙ ap Some (same_chunk chunk
         (ty ∙ type_told list place chunk stored (map - 4) (omega (arith, indent_bit_lem chunk.indent some))) (indent ∙ stored.indent some) (omega arith) (omega arith)))
 
 -- what is found fits
-pub found_fits : (list : List ℕ) (place : ℕ) (chunk : StoredChunk) → Bytes list → chunk_at list place ≡ Found chunk → ChunkFits list place chunk
+pub found_fits : (list : List ℕ) (place : ℕ) (chunk : StoredChunk) → Bytes list → chunk_at list place ≡ Some chunk → ChunkFits list place chunk
 found_fits list place chunk bytes e = rw e at (chunk_fits list place bytes)
 
 -- ---- what follows a place
@@ -116,11 +115,11 @@ pub follows_nothing : (list : List ℕ) (place : ℕ) → length list ≤ place 
 follows_nothing list place past = chunks_at_none list place (chunk_end list place past)
 
 -- before it a chunk
-follows_chunk : (list : List ℕ) (place : ℕ) (chunk : StoredChunk) → chunk_at list place ≡ Found chunk
+follows_chunk : (list : List ℕ) (place : ℕ) (chunk : StoredChunk) → chunk_at list place ≡ Some chunk
     → following (chunks_at list place) ≡ cond (is_newline (slice chunk.start chunk.end list)) Newline Other
 follows_chunk list place chunk e = ap following (chunks_at_found list place chunk e)
 
-module _ (list : List ℕ) (place : ℕ) (chunk : StoredChunk) (e : chunk_at list place ≡ Found chunk) (inside : chunk.end ≤ length list) where
+module _ (list : List ℕ) (place : ℕ) (chunk : StoredChunk) (e : chunk_at list place ≡ Some chunk) (inside : chunk.end ≤ length list) where
   -- which is a newline or not where its text is one byte
   pub follows_one : chunk.end - chunk.start ≡ 1 → following (chunks_at list place) ≡ cond (eqb (get_or list chunk.start 0) 10) Newline Other
   unfolding is_newline
@@ -166,7 +165,7 @@ reached_end list place laid within past = record {
 }
 
 -- a chunk is reached
-pub reached_chunk : (list : List ℕ) (place : ℕ) (chunk : StoredChunk) → Laid list place → place < length list → chunk_at list place ≡ Found chunk → ChunkFits list place chunk
+pub reached_chunk : (list : List ℕ) (place : ℕ) (chunk : StoredChunk) → Laid list place → place < length list → chunk_at list place ≡ Some chunk → ChunkFits list place chunk
     → Reached list place (record { ty = chunk.ty; indent = chunk.indent; start = chunk.start; at = chunk.start; end = chunk.end })
 unfolding pieces_at pieces
 reached_chunk list place chunk laid inside e fit = record {

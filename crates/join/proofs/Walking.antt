@@ -1,4 +1,5 @@
 -- The walk of a line, piece by piece: what holds before each step, and that a step keeps it.
+use Rattle.std.specs.Prelude.{Option, Some, None}
 use mathlib.Core.Path.{◌≡◌, refl, sym, ap, ◌∙◌}
 use mathlib.Core.List.{List, [], ◌++◌, append-nil, append_assoc}
 use mathlib.Core.Bool.{Bool, true, false, cond}
@@ -13,8 +14,6 @@ use Rattle.join.specs.Walk.{Standing, Stepped, Measured, LineWalked, pieces_at, 
 use Rattle.columns.specs.declared.Margins.{Margins}
 use Rattle.join.specs.declared.piece.Spot.{Spot}
 use Rattle.join.specs.declared.piece.Step.{Step}
-use Rattle.columns.specs.declared.Indent.{Indent}
-use Rattle.columns.specs.declared.Indent.TheVariants.{Unset, Set}
 use Rattle.join.specs.declared.line.Measure.{Measure}
 use Rattle.join.specs.declared.line.Window.{Window}
 use Rattle.join.proofs.Measures.{inked_behind}
@@ -42,19 +41,19 @@ walking_start margins list spot standing some = record {
 }
 
 -- an indent that a line takes is that of the line or of the spot
-taken_low : (indent : Indent) (spot : Spot) → indent_of indent ≤ 4096 → spot.indent ≤ 4096 → indent_of (taken indent spot) ≤ 4096
-taken_low (Set n) spot low small = low
-taken_low Unset spot low small = by_test (eqb spot.at spot.start) (λ q. rw q small) (λ q. rw q (omega arith))
+taken_low : (indent : Option ℕ) (spot : Spot) → indent_of indent ≤ 4096 → spot.indent ≤ 4096 → indent_of (taken indent spot) ≤ 4096
+taken_low (Some n) spot low small = low
+taken_low None spot low small = by_test (eqb spot.at spot.start) (λ q. rw q small) (λ q. rw q (omega arith))
 
 -- a line with the piece at a spot more
 abbrev pub longer : Margins → List ℕ → Line → Spot → Line
 longer margins list line here = add margins line (piece_at list here)
 
 -- the piece at a spot leaves the indent that the spot does
-piece_indent : (list : List ℕ) (here : Spot) (indent : Indent) → indent_with indent (piece_at list here) ≡ taken indent here
+piece_indent : (list : List ℕ) (here : Spot) (indent : Option ℕ) → indent_with indent (piece_at list here) ≡ taken indent here
 unfolding piece_at
-piece_indent list here (Set n) = refl
-piece_indent list here Unset = refl
+piece_indent list here (Some n) = refl
+piece_indent list here None = refl
 
 -- so does the longer line
 longer_indent : (margins : Margins) (list : List ℕ) (line : Line) (here : Spot) → (longer margins list line here).indent ≡ taken line.indent here
@@ -101,7 +100,7 @@ walking_end walking e = walking.left ∙ rw e
 -- ---- the walk that measures
 
 -- the measures and the indent are those of the line so far
-pub record Measuring (margins : Margins) (list : List ℕ) (spot : Spot) (measure : Measure) (indent : Indent) (here : Spot) (ended : Bool) : Type 0 where
+pub record Measuring (margins : Margins) (list : List ℕ) (spot : Spot) (measure : Measure) (indent : Option ℕ) (here : Spot) (ended : Bool) : Type 0 where
   pub line : Line
   pub walking : Walking margins list spot line here ended
   pub measured : ended ≡ false → Measured measure line.bytes
@@ -111,7 +110,7 @@ pub record Measuring (margins : Margins) (list : List ℕ) (spot : Spot) (measur
 
 -- a fresh line measures nothing
 pub measuring_start : (margins : Margins) (list : List ℕ) (spot : Spot) → Standing list spot → spot.at < length list
-    → Measuring margins list spot (record { length = 0; leading = 0; ink_end = 0 }) Unset spot false
+    → Measuring margins list spot (record { length = 0; leading = 0; ink_end = 0 }) None spot false
 unfolding leading_blanks trim_end
 measuring_start margins list spot standing some = record {
   line = fresh;
@@ -123,7 +122,7 @@ measuring_start margins list spot standing some = record {
 }
 
 -- in the middle of a turn the indent is that of the line with the piece to come
-pub record Pausing (margins : Margins) (list : List ℕ) (spot : Spot) (measure : Measure) (indent : Indent) (here : Spot) : Type 0 where
+pub record Pausing (margins : Margins) (list : List ℕ) (spot : Spot) (measure : Measure) (indent : Option ℕ) (here : Spot) : Type 0 where
   pub line : Line
   pub walking : Walking margins list spot line here false
   pub measured : Measured measure line.bytes
@@ -131,23 +130,23 @@ pub record Pausing (margins : Margins) (list : List ℕ) (spot : Spot) (measure 
   pub fits : measure.leading ≤ measure.length
 
 -- the turn starts with that
-pub pausing_start : {margins : Margins} {list : List ℕ} {spot here : Spot} {measure : Measure} {indent indent' : Indent}
+pub pausing_start : {margins : Margins} {list : List ℕ} {spot here : Spot} {measure : Measure} {indent indent' : Option ℕ}
     → Measuring margins list spot measure indent here false → indent' ≡ taken indent here → Pausing margins list spot measure indent' here
 pausing_start {here = here} measuring takes = record {
   line = measuring.line;
   walking = measuring.walking;
   measured = measuring.measured refl;
-  takes = takes ∙ ap (λ (indent : Indent). taken indent here) measuring.takes;
+  takes = takes ∙ ap (λ (indent : Option ℕ). taken indent here) measuring.takes;
   fits = measuring.fits;
 }
 
 -- the line is no longer than the list has bytes for
-pub pausing_short : {margins : Margins} {list : List ℕ} {spot here : Spot} {measure : Measure} {indent : Indent}
+pub pausing_short : {margins : Margins} {list : List ℕ} {spot here : Spot} {measure : Measure} {indent : Option ℕ}
     → Pausing margins list spot measure indent here → measure.length ≤ 512 * here.at
 pausing_short pausing = omega (arith, pausing.measured.length, pausing.walking.small)
 
 -- no chunk leaves the line as it is
-pub ran_start : (margins : Margins) (list : List ℕ) (spot : Spot) (measure : Measure) (indent : Indent) → Standing list spot → spot.at < length list
+pub ran_start : (margins : Margins) (list : List ℕ) (spot : Spot) (measure : Measure) (indent : Option ℕ) → Standing list spot → spot.at < length list
     → measure.leading ≤ measure.length → Ran margins list spot measure indent measure spot
 ran_start margins list spot measure indent standing some fits = record {
   more = [];
@@ -162,7 +161,7 @@ ran_start margins list spot measure indent standing some fits = record {
 }
 
 module _ {margins : Margins} {list : List ℕ} {spot here : Spot} {measure reached : Measure} {step : Step} (n : ℕ)
-    (ran : Ran margins list spot measure (Set n) reached here) (stepped : Stepped margins list here reached.length step) where
+    (ran : Ran margins list spot measure (Some n) reached here) (stepped : Stepped margins list here reached.length step) where
   -- a step's bytes fit
   pub run_fits : measure.length ≤ 512 * spot.at → length list ≤ 1048576 → Fits reached (step.before + (step.to - step.from) + step.behind)
   run_fits near short = record {
@@ -171,8 +170,8 @@ module _ {margins : Margins} {list : List ℕ} {spot here : Spot} {measure reach
   }
 
   -- with a step more the line is the longer one
-  longer_on : step.ends ≡ false → (line : Line) → length line.bytes ≡ measure.length → taken line.indent spot ≡ Set n
-      → Longer margins list line spot (ran.more ++ step_bytes list step) step.spot (Set n)
+  longer_on : step.ends ≡ false → (line : Line) → length line.bytes ≡ measure.length → taken line.indent spot ≡ Some n
+      → Longer margins list line spot (ran.more ++ step_bytes list step) step.spot (Some n)
   unfolding first_line add
   longer_on goes line long e =
       let on = ran.longer line long e in
@@ -181,7 +180,7 @@ module _ {margins : Margins} {list : List ℕ} {spot here : Spot} {measure reach
       stepped.bytes ∙ ap (λ (rest : List ℕ). step_bytes list step ++ rest) (stepped.all goes) ∙ append-nil (step_bytes list step) in
       let ongoing : ends margins reached.length (piece_at list here) ≡ false = sym stepped.ends ∙ goes in
       record {
-        indent = Set n;
+        indent = Some n;
         takes = refl;
         left = on.left ∙ rw (stepped.pieces, all, ongoing, adds, piece_indent list here on.indent, on.takes, append_assoc line.bytes ran.more (step_bytes list step));
       }
@@ -189,7 +188,7 @@ module _ {margins : Margins} {list : List ℕ} {spot here : Spot} {measure reach
   -- so it ran on
   pub ran_on : {reached' : Measure} → step.ends ≡ false → ((bytes : List ℕ) → Measured reached bytes → Measured reached' (bytes ++ step_bytes list step))
       → reached'.length ≡ reached.length + (step.before + (step.to - step.from) + step.behind) → reached'.leading ≤ reached'.length
-      → Ran margins list spot measure (Set n) reached' step.spot
+      → Ran margins list spot measure (Some n) reached' step.spot
   ran_on goes counted long fits =
       let size = step_length list step stepped.inside in
       record {
@@ -205,12 +204,12 @@ module _ {margins : Margins} {list : List ℕ} {spot here : Spot} {measure reach
       }
 
 -- an indent is not less with a piece more
-taken_more : (indent : Indent) (spot : Spot) → indent_of indent ≤ indent_of (taken indent spot)
-taken_more (Set n) spot = omega arith
-taken_more Unset spot = omega arith
+taken_more : (indent : Option ℕ) (spot : Spot) → indent_of indent ≤ indent_of (taken indent spot)
+taken_more (Some n) spot = omega arith
+taken_more None spot = omega arith
 
 -- a run goes on within a turn
-pub pausing_run : {margins : Margins} {list : List ℕ} {spot here there : Spot} {measure reached : Measure} {indent : Indent}
+pub pausing_run : {margins : Margins} {list : List ℕ} {spot here there : Spot} {measure reached : Measure} {indent : Option ℕ}
     → Pausing margins list spot measure indent here → Ran margins list here measure indent reached there → Pausing margins list spot reached indent there
 pausing_run {here = here} {there = there} pausing ran =
     let line = pausing.line in
@@ -232,13 +231,13 @@ pausing_run {here = here} {there = there} pausing ran =
     }
 
 -- a step's bytes fit
-pub pausing_fits : {margins : Margins} {list : List ℕ} {spot here : Spot} {measure : Measure} {indent : Indent} {step : Step}
+pub pausing_fits : {margins : Margins} {list : List ℕ} {spot here : Spot} {measure : Measure} {indent : Option ℕ} {step : Step}
     → Pausing margins list spot measure indent here → Stepped margins list here measure.length step → length list ≤ 1048576
     → Fits measure (step.before + (step.to - step.from) + step.behind)
 pausing_fits pausing stepped short = record { leading = pausing.fits; small = step_room pausing.walking pausing.measured.length stepped short }
 
 -- a step ends the turn
-pub pausing_on : {margins : Margins} {list : List ℕ} {spot here : Spot} {measure measure' : Measure} {indent : Indent} {step : Step}
+pub pausing_on : {margins : Margins} {list : List ℕ} {spot here : Spot} {measure measure' : Measure} {indent : Option ℕ} {step : Step}
     → Pausing margins list spot measure indent here → Stepped margins list here measure.length step
     → ((bytes : List ℕ) → Measured measure bytes → Measured measure' (bytes ++ step_bytes list step)) → measure'.leading ≤ measure'.length
     → Measuring margins list spot measure' indent step.spot step.ends
@@ -255,7 +254,7 @@ pausing_on {margins = margins} {list = list} {here = here} pausing stepped count
     }
 
 -- at its end the line is measured
-pub measuring_end : {margins : Margins} {list : List ℕ} {spot here : Spot} {measure : Measure} {indent : Indent} {ended : Bool} {n : ℕ}
+pub measuring_end : {margins : Margins} {list : List ℕ} {spot here : Spot} {measure : Measure} {indent : Option ℕ} {ended : Bool} {n : ℕ}
     → Measuring margins list spot measure indent here ended → ended ≡ true → n ≡ indent_of indent
     → LineWalked margins list spot (record { measure = measure; indent = n; spot = here })
 measuring_end measuring e amount =
@@ -339,13 +338,13 @@ writing_end writing e = rw (walking_end writing.walking e) (showing_end writing.
 -- ---- the walk that measures and writes
 
 -- the line so far is measured, and the text has what the window shows of it
-pub record Placing (margins : Margins) (list : List ℕ) (spot : Spot) (window : Window) (before text : List ℕ) (measure : Measure) (indent : Indent) (here : Spot) (ended : Bool) : Type 0 where
+pub record Placing (margins : Margins) (list : List ℕ) (spot : Spot) (window : Window) (before text : List ℕ) (measure : Measure) (indent : Option ℕ) (here : Spot) (ended : Bool) : Type 0 where
   pub measuring : Measuring margins list spot measure indent here ended
   pub showing : Showing window before text measuring.line.bytes ended
 
 -- of a fresh line nothing is written
 pub placing_start : (margins : Margins) (list : List ℕ) (spot : Spot) (window : Window) (text : List ℕ) → Standing list spot → spot.at < length list
-    → Placing margins list spot window text text (record { length = 0; leading = 0; ink_end = 0 }) Unset spot false
+    → Placing margins list spot window text text (record { length = 0; leading = 0; ink_end = 0 }) None spot false
 unfolding measuring_start puts all_blank
 placing_start margins list spot window text standing some = record {
   measuring = measuring_start margins list spot standing some;
@@ -353,30 +352,30 @@ placing_start margins list spot window text standing some = record {
 }
 
 -- the same in the middle of a turn
-pub record PlacingOn (margins : Margins) (list : List ℕ) (spot : Spot) (window : Window) (before text : List ℕ) (measure : Measure) (indent : Indent) (here : Spot) : Type 0 where
+pub record PlacingOn (margins : Margins) (list : List ℕ) (spot : Spot) (window : Window) (before text : List ℕ) (measure : Measure) (indent : Option ℕ) (here : Spot) : Type 0 where
   pub pausing : Pausing margins list spot measure indent here
   pub written : text ≡ puts before window 0 pausing.line.bytes
 
 -- the turn starts with that
-pub placing_turn : {margins : Margins} {list : List ℕ} {spot here : Spot} {window : Window} {before text : List ℕ} {measure : Measure} {indent indent' : Indent}
+pub placing_turn : {margins : Margins} {list : List ℕ} {spot here : Spot} {window : Window} {before text : List ℕ} {measure : Measure} {indent indent' : Option ℕ}
     → Placing margins list spot window before text measure indent here false → indent' ≡ taken indent here
     → PlacingOn margins list spot window before text measure indent' here
 unfolding pausing_start
 placing_turn placing takes = record { pausing = pausing_start placing.measuring takes; written = showing_open placing.showing }
 
 -- no chunk writes nothing
-pub shown_start : (margins : Margins) (list : List ℕ) (spot : Spot) (window : Window) (text : List ℕ) (measure : Measure) (indent : Indent)
+pub shown_start : (margins : Margins) (list : List ℕ) (spot : Spot) (window : Window) (text : List ℕ) (measure : Measure) (indent : Option ℕ)
     → Standing list spot → spot.at < length list → measure.leading ≤ measure.length → RanShown margins list spot window text text measure indent measure spot
 unfolding ran_start puts
 shown_start margins list spot window text measure indent standing some fits = record { ran = ran_start margins list spot measure indent standing some fits; written = refl }
 
 -- a step writes its bytes behind those of the run so far
 pub shown_on : {margins : Margins} {list : List ℕ} {spot here : Spot} {window : Window} {before text text' : List ℕ} {measure reached reached' : Measure} {step : Step} (n : ℕ)
-    → RanShown margins list spot window before text measure (Set n) reached here → Stepped margins list here reached.length step → step.ends ≡ false
+    → RanShown margins list spot window before text measure (Some n) reached here → Stepped margins list here reached.length step → step.ends ≡ false
     → text' ≡ puts text window reached.length (step_bytes list step)
     → ((bytes : List ℕ) → Measured reached bytes → Measured reached' (bytes ++ step_bytes list step))
     → reached'.length ≡ reached.length + (step.before + (step.to - step.from) + step.behind) → reached'.leading ≤ reached'.length
-    → RanShown margins list spot window before text' measure (Set n) reached' step.spot
+    → RanShown margins list spot window before text' measure (Some n) reached' step.spot
 unfolding ran_on
 shown_on {list = list} {window = window} {before = before} {measure = measure} {step = step} n shown stepped goes writes counted long fits =
     let more = shown.ran.more in
@@ -386,7 +385,7 @@ shown_on {list = list} {window = window} {before = before} {measure = measure} {
     }
 
 -- a run goes on within a turn
-pub placing_run : {margins : Margins} {list : List ℕ} {spot here there : Spot} {window : Window} {before text text' : List ℕ} {measure reached : Measure} {indent : Indent}
+pub placing_run : {margins : Margins} {list : List ℕ} {spot here there : Spot} {window : Window} {before text text' : List ℕ} {measure reached : Measure} {indent : Option ℕ}
     → PlacingOn margins list spot window before text measure indent here → RanShown margins list here window text text' measure indent reached there
     → PlacingOn margins list spot window before text' reached indent there
 unfolding pausing_run
@@ -399,7 +398,7 @@ placing_run {window = window} {before = before} {measure = measure} placing show
     }
 
 -- a step ends the turn
-pub placing_on : {margins : Margins} {list : List ℕ} {spot here : Spot} {window : Window} {before text text' : List ℕ} {measure measure' : Measure} {indent : Indent} {step : Step}
+pub placing_on : {margins : Margins} {list : List ℕ} {spot here : Spot} {window : Window} {before text text' : List ℕ} {measure measure' : Measure} {indent : Option ℕ} {step : Step}
     → PlacingOn margins list spot window before text measure indent here → Stepped margins list here measure.length step
     → text' ≡ puts text window measure.length (step_bytes list step)
     → ((bytes : List ℕ) → Measured measure bytes → Measured measure' (bytes ++ step_bytes list step)) → measure'.leading ≤ measure'.length
@@ -415,6 +414,6 @@ placing_on {list = list} {step = step} placing stepped writes counted fits =
     }
 
 -- at its end the line is written
-pub placing_end : {margins : Margins} {list : List ℕ} {spot here : Spot} {window : Window} {before text : List ℕ} {measure : Measure} {indent : Indent} {ended : Bool}
+pub placing_end : {margins : Margins} {list : List ℕ} {spot here : Spot} {window : Window} {before text : List ℕ} {measure : Measure} {indent : Option ℕ} {ended : Bool}
     → Placing margins list spot window before text measure indent here ended → ended ≡ true → Showing window before text (line_at margins list spot).line.bytes true
 placing_end placing e = rw (walking_end placing.measuring.walking e) (showing_end placing.showing e)

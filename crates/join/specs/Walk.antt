@@ -1,5 +1,5 @@
 -- Not part of any promise of this crate: what its inner functions hand on, in terms of places in the stored list and of measures of a line.
-use Rattle.std.specs.Prelude.{ℕ, ◌+◌, ◌-◌, ◌*◌, ◌≤◌, ◌<◌, min, ◌≡◌, List, [], ◌∷◌, ◌++◌, Bool, true, false, cond, not, ◌&&◌, ◌||◌, length, get_or, set, take, eqb, ltb, leb}
+use Rattle.std.specs.Prelude.{ℕ, ◌+◌, ◌-◌, ◌*◌, ◌≤◌, ◌<◌, min, ◌≡◌, List, [], ◌∷◌, ◌++◌, Bool, true, false, cond, not, ◌&&◌, ◌||◌, length, get_or, set, take, eqb, ltb, leb, Option, Some, None}
 use Rattle.std.proofs.Math.Seq.{slice}
 use Rattle.text.specs.Characters as characters
 use Rattle.text.specs.Ink.{all_blank, leading_blanks, ink_end, spaces}
@@ -19,8 +19,6 @@ use Rattle.join.specs.declared.piece.Spot.{Spot}
 use Rattle.join.specs.declared.piece.Lay.{Lay}
 use Rattle.join.specs.declared.piece.Step.{Step}
 use Rattle.join.specs.declared.line.Measure.{Measure}
-use Rattle.columns.specs.declared.Indent.{Indent}
-use Rattle.columns.specs.declared.Indent.TheVariants.{Unset, Set}
 use Rattle.join.specs.declared.line.Window.{Window}
 use Rattle.join.specs.declared.line.Walked.{Walked}
 use Rattle.join.specs.declared.lines.Past.{Past}
@@ -163,9 +161,9 @@ pub record Fits (measure : Measure) (count : ℕ) : Type 0 where
   pub small : measure.length + count < 4294967296
 
 -- the indent with the piece at a spot: a chunk that starts while it is unset sets it
-abbrev pub taken : Indent → Spot → Indent
-taken (Set indent) spot = Set indent
-taken Unset spot = cond (eqb spot.at spot.start) (Set spot.indent) Unset
+abbrev pub taken : Option ℕ → Spot → Option ℕ
+taken (Some indent) spot = Some indent
+taken None spot = cond (eqb spot.at spot.start) (Some spot.indent) None
 
 -- the line that pieces start with, whether it ends in them, and the pieces behind it
 pub record First : Type 0 where
@@ -196,13 +194,13 @@ pub record LineWalked (margins : Margins) (list : List ℕ) (spot : Spot) (walke
   pub low : walked.indent ≤ 4096
 
 -- a line that went on from a spot by more bytes and is still open, with the indent that it has when the next piece is added
-pub record Longer (margins : Margins) (list : List ℕ) (line : Line) (spot : Spot) (more : List ℕ) (here : Spot) (taken-there : Indent) : Type 0 where
-  pub indent : Indent
+pub record Longer (margins : Margins) (list : List ℕ) (line : Line) (spot : Spot) (more : List ℕ) (here : Spot) (taken-there : Option ℕ) : Type 0 where
+  pub indent : Option ℕ
   pub takes : taken indent here ≡ taken-there
   pub left : first_line margins line (pieces_at list spot) ≡ first_line margins (record { bytes = line.bytes ++ more; indent = indent }) (pieces_at list here)
 
 -- a line that is open at a spot, whichever it is, went on to another by chunks without a newline
-pub record Ran (margins : Margins) (list : List ℕ) (spot : Spot) (measure : Measure) (indent : Indent) (reached : Measure) (here : Spot) : Type 0 where
+pub record Ran (margins : Margins) (list : List ℕ) (spot : Spot) (measure : Measure) (indent : Option ℕ) (reached : Measure) (here : Spot) : Type 0 where
   pub more : List ℕ
   pub longer : (line : Line) → length line.bytes ≡ measure.length → taken line.indent spot ≡ indent → Longer margins list line spot more here indent
   pub measured : (bytes : List ℕ) → Measured measure bytes → Measured reached (bytes ++ more)
@@ -232,7 +230,7 @@ pub record Showing (window : Window) (before text bytes : List ℕ) (ended : Boo
   pub written : text ≡ puts before window 0 shown
 
 -- what the window shows of a line that went on is written
-pub record RanShown (margins : Margins) (list : List ℕ) (spot : Spot) (window : Window) (before text : List ℕ) (measure : Measure) (indent : Indent) (reached : Measure) (here : Spot) : Type 0 where
+pub record RanShown (margins : Margins) (list : List ℕ) (spot : Spot) (window : Window) (before text : List ℕ) (measure : Measure) (indent : Option ℕ) (reached : Measure) (here : Spot) : Type 0 where
   pub ran : Ran margins list spot measure indent reached here
   pub written : text ≡ puts before window measure.length ran.more
 

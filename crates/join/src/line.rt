@@ -1,14 +1,13 @@
 // One line: measured, and written through a window.
-ghost use Rattle.std.specs.Prelude.{◌≡◌, List, ◌++◌, true, ℕ, ◌+◌, ◌-◌, ◌*◌, ◌≤◌, ◌<◌, min, max, length};
+ghost use Rattle.std.specs.Prelude.{◌≡◌, List, ◌++◌, true, ℕ, ◌+◌, ◌-◌, ◌*◌, ◌≤◌, ◌<◌, min, max, length, Some};
 ghost use Rattle.std.proofs.Math.Seq.{slice};
 ghost use Rattle.text.specs.Ink.{spaces};
 ghost use Rattle.columns.specs.Layout.{indent_of};
 ghost use Rattle.join.specs.Walk.{Narrow, Standing, Measured, Fits, taken, line_at, LineWalked, Ran, RanShown, Showing, puts, Room, Empty};
-ghost use Rattle.columns.specs.declared.Indent.TheVariants.{Set};
 
 use crate::piece::{Spot, Step};
 use crate::{piece, store};
-use columns::{Indent, Margins};
+use columns::Margins;
 use text::scans;
 
 // A line's length, the blanks before its first ink, and the place behind its last ink (0 for none).
@@ -145,27 +144,27 @@ pub(crate) fn add_some(measure: Measure, list: &[u8], step: Step) -> Measure
 }
 
 // A chunk that starts while the indent is unset sets it.
-pub(crate) fn takes(indent: Indent, spot: Spot) -> Indent
+pub(crate) fn takes(indent: Option<usize>, spot: Spot) -> Option<usize>
     ensures { result ≡ taken indent spot }
 {
     match indent {
-        Indent::Set(count) => Indent::Set(count),
-        Indent::Unset => {
+        Some(count) => Some(count),
+        None => {
             if spot.at == spot.start {
-                return Indent::Set(spot.indent);
+                return Some(spot.indent);
             }
-            Indent::Unset
+            None
         }
     }
 }
 
 // 0 where no chunk set it.
-pub(crate) fn indent_of(indent: Indent) -> usize
+pub(crate) fn indent_of(indent: Option<usize>) -> usize
     ensures { result ≡ indent_of indent }
 {
     match indent {
-        Indent::Set(count) => count,
-        Indent::Unset => 0,
+        Some(count) => count,
+        None => 0,
     }
 }
 
@@ -181,7 +180,7 @@ pub(crate) fn measure_run(list: &[u8], margins: Margins, measure: Measure, spot:
     requires narrow { Narrow margins × Standing list.now spot × (spot.at < length list.now)
         × (length list.now ≤ 1048576) }
     requires leading_le_length { (measure.leading ≤ measure.length) × (measure.length ≤ 512 * spot.at) }
-    ensures { (n : ℕ) → Ran margins list.now spot measure (Set n) result.measure result.spot }
+    ensures { (n : ℕ) → Ran margins list.now spot measure (Some n) result.measure result.spot }
 {
     let mut reached = measure;
     let mut here = spot;
@@ -201,7 +200,7 @@ pub(crate) fn measure_on(
     list: &[u8],
     margins: Margins,
     measure: Measure,
-    indent: Indent,
+    indent: Option<usize>,
     spot: Spot,
 ) -> Run
     requires narrow { Narrow margins × Standing list.now spot × (spot.at < length list.now)
@@ -210,8 +209,8 @@ pub(crate) fn measure_on(
     ensures { Ran margins list.now spot measure indent result.measure result.spot }
 {
     match indent {
-        Indent::Set(_) => measure_run(list, margins, measure, spot),
-        Indent::Unset => Run {
+        Some(_) => measure_run(list, margins, measure, spot),
+        None => Run {
             measure: measure,
             spot: spot,
         },
@@ -237,7 +236,7 @@ pub(crate) fn measure_line(list: &[u8], margins: Margins, spot: Spot) -> Walked
         leading: 0,
         ink_end: 0,
     };
-    let mut indent = Indent::Unset;
+    let mut indent = None;
     let mut here = spot;
     let mut ended = false;
     while !ended {
@@ -399,7 +398,7 @@ pub(crate) fn write_run(
     requires room { Room window (length text.old) }
     ensures { (n : ℕ)
         → RanShown margins list.now spot window text.old text.new measure
-        (Set n) result.measure result.spot }
+        (Some n) result.measure result.spot }
 {
     let mut reached = measure;
     let mut here = spot;
@@ -422,7 +421,7 @@ pub(crate) fn write_on(
     list: &[u8],
     margins: Margins,
     measure: Measure,
-    indent: Indent,
+    indent: Option<usize>,
     spot: Spot,
 ) -> Run
     requires narrow { Narrow margins × Standing list.now spot × (spot.at < length list.now)
@@ -433,8 +432,8 @@ pub(crate) fn write_on(
         result.measure result.spot }
 {
     match indent {
-        Indent::Set(_) => write_run(text, window, list, margins, measure, spot),
-        Indent::Unset => Run {
+        Some(_) => write_run(text, window, list, margins, measure, spot),
+        None => Run {
             measure: measure,
             spot: spot,
         },
@@ -461,7 +460,7 @@ pub(crate) fn walk_line(
         leading: 0,
         ink_end: 0,
     };
-    let mut indent = Indent::Unset;
+    let mut indent = None;
     let mut here = spot;
     let mut ended = false;
     while !ended {

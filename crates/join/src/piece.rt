@@ -1,10 +1,9 @@
 // The pieces of a chunk list: each chunk is cut after every newline. How each is laid on a line of a known length.
-ghost use Rattle.std.specs.Prelude.{◌≡◌, true, false, not, ◌&&◌, ◌+◌, ◌-◌, ◌≤◌, ◌<◌, length, ltb, leb};
+ghost use Rattle.std.specs.Prelude.{◌≡◌, true, false, not, ◌&&◌, ◌+◌, ◌-◌, ◌≤◌, ◌<◌, length, ltb, leb, Some};
 ghost use Rattle.std.proofs.Math.Seq.{slice};
 ghost use Rattle.text.specs.Numbers.{number_at};
 ghost use Rattle.text.specs.Lines.{newline_at};
 ghost use Rattle.chunks.specs.Reading.{type_of, chunk_at, chunks_at, ChunkFits};
-ghost use Rattle.chunks.specs.declared.stored.ChunkAt.TheVariants.{Found};
 ghost use Rattle.columns.specs.Pieces.{following};
 ghost use Rattle.join.specs.Walk.{Narrow, Laid, Standing, Reached, Passed, lay_label, lay_code, lay_comment, lay_of, piece_length, Stepped, Whole, LoneNewline};
 
@@ -47,7 +46,7 @@ fn type_of(bits: usize) -> ChunkType
 // The chunk at a place of a list that was judged: it is not judged again. Most chunks are code without indent, so that is asked first.
 pub(crate) fn chunk_in(list: &[u8], place: usize) -> StoredChunk
     requires { Laid list.now place × (place < length list.now) }
-    ensures found { chunk_at list.now place ≡ Found result }
+    ensures found { chunk_at list.now place ≡ Some result }
     ensures fits { ChunkFits list.now place result }
 {
     let map = numbers::wide(list[place]);

@@ -12,7 +12,6 @@ use crate::lines;
 use answers::{Answer, Checked, Reason, Refusal};
 use chunks::list;
 use columns::Margins;
-use options::OptionsRead;
 
 // The setter at given margins: refusals 6, 7 and 9.
 pub(crate) fn join_with(chunks: &[u8], margins: Margins, text: &mut [u8]) -> Answer
@@ -28,18 +27,18 @@ pub(crate) fn join_with(chunks: &[u8], margins: Margins, text: &mut [u8]) -> Ans
         Promised (chunks_of list) outcome }
 {
     let checked = list::check_chunks(chunks);
-    if let Checked::Failed(refusal) = checked {
-        return Answer::Refused(refusal);
+    if let Err(refusal) = checked {
+        return Err(refusal);
     }
     let length = lines::measure_lines(chunks, margins);
     if text.len() < length {
-        return Answer::Refused(Refusal {
+        return Err(Refusal {
             reason: Reason::TextRoom,
             place: length,
         });
     }
     lines::write_lines(&mut text[..length], chunks, margins);
-    Answer::Accepted(length)
+    Ok(length)
 }
 
 // The text of a stored chunk list under stored options, at the buffer's start; or refusal 1, 2, 6, 7 or 9.
@@ -55,7 +54,7 @@ pub fn join_chunks(chunks: &[u8], options: &[u8], text: &mut [u8]) -> Answer
 {
     let read = options::read_options(options);
     match read {
-        OptionsRead::Options(options) => join_with(chunks, columns::margins_of(options), text),
-        OptionsRead::Refused(refusal) => Answer::Refused(refusal),
+        Ok(options) => join_with(chunks, columns::margins_of(options), text),
+        Err(refusal) => Err(refusal),
     }
 }

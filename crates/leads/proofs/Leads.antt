@@ -1,20 +1,17 @@
 -- Laws of what stands before a token: the trivia of its head are those that were read, and what is met on the way ends the walk.
+use Rattle.std.specs.Prelude.{Result, Ok, Err}
 use mathlib.Core.Path.{◌≡◌, refl, sym, ap, ◌∙◌}
 use mathlib.Core.List.{List}
 use mathlib.Core.Bool.{Bool, false}
 use Prim.Native.Nat.{ℕ, ◌/◌}
 use lib.ListN.{get_or}
 use Rattle.answers.specs.declared.Refusal.{Refusal}
-use Rattle.answers.specs.declared.Checked.TheVariants.{Failed}
 use Rattle.tree.specs.Own.{read_own, refusal_of}
 use Rattle.tree.specs.Parts.{head_on, head_at}
 use Rattle.tree.specs.Reading.{trivia_of, read}
 use Rattle.tree.specs.declared.grammar.Class.TheVariants.{BareToken, CloseBrace}
 use Rattle.tree.specs.declared.own.Own.{Own}
-use Rattle.tree.specs.declared.own.OwnRead.{OwnRead}
-use Rattle.tree.specs.declared.own.OwnRead.TheVariants.{Record, Refused}
 use Rattle.tree.specs.declared.parts.Head.{Head}
-use Rattle.tree.specs.declared.parts.HeadRead.TheVariants.{Found}
 use Rattle.printing.specs.Events.{Events, ◌▹◌}
 use Rattle.printing.specs.Running.{going, run, place_of, finished, Shown}
 use Rattle.printing.specs.declared.CodeFormatter.{CodeFormatter}
@@ -36,20 +33,20 @@ use Rattle.leads.specs.declared.Lead.TheVariants.{Over}
 
 module _ (levels : ℕ) (bytes : List ℕ) (at : ℕ) where
   -- the token's own bytes are refused
-  pub token_missing : (why : Refusal) → read_own bytes at BareToken levels ≡ Refused why → head_refusal (read levels bytes BareToken at).tree ≡ Failed why
+  pub token_missing : (why : Refusal) → read_own bytes at BareToken levels ≡ Err why → head_refusal (read levels bytes BareToken at).tree ≡ Err why
   unfolding head_at
   token_missing why is = head_missing bytes BareToken false refl levels at why (ap (head_on levels bytes BareToken at) is)
 
   module _ (context : Context) (drops : Bool) (before : Before) (room : List ℕ) (state : CodeFormatter) where
     -- a refusal ends the walk, whatever comes behind it
-    pub lead_stopped : {why : Refusal} → head_refusal (read levels bytes BareToken at).tree ≡ Failed why → state.full ≡ 0 → (next : Events) (end : ℕ)
+    pub lead_stopped : {why : Refusal} → head_refusal (read levels bytes BareToken at).tree ≡ Err why → state.full ≡ 0 → (next : Events) (end : ℕ)
         → Shown (answer_is.Refused why) room (lead_in context drops before (read levels bytes BareToken at).tree ▹ next) (going room state) end
     lead_stopped met left next end = handed_on {end = at} (rw met (handed_on {end = at} (stopped_there left) refl)) refl
 
     -- nothing is met: the trivia of the head and the newline are run
     pub lead_ready : (middle : List ℕ) (shown : CodeFormatter) {left : List ℕ} {last : CodeFormatter} (number : ℕ) (block : Bool) (token own : Own) (head : Head)
-        → read_own bytes at BareToken levels ≡ Record token → head_at levels bytes BareToken at ≡ Found head
-        → read_own bytes head.place head.class head.levels ≡ Record own → items_at bytes own.trivia own.trivia_count ≡ trivia_of bytes own
+        → read_own bytes at BareToken levels ≡ Ok token → head_at levels bytes BareToken at ≡ Ok head
+        → read_own bytes head.place head.class head.levels ≡ Ok own → items_at bytes own.trivia own.trivia_count ≡ trivia_of bytes own
         → number ≡ get_or bytes at 0 → block ≡ block_bit number (token.map / 2)
         → run (list_trivia context drops (items_at bytes own.trivia own.trivia_count)) (going room state) ≡ going middle shown
         → run (break_before context before number block) (going middle shown) ≡ going left last
@@ -76,14 +73,14 @@ module _ (levels : ℕ) (bytes : List ℕ) (at : ℕ) where
     -- ---- what is shown behind the last
 
     -- where the brace's own bytes were refused
-    pub closing_stopped : {own : OwnRead} {why said : Refusal} → own ≡ read_own bytes at CloseBrace levels → own ≡ Refused why → said ≡ refusal_of own → state.full ≡ 0
+    pub closing_stopped : {own : Result Own Refusal} {why said : Refusal} → own ≡ read_own bytes at CloseBrace levels → own ≡ Err why → said ≡ refusal_of own → state.full ≡ 0
         → Shown (answer_is.Refused said) room (closing_events context drops before (block_end (read levels bytes CloseBrace at).tree)) (going room state) at
     closing_stopped {own} {why} same is says left =
         rw (says ∙ ap refusal_of is, own_refused levels bytes CloseBrace at why (sym same ∙ is)) (handed_on {end = at} (stopped_there left) refl)
 
     -- where they were read
-    pub closing_shown : {answer : Printed} {found : OwnRead} (middle : List ℕ) (next : CodeFormatter) {left : List ℕ} {last : CodeFormatter} (own : Own)
-        → found ≡ read_own bytes at CloseBrace levels → found ≡ Record own → items_at bytes own.trivia own.trivia_count ≡ trivia_of bytes own
+    pub closing_shown : {answer : Printed} {found : Result Own Refusal} (middle : List ℕ) (next : CodeFormatter) {left : List ℕ} {last : CodeFormatter} (own : Own)
+        → found ≡ read_own bytes at CloseBrace levels → found ≡ Ok own → items_at bytes own.trivia own.trivia_count ≡ trivia_of bytes own
         → run (list_trivia context drops (items_at bytes own.trivia own.trivia_count)) (going room state) ≡ going middle next
         → run (break_before context before 7 false) (going middle next) ≡ going left last → answer ≡ finished last at
         → Shown answer left (closing_events context drops before (block_end (read levels bytes CloseBrace at).tree)) (going room state) at
@@ -119,6 +116,6 @@ module _ {levels : ℕ} {bytes : List ℕ} {context : Context} {drops : Bool} {b
     over_full answered full = lead_from is (λ next end. full_refused at answered full)
 
     -- a refusal on the way
-    pub over_met : {why said : Refusal} → head_refusal (read levels bytes BareToken at).tree ≡ Failed why → said ≡ why → state.full ≡ 0
+    pub over_met : {why said : Refusal} → head_refusal (read levels bytes BareToken at).tree ≡ Err why → said ≡ why → state.full ≡ 0
         → LeadsIn (Over (answer_is.Refused said)) room last room context drops before levels bytes
     over_met met says left = rw says (lead_from is (lead_stopped levels bytes at context drops before room state met left))

@@ -1,5 +1,8 @@
 -- The answer of `format_lead_in` has the numbers of document 01.
 --   lead_known : an answer that is known, with all that `format_lead_in` promises
+use Rattle.std.specs.Prelude.{Result, Ok, Err}
+use Rattle.answers.specs.declared.Refusal.{Refusal}
+use Rattle.tree.specs.declared.own.Own.{Own}
 use mathlib.Core.Path.{◌≡◌, refl, ap, ◌∙◌}
 use mathlib.Core.List.{List}
 use mathlib.Core.Bool.{Bool, true, false, cond}
@@ -11,8 +14,6 @@ use Rattle.tree.specs.Own.{read_own, numbers_own}
 use Rattle.tree.specs.Parts.{head_at}
 use Rattle.tree.proofs.Numbers.{own_numbers_lem}
 use Rattle.tree.specs.declared.grammar.Class.TheVariants.{BareToken}
-use Rattle.tree.specs.declared.own.OwnRead.{OwnRead}
-use Rattle.tree.specs.declared.own.OwnRead.TheVariants as own_is
 use Rattle.printing.specs.Running.{Run, finished}
 use Rattle.printing.proofs.Running.{finished_numbers}
 use Rattle.printing.specs.declared.Context.{Context}
@@ -23,10 +24,10 @@ use Rattle.leads.specs.Leads.{head_own, led_on, lead_run, lead_by, lead_room, nu
 use Rattle.leads.specs.declared.Lead.{Lead}
 use Rattle.leads.specs.declared.Lead.TheVariants.{Over}
 
-led_numbers : (after : Run) (own head : OwnRead) → numbers_lead (led_on after own head) ≡ unless_refused (numbers_own own) (unless_refused (numbers_own head) (numbers_own own))
-led_numbers after (own_is.Record own) (own_is.Record head) = refl
-led_numbers after (own_is.Record own) (own_is.Refused why) = rw (refused_number why.reason) refl
-led_numbers after (own_is.Refused why) head = rw (refused_number why.reason) refl
+led_numbers : (after : Run) (own head : Result Own Refusal) → numbers_lead (led_on after own head) ≡ unless_refused (numbers_own own) (unless_refused (numbers_own head) (numbers_own own))
+led_numbers after (Ok own) (Ok head) = refl
+led_numbers after (Ok own) (Err why) = rw (refused_number why.reason) refl
+led_numbers after (Err why) head = rw (refused_number why.reason) refl
 
 choice_lead : (test : Bool) (taken left : Lead) → numbers_lead (cond test taken left) ≡ cond test (numbers_lead taken) (numbers_lead left)
 choice_lead true taken left = refl

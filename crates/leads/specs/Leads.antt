@@ -1,5 +1,6 @@
 -- What stands before a token of a list, and how it is found.
-use Rattle.std.specs.Prelude.{ℕ, ◌≡◌, List, Bool, cond, eqb}
+use Rattle.answers.specs.declared.Refusal.{Refusal}
+use Rattle.std.specs.Prelude.{ℕ, ◌≡◌, List, Bool, cond, eqb, Result, Ok, Err}
 use Rattle.tree.specs.Tree.{Tree}
 use Rattle.answers.specs.Numbers.{numbers_of, unless_refused}
 use Rattle.tree.specs.Own.{read_own, numbers_own, own_numbers}
@@ -7,11 +8,7 @@ use Rattle.tree.specs.Parts.{head_at}
 use Rattle.tree.specs.Reading.{read}
 use Rattle.tree.specs.declared.grammar.Class.TheVariants.{BareToken}
 use Rattle.tree.specs.declared.own.Own.{Own}
-use Rattle.tree.specs.declared.own.OwnRead.{OwnRead}
-use Rattle.tree.specs.declared.own.OwnRead.TheVariants.{Record, Refused}
 use Rattle.tree.specs.declared.parts.Head.{Head}
-use Rattle.tree.specs.declared.parts.HeadRead.{HeadRead}
-use Rattle.tree.specs.declared.parts.HeadRead.TheVariants.{Found, NoHead}
 use Rattle.printing.specs.Events.{Events, ◌▹◌}
 use Rattle.printing.specs.Running.{Run, going, run, place_of, outcome, finished, room_of, state_of, Shown}
 use Rattle.printing.specs.Running.{numbers_printed, finish_numbers}
@@ -39,10 +36,10 @@ lead_in context drops before item =
 
 -- its own bytes were read, its head was found and its own bytes read too, and the events have been run
 pub record Led (own head : Own) (state : CodeFormatter) (left : List ℕ) (before : Run) (events : Events) (levels : ℕ) (bytes : List ℕ) (at : ℕ) : Type 0 where
-  pub token : read_own bytes at BareToken levels ≡ Record own
+  pub token : read_own bytes at BareToken levels ≡ Ok own
   pub found : Head
-  pub finds : head_at levels bytes BareToken at ≡ Found found
-  pub reads : read_own bytes found.place found.class found.levels ≡ Record head
+  pub finds : head_at levels bytes BareToken at ≡ Ok found
+  pub reads : read_own bytes found.place found.class found.levels ≡ Ok head
   pub ran : run events before ≡ going left state
 
 -- or the walk ended there, so that the answer is what the events leave, whatever comes behind them
@@ -53,19 +50,19 @@ LeadsAt (Over answer) left before events levels bytes at = (next : Events) (end 
 -- ---- the one answer of `format_lead_in`, with the room and the numbers: a token is ready behind an answer that can go on, where its own bytes, its head and
 -- the head's own bytes are read
 
-abbrev pub head_own : List ℕ → HeadRead → OwnRead
-head_own bytes (Found head) = read_own bytes head.place head.class head.levels
-head_own bytes (NoHead why) = Refused why
+abbrev pub head_own : List ℕ → Result Head Refusal → Result Own Refusal
+head_own bytes (Ok head) = read_own bytes head.place head.class head.levels
+head_own bytes (Err why) = Err why
 
-abbrev pub led_on : Run → OwnRead → OwnRead → Lead
-led_on after (Record own) (Record head) = Ready own head (state_of after)
-led_on after (Record own) (Refused why) = Over (answer_is.Refused why)
-led_on after (Refused why) head = Over (answer_is.Refused why)
+abbrev pub led_on : Run → Result Own Refusal → Result Own Refusal → Lead
+led_on after (Ok own) (Ok head) = Ready own head (state_of after)
+led_on after (Ok own) (Err why) = Over (answer_is.Refused why)
+led_on after (Err why) head = Over (answer_is.Refused why)
 
-abbrev pub room_on : Run → List ℕ → OwnRead → OwnRead → List ℕ
-room_on after room (Record own) (Record head) = room_of after
-room_on after room (Record own) (Refused why) = room
-room_on after room (Refused why) head = room
+abbrev pub room_on : Run → List ℕ → Result Own Refusal → Result Own Refusal → List ℕ
+room_on after room (Ok own) (Ok head) = room_of after
+room_on after room (Ok own) (Err why) = room
+room_on after room (Err why) head = room
 
 -- the run of what stands before the token at a place
 abbrev pub lead_run : List ℕ → CodeFormatter → Context → Bool → Before → ℕ → List ℕ → ℕ → Run

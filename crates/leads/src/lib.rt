@@ -17,8 +17,7 @@ use leaves::{record, trivia};
 use printing::{CodeFormatter, Context, Printed};
 use text::numbers;
 use tree::grammar::Class;
-use tree::own::{Own, OwnRead};
-use tree::parts::HeadRead;
+use tree::own::Own;
 use tree::{kinds, own, parts};
 
 // What stood before a token in its list: whether it is the first, and the number of the kind of the one before.
@@ -180,16 +179,16 @@ pub fn format_lead_in(
         return Lead::Over(state.finish(at));
     }
     let read = own::read_own(tree, at, Class::BareToken, levels);
-    let OwnRead::Record(token) = read else {
+    let Ok(token) = read else {
         return Lead::Over(Printed::Refused(own::refusal_of(read)));
     };
     let found = parts::head_behind(tree, at, Class::BareToken, levels, token);
-    let HeadRead::Found(head) = found else {
+    let Ok(head) = found else {
         return Lead::Over(Printed::Refused(parts::refused_head(found)));
     };
     let class = head.class;
     let opened = own::read_own(tree, head.place, class, head.levels);
-    let OwnRead::Record(own) = opened else {
+    let Ok(own) = opened else {
         return Lead::Over(Printed::Refused(own::refusal_of(opened)));
     };
     let number = numbers::byte_at(tree, at);
@@ -233,7 +232,7 @@ pub fn format_lead_out(
         return state.finish(at);
     }
     let found = own::read_own(tree, at, Class::CloseBrace, levels);
-    let OwnRead::Record(own) = found else {
+    let Ok(own) = found else {
         return Printed::Refused(own::refusal_of(found));
     };
     let shown = list_trivia(tree, room, context, own, drops, state);

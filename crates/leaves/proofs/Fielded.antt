@@ -1,6 +1,7 @@
 -- Records of a kind: what is printed of the fields, or of the items, behind own bytes is printed of the record.
 --   opened_kind : a record that was opened, of a kind with fields
 --   opened_list : one that is a list
+use Rattle.std.specs.Prelude.{Some, None, Ok}
 use mathlib.Core.Path.{◌≡◌, refl, sym, ap, ◌∙◌}
 use mathlib.Core.Logic.{⊎_elim}
 use mathlib.Core.List.{List, [], ◌∷◌}
@@ -19,11 +20,8 @@ use Rattle.tree.specs.Stored.{stored_with}
 use Rattle.tree.specs.declared.grammar.Kind.{Kind}
 use Rattle.tree.specs.declared.grammar.Kind.TheVariants as variant
 use Rattle.tree.specs.declared.grammar.Class.{Class}
-use Rattle.tree.specs.declared.grammar.KindRead.TheVariants.{Known}
 use Rattle.tree.specs.declared.grammar.Rule.{Rule}
-use Rattle.tree.specs.declared.grammar.Items.TheVariants.{NoList, ListOf}
 use Rattle.tree.specs.declared.own.Own.{Own}
-use Rattle.tree.specs.declared.own.OwnRead.TheVariants.{Record}
 use Rattle.tree.proofs.KindLayout.{kind_number, kind_number_lem}
 use Rattle.tree.proofs.OwnBytes.{leaf_number}
 use Rattle.printing.specs.Running.{outcome, Shown, Prints}
@@ -108,7 +106,7 @@ text_free variant.SpecificImportArg text trees other = refl
 text_free variant.ArgItem text trees other = refl
 
 -- its fields are read one behind the other
-kind_read : (bytes : List ℕ) (class : Class) (at levels : ℕ) (own : Own) (kind : Kind) → read_own bytes at class levels ≡ Record own → own.kind ≡ kind → bare kind ≡ false
+kind_read : (bytes : List ℕ) (class : Class) (at levels : ℕ) (own : Own) (kind : Kind) → read_own bytes at class levels ≡ Ok own → own.kind ≡ kind → bare kind ≡ false
     → ((read levels bytes class at).tree ≡ node at (trivia_of bytes own) (built kind [] (field_trees (read (levels - 1) bytes) (fields kind (rule class).value) (own.map / 2) own.end)))
     × ((read levels bytes class at).end ≡ fields_end (read (levels - 1) bytes) (fields kind (rule class).value) (own.map / 2) own.end)
 unfolding kind_number stored_with built
@@ -126,7 +124,7 @@ kind_read bytes class at levels own kind is same other =
     (record_parts bytes at class levels own is)
 
 -- where no list may stand it lies between the first and the last
-pub standing_range : (rule : Rule) (number : ℕ) → rule.items ≡ NoList → may_stand rule number ≡ true → (rule.first ≤ number) × (number ≤ rule.last)
+pub standing_range : (rule : Rule) (number : ℕ) → rule.items ≡ None → may_stand rule number ≡ true → (rule.first ≤ number) × (number ≤ rule.last)
 standing_range rule number none stands =
     by_test (eqb number 24)
     (λ list. true_false (sym (rw (list, none) at stands)))
@@ -148,8 +146,8 @@ items_read reader class (suc count) at =
     let rest = items_read reader class count (reader class at).end in rw (rest.0, rest.1) (refl, refl)
 
 -- so are those of a list
-list_read : (bytes : List ℕ) (class item : Class) (at levels : ℕ) (own : Own) → read_own bytes at class levels ≡ Record own → own.kind ≡ variant.Vec
-    → (rule class).items ≡ ListOf item
+list_read : (bytes : List ℕ) (class item : Class) (at levels : ℕ) (own : Own) → read_own bytes at class levels ≡ Ok own → own.kind ≡ variant.Vec
+    → (rule class).items ≡ Some item
     → ((read levels bytes class at).tree ≡ node at (trivia_of bytes own) (built variant.Vec [] (item_trees (read (levels - 1) bytes) item own.count own.end)))
     × ((read levels bytes class at).end ≡ items_end (read (levels - 1) bytes) item own.count own.end)
 unfolding parts_due fields_due built
@@ -189,7 +187,7 @@ module _ {context : Context} {shown : Bool} {levels : ℕ} {bytes : List ℕ} {c
           (held.part, held.inside)
 
       -- its number is one that may stand
-      pub opened_range : (rule class).items ≡ NoList → ((rule class).first ≤ kind_number own.kind) × (kind_number own.kind ≤ (rule class).last)
+      pub opened_range : (rule class).items ≡ None → ((rule class).first ≤ kind_number own.kind) × (kind_number own.kind ≤ (rule class).last)
       opened_range none =
           let there = some_place last in
           let read = (opened_own.from there.0 there.1).1 in
@@ -197,16 +195,16 @@ module _ {context : Context} {shown : Bool} {levels : ℕ} {bytes : List ℕ} {c
           rw number (standing_range (rule class) (get_or bytes there.0 0) none (record_headed bytes there.0 class levels own read).1.standing)
 
       -- and says which kind it is
-      pub opened_by_number : (number : ℕ) (kind : Kind) → kind_number own.kind ≡ number → kind_of number ≡ Known kind → own.kind ≡ kind
+      pub opened_by_number : (number : ℕ) (kind : Kind) → kind_number own.kind ≡ number → kind_of number ≡ Some kind → own.kind ≡ kind
       opened_by_number number kind same known =
           let there = some_place last in
           let found = (record_headed bytes there.0 class levels own (opened_own.from there.0 there.1).1).1.kind_is in
           let here : get_or bytes there.0 0 ≡ number = sym (kind_number_lem (get_or bytes there.0 0) own.kind found) ∙ same in
-          let both : kind_of number ≡ Known own.kind = rw here at found in
+          let both : kind_of number ≡ Some own.kind = rw here at found in
           cc
 
       -- where only one may stand it is that
-      pub opened_one : (number : ℕ) (kind : Kind) → (rule class).items ≡ NoList → (rule class).first ≡ number → (rule class).last ≡ number → kind_of number ≡ Known kind
+      pub opened_one : (number : ℕ) (kind : Kind) → (rule class).items ≡ None → (rule class).first ≡ number → (rule class).last ≡ number → kind_of number ≡ Some kind
           → own.kind ≡ kind
       opened_one number kind none low high known =
           let range = opened_range none in
@@ -215,7 +213,7 @@ module _ {context : Context} {shown : Bool} {levels : ℕ} {bytes : List ℕ} {c
       module _ (place : Place) {answer : Printed} {after : List ℕ} where
         -- what is printed behind own bytes is printed of the record
         pub opened_as : (tree : Tree) (end : ℕ)
-            → ((at : ℕ) → read_own bytes at class levels ≡ Record own → ((read levels bytes class at).tree ≡ node at (trivia_of bytes own) tree) × ((read levels bytes class at).end ≡ end))
+            → ((at : ℕ) → read_own bytes at class levels ≡ Ok own → ((read levels bytes class at).tree ≡ node at (trivia_of bytes own) tree) × ((read levels bytes class at).end ≡ end))
             → Shown answer after (events_in context place true tree) (outcome (Done state own.end) left) end
             → PrintsField answer after last room context place shown levels bytes class stands
         unfolding events_in
@@ -234,7 +232,7 @@ module _ {context : Context} {shown : Bool} {levels : ℕ} {bytes : List ℕ} {c
             opened_as _ _ (λ at read. kind_read bytes class at levels own kind read same other) (done.from own.end refl)
 
         -- of a list
-        pub opened_list : (item : Class) → own.kind ≡ variant.Vec → (rule class).items ≡ ListOf item
+        pub opened_list : (item : Class) → own.kind ≡ variant.Vec → (rule class).items ≡ Some item
             → Prints answer after (Done state own.end) left (λ at. events_in context place true (chain (item_trees (read (levels - 1) bytes) item own.count at)))
             (λ at. items_end (read (levels - 1) bytes) item own.count at)
             → PrintsField answer after last room context place shown levels bytes class stands

@@ -1,4 +1,5 @@
 -- Laws of trivia items and of their events.
+use Rattle.std.specs.Prelude.{Option, Some, None}
 use mathlib.Core.Path.{◌≡◌, refl, sym, ap, ◌∙◌}
 use mathlib.Core.List.{List, [], ◌∷◌}
 use mathlib.Core.Bool.{Bool, true, false, ◌||◌}
@@ -15,11 +16,7 @@ use Rattle.tree.specs.Tree.{Trivium}
 use Rattle.tree.specs.Own.{trivium_end, behind, trivia_end}
 use Rattle.tree.specs.Reading.{trivia_from}
 use Rattle.tree.specs.Parts.{item_to, trivium_on, trivium_at}
-use Rattle.tree.specs.declared.own.Span.{Span}
-use Rattle.tree.specs.declared.own.Span.TheVariants.{Behind, Broken}
 use Rattle.tree.specs.declared.parts.TriviumSpan.{TriviumSpan}
-use Rattle.tree.specs.declared.parts.TriviumRead.{TriviumRead}
-use Rattle.tree.specs.declared.parts.TriviumRead.TheVariants.{Item, BrokenItem}
 use Rattle.tree.proofs.Cases.{broken_behind}
 use Rattle.tree.proofs.Heads.{item_read, items_first}
 use Rattle.printing.specs.Events.{Events}
@@ -40,7 +37,7 @@ items_none bytes at zero h = refl
 items_none bytes at (suc left) h = absurd (omega arith)
 
 -- one by what it reads as, and then the others
-pub items_next : (bytes : List ℕ) (at left : ℕ) → 0 < left → {found : TriviumRead} → found ≡ trivium_at bytes at → (item : TriviumRead) → found ≡ item
+pub items_next : (bytes : List ℕ) (at left : ℕ) → 0 < left → {found : Option TriviumSpan} → found ≡ trivium_at bytes at → (item : Option TriviumSpan) → found ≡ item
     → items_at bytes at left ≡ items_on bytes (λ place. items_at bytes place (left - 1)) item
 unfolding items_at
 items_next bytes at zero h same item told = absurd (omega arith)
@@ -48,25 +45,25 @@ items_next bytes at (suc left) h same item told =
     simp sub-one (ap (items_on bytes (λ place. items_at bytes place left)) (sym same ∙ told))
 
 -- the first of items that keep the layout, by what `trivium_end` gives, where those behind it are as reading has them
-first_kept : (bytes : List ℕ) (at count end : ℕ) (span : Span) → trivium_end bytes at ≡ span → behind span (λ place. trivia_end bytes place count) ≡ Behind end
-    → ((place : ℕ) → trivia_end bytes place count ≡ Behind end → items_at bytes place count ≡ trivia_from bytes place count)
+first_kept : (bytes : List ℕ) (at count end : ℕ) (span : Option ℕ) → trivium_end bytes at ≡ span → behind span (λ place. trivia_end bytes place count) ≡ Some end
+    → ((place : ℕ) → trivia_end bytes place count ≡ Some end → items_at bytes place count ≡ trivia_from bytes place count)
     → items_at bytes at (suc count) ≡ trivia_from bytes at (suc count)
 unfolding items_at trivium_at
-first_kept bytes at count end (Behind place) is rest others =
-    let found : trivium_at bytes at ≡ Item (item_to bytes at place) = ap (trivium_on bytes at) is in
+first_kept bytes at count end (Some place) is rest others =
+    let found : trivium_at bytes at ≡ Some (item_to bytes at place) = ap (trivium_on bytes at) is in
     ap (items_on bytes (λ (next : ℕ). items_at bytes next count)) found
     ∙ ap (λ (items : List Trivium). item_of bytes (item_to bytes at place) ∷ items) (others place rest)
     ∙ sym (items_first bytes at count (item_to bytes at place) found)
-first_kept bytes at count end Broken is rest others = broken_behind rest
+first_kept bytes at count end None is rest others = broken_behind rest
 
 -- items that keep the layout are those of reading
-pub items_kept : (bytes : List ℕ) (at count end : ℕ) → trivia_end bytes at count ≡ Behind end → items_at bytes at count ≡ trivia_from bytes at count
+pub items_kept : (bytes : List ℕ) (at count end : ℕ) → trivia_end bytes at count ≡ Some end → items_at bytes at count ≡ trivia_from bytes at count
 unfolding items_at trivia_end trivia_from
 items_kept bytes at zero end kept = refl
 items_kept bytes at (suc count) end kept = first_kept bytes at count end (trivium_end bytes at) refl kept (λ place rest. items_kept bytes place count end rest)
 
 -- an item that was read lies within the bytes
-pub item_lies : (bytes : List ℕ) (at : ℕ) (item : TriviumSpan) {found : TriviumRead} → found ≡ trivium_at bytes at → found ≡ Item item
+pub item_lies : (bytes : List ℕ) (at : ℕ) (item : TriviumSpan) {found : Option TriviumSpan} → found ≡ trivium_at bytes at → found ≡ Some item
     → (item.start ≤ item.end) × (item.end ≤ length bytes)
 item_lies bytes at item same told = let this = item_read bytes at item (sym same ∙ told) in (this.order, this.inside)
 
@@ -107,16 +104,16 @@ module _ (context : Context) where
     pub run_left : left ≤ 0 → (before : Run) → run (trivia_events context (items_at bytes at left)) before ≡ before
     run_left none before = rw (items_none bytes at left none) (run_no_items before)
 
-    module _ (some : 0 < left) {found : TriviumRead} (same : found ≡ trivium_at bytes at) where
+    module _ (some : 0 < left) {found : Option TriviumSpan} (same : found ≡ trivium_at bytes at) where
       -- nor before an item that breaks the layout
-      pub run_broken : found ≡ BrokenItem → (before : Run) → run (trivia_events context (items_at bytes at left)) before ≡ before
-      run_broken told before = rw (items_next bytes at left some same BrokenItem told) (run_no_items before)
+      pub run_broken : found ≡ None → (before : Run) → run (trivia_events context (items_at bytes at left)) before ≡ before
+      run_broken told before = rw (items_next bytes at left some same None told) (run_no_items before)
 
       -- an item is run, and those behind it go on from there
-      pub run_next : (item : TriviumSpan) → found ≡ Item item → (before : Run) {after : Run} → run (trivium_events context (item_of bytes item)) before ≡ after
+      pub run_next : (item : TriviumSpan) → found ≡ Some item → (before : Run) {after : Run} → run (trivium_events context (item_of bytes item)) before ≡ after
           → run (trivia_events context (items_at bytes at left)) before ≡ run (trivia_events context (items_at bytes item.end (left - 1))) after
       run_next item told before ran =
-          rw (items_next bytes at left some same (Item item) told, ← ran) (run_items (item_of bytes item) (items_at bytes item.end (left - 1)) before)
+          rw (items_next bytes at left some same (Some item) told, ← ran) (run_items (item_of bytes item) (items_at bytes item.end (left - 1)) before)
 
   -- none without the newlines first
   run_no_lead : (before : Run) → run (lead_events context []) before ≡ before
@@ -138,22 +135,22 @@ module _ (context : Context) where
     pub lead_left : left ≤ 0 → (before : Run) → run (lead_events context (items_at bytes at left)) before ≡ before
     lead_left none before = rw (items_none bytes at left none) (run_no_lead before)
 
-    module _ (some : 0 < left) {found : TriviumRead} (same : found ≡ trivium_at bytes at) where
+    module _ (some : 0 < left) {found : Option TriviumSpan} (same : found ≡ trivium_at bytes at) where
       -- before an item that breaks the layout
-      pub lead_broken : found ≡ BrokenItem → (before : Run) → run (lead_events context (items_at bytes at left)) before ≡ before
-      lead_broken told before = rw (items_next bytes at left some same BrokenItem told) (run_no_lead before)
+      pub lead_broken : found ≡ None → (before : Run) → run (lead_events context (items_at bytes at left)) before ≡ before
+      lead_broken told before = rw (items_next bytes at left some same None told) (run_no_lead before)
 
-      module _ (item : TriviumSpan) (told : found ≡ Item item) {newline : Bool} (tested : newline ≡ only_newline (item_of bytes item)) (before : Run) where
+      module _ (item : TriviumSpan) (told : found ≡ Some item) {newline : Bool} (tested : newline ≡ only_newline (item_of bytes item)) (before : Run) where
         -- at a newline
         pub lead_on : newline ≡ true → run (lead_events context (items_at bytes at left)) before ≡ run (lead_events context (items_at bytes item.end (left - 1))) before
         lead_on yes_way =
-            ap (λ (items : List Trivium). run (lead_events context items) before) (items_next bytes at left some same (Item item) told)
+            ap (λ (items : List Trivium). run (lead_events context items) before) (items_next bytes at left some same (Some item) told)
             ∙ ap (λ (events : Events). run events before) (lead_dropped (item_of bytes item) (items_at bytes item.end (left - 1)) (sym tested ∙ yes_way))
 
         -- at any other item
         pub lead_stops : newline ≡ false → run (lead_events context (items_at bytes at left)) before ≡ run (trivia_events context (items_at bytes at left)) before
         lead_stops no_way =
-            let first = items_next bytes at left some same (Item item) told in
+            let first = items_next bytes at left some same (Some item) told in
             ap (λ (items : List Trivium). run (lead_events context items) before) first
             ∙ ap (λ (events : Events). run events before) (lead_kept (item_of bytes item) (items_at bytes item.end (left - 1)) (sym tested ∙ no_way))
             ∙ ap (λ (items : List Trivium). run (trivia_events context items) before) (sym first)

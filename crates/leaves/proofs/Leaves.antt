@@ -1,4 +1,5 @@
 -- Laws of leaves: what is printed of one by itself is what the events of its tree are.
+use Rattle.std.specs.Prelude.{Result, Some, Ok, Err}
 use mathlib.Core.Path.{◌≡◌, refl, sym, ap, ◌∙◌}
 use mathlib.Core.List.{List, []}
 use mathlib.Core.Bool.{Bool, true, false, cond, ◌&&◌}
@@ -16,10 +17,7 @@ use Rattle.tree.specs.Reading.{Reader, trivia_of, fields_due, parts_due, read_pa
 use Rattle.tree.specs.declared.grammar.Class.{Class}
 use Rattle.tree.specs.declared.grammar.Kind.{Kind}
 use Rattle.tree.specs.declared.grammar.Kind.TheVariants.{Leaf}
-use Rattle.tree.specs.declared.grammar.KindRead.TheVariants.{Known}
 use Rattle.tree.specs.declared.own.Own.{Own}
-use Rattle.tree.specs.declared.own.OwnRead.{OwnRead}
-use Rattle.tree.specs.declared.own.OwnRead.TheVariants.{Record, Refused}
 use Rattle.tree.specs.declared.own.TriviaSpan.{TriviaSpan}
 use Rattle.tree.proofs.OwnBytes.{Headed, own_cases}
 use Rattle.printing.specs.Events.{Events, nothing, ◌▹◌}
@@ -38,11 +36,11 @@ use Rattle.leaves.proofs.Items.{items_kept}
 -- ---- own bytes that were read
 
 -- their text lies within the bytes
-pub own_text : (bytes : List ℕ) (at : ℕ) (own : Own) {found : OwnRead} → Fits bytes at found → found ≡ Record own → (own.text ≤ own.end) × (own.end ≤ length bytes)
+pub own_text : (bytes : List ℕ) (at : ℕ) (own : Own) {found : Result Own Refusal} → Fits bytes at found → found ≡ Ok own → (own.text ≤ own.end) × (own.end ≤ length bytes)
 own_text bytes at own fits is = let held : OwnFits bytes at own = rw is at fits in (held.part, held.inside)
 
 -- their trivia items are those of reading
-pub own_items : (bytes : List ℕ) (at : ℕ) (own : Own) {found : OwnRead} → Fits bytes at found → found ≡ Record own → items_at bytes own.trivia own.trivia_count ≡ trivia_of bytes own
+pub own_items : (bytes : List ℕ) (at : ℕ) (own : Own) {found : Result Own Refusal} → Fits bytes at found → found ≡ Ok own → items_at bytes own.trivia own.trivia_count ≡ trivia_of bytes own
 own_items bytes at own fits is =
     let held : OwnFits bytes at own = rw is at fits in
     items_kept bytes own.trivia own.trivia_count held.items.0 held.items.1
@@ -64,11 +62,11 @@ module _ (bytes : List ℕ) (class : Class) (leaves : LeafClass class) (at : ℕ
   headed_leaf : (kind : Kind) (trivia : TriviaSpan) → Headed bytes at class kind trivia → kind ≡ Leaf
   headed_leaf kind trivia headed =
       let number : get_or bytes at 0 ≡ 25 = leaf_number_lem class leaves (get_or bytes at 0) headed.standing in
-      let known : kind_of 25 ≡ Known kind = rw number at headed.kind_is in
+      let known : kind_of 25 ≡ Some kind = rw number at headed.kind_is in
       cc
 
   -- of every record of the class that was read
-  pub own_leaf : (levels : ℕ) (own : Own) → read_own bytes at class levels ≡ Record own → own.kind ≡ Leaf
+  pub own_leaf : (levels : ℕ) (own : Own) → read_own bytes at class levels ≡ Ok own → own.kind ≡ Leaf
   own_leaf =
       own_cases bytes at class (λ own. own.kind ≡ Leaf)
       (λ kind trivia headed list room. headed_leaf kind trivia headed)
@@ -82,14 +80,14 @@ module _ (bytes : List ℕ) (class : Class) (leaves : LeafClass class) (at : ℕ
 
   module _ (context : Context) (style : Style) (shown : Bool) (levels : ℕ) where
     -- what is printed of its own bytes is what the events of its tree are, and the place behind them is the one behind it
-    on_leaf : (reader : Reader) (found : OwnRead) → read_own bytes at class levels ≡ found
+    on_leaf : (reader : Reader) (found : Result Own Refusal) → read_own bytes at class levels ≡ found
         → (own_events context style shown bytes found ≡ events_in context (leaf style) shown (read_on reader bytes class at found).tree)
         × (own_end at found ≡ (read_on reader bytes class at found).end)
     unfolding events_in built read_parts
-    on_leaf reader (Record own) is =
+    on_leaf reader (Ok own) is =
         let kind = own_leaf levels own is in
         rw (no_parts own kind, kind) (refl, refl)
-    on_leaf reader (Refused why) is = (refl, refl)
+    on_leaf reader (Err why) is = (refl, refl)
 
   -- at all levels
   leaf_read : (context : Context) (style : Style) (shown : Bool) (levels : ℕ)
@@ -106,7 +104,7 @@ module _ (bytes : List ℕ) (class : Class) (leaves : LeafClass class) (at : ℕ
   leaf_shown_lem context style shown levels done = let same = leaf_read context style shown levels in told same.0 same.1 done
 
   -- and what is shown of its text alone, where they were read, is shown of it without its trivia
-  pub text_shown : (context : Context) (style : Style) (levels : ℕ) (own : Own) {answer : Printed} {room : List ℕ} {before : Run} → read_own bytes at class levels ≡ Record own
+  pub text_shown : (context : Context) (style : Style) (levels : ℕ) (own : Own) {answer : Printed} {room : List ℕ} {before : Run} → read_own bytes at class levels ≡ Ok own
       → Shown answer room (word context (printed context style (slice own.text own.end bytes))) before own.end
       → Shown answer room (events_in context (leaf style) false (read levels bytes class at).tree) before (read levels bytes class at).end
   unfolding run
@@ -127,9 +125,9 @@ module _ (bytes : List ℕ) (class : Class) (at levels : ℕ) (context : Context
       × (LeafClass class → Shown answer room (events_in context (leaf style) shown (read levels bytes class at).tree) before (read levels bytes class at).end)
   own_and_leaf done = (done, λ leaves. leaf_shown_lem bytes class leaves at context style shown levels done)
 
-  module _ {found : OwnRead} (same : found ≡ read_own bytes at class levels) where
+  module _ {found : Result Own Refusal} (same : found ≡ read_own bytes at class levels) where
     -- own bytes that were read
-    pub own_shown : (own : Own) {answer : Printed} {room : List ℕ} {before : Run} → Fits bytes at found → found ≡ Record own
+    pub own_shown : (own : Own) {answer : Printed} {room : List ℕ} {before : Run} → Fits bytes at found → found ≡ Ok own
         → Shown answer room (cond shown (trivia_events context (items_at bytes own.trivia own.trivia_count)) nothing
         ▹ word context (printed context style (slice own.text own.end bytes))) before own.end
         → Shown answer room (own_events context style shown bytes (read_own bytes at class levels)) before (own_end at (read_own bytes at class levels))
@@ -140,7 +138,7 @@ module _ (bytes : List ℕ) (class : Class) (at levels : ℕ) (context : Context
         (rw (own_items bytes at own fits is) at done)
 
     -- own bytes that were refused
-    pub refusal_shown : (why said : Refusal) {room : List ℕ} {state : CodeFormatter} → said ≡ refusal_of found → found ≡ Refused why → state.full ≡ 0
+    pub refusal_shown : (why said : Refusal) {room : List ℕ} {state : CodeFormatter} → said ≡ refusal_of found → found ≡ Err why → state.full ≡ 0
         → Shown (answer_is.Refused said) room (own_events context style shown bytes (read_own bytes at class levels)) (going room state) (own_end at (read_own bytes at class levels))
     refusal_shown why said says is left =
         rw (says ∙ ap refusal_of is)

@@ -1,5 +1,8 @@
 -- The answer of `open`, and the one where no record was opened, have the numbers of document 01.
 --   opened_known : an answer that is known, with all that `open` promises
+use Rattle.std.specs.Prelude.{Result, Ok, Err}
+use Rattle.answers.specs.declared.Refusal.{Refusal}
+use Rattle.tree.specs.declared.own.Own.{Own}
 use mathlib.Core.Path.{◌≡◌, refl, ap, ◌∙◌}
 use mathlib.Core.List.{List}
 use mathlib.Core.Bool.{Bool, true, false, cond, ◌&&◌}
@@ -8,8 +11,6 @@ use lib.Dec.{eqb}
 use Rattle.tree.specs.Own.{read_own, numbers_own}
 use Rattle.tree.proofs.Numbers.{own_numbers_lem}
 use Rattle.tree.specs.declared.grammar.Class.{Class}
-use Rattle.tree.specs.declared.own.OwnRead.{OwnRead}
-use Rattle.tree.specs.declared.own.OwnRead.TheVariants as own_is
 use Rattle.printing.specs.Running.{finished}
 use Rattle.printing.proofs.Running.{finished_numbers}
 use Rattle.printing.specs.declared.CodeFormatter.{CodeFormatter}
@@ -20,10 +21,10 @@ use Rattle.leaves.specs.Records.{Opens, opened_on, opened_by, opened_room, numbe
 use Rattle.leaves.specs.declared.record.Opened.{Opened}
 use Rattle.leaves.specs.declared.record.Opened.TheVariants.{Closed}
 
-own_opened : (room : List ℕ) (state : CodeFormatter) (context : Context) (shown : Bool) (bytes : List ℕ) (found : OwnRead)
+own_opened : (room : List ℕ) (state : CodeFormatter) (context : Context) (shown : Bool) (bytes : List ℕ) (found : Result Own Refusal)
     → numbers_opened (opened_on room state context shown bytes found) ≡ numbers_own found
-own_opened room state context shown bytes (own_is.Record own) = refl
-own_opened room state context shown bytes (own_is.Refused why) = refl
+own_opened room state context shown bytes (Ok own) = refl
+own_opened room state context shown bytes (Err why) = refl
 
 choice_opened : (test : Bool) (taken left : Opened) → numbers_opened (cond test taken left) ≡ cond test (numbers_opened taken) (numbers_opened left)
 choice_opened true taken left = refl

@@ -1,4 +1,5 @@
 -- Laws of records: what reading gives of one by its own bytes, and what is shown of one that was opened or skipped.
+use Rattle.std.specs.Prelude.{Result, Ok, Err}
 use mathlib.Core.Path.{◌≡◌, refl, sym, ap, ◌∙◌}
 use mathlib.Core.List.{List}
 use mathlib.Core.Bool.{Bool, true, false, cond}
@@ -12,11 +13,7 @@ use Rattle.tree.specs.Own.{read_own, refusal_of, Fits}
 use Rattle.tree.specs.Reading.{parts_due, read_parts, record_of, read}
 use Rattle.tree.specs.declared.grammar.Class.{Class}
 use Rattle.tree.specs.declared.own.Own.{Own}
-use Rattle.tree.specs.declared.own.OwnRead.{OwnRead}
-use Rattle.tree.specs.declared.own.OwnRead.TheVariants.{Record, Refused}
 use Rattle.tree.specs.Parts.{skipped, refused_skip}
-use Rattle.tree.specs.declared.parts.Skipped.{Skipped}
-use Rattle.tree.specs.declared.parts.Skipped.TheVariants.{Next, NotSkipped}
 use Rattle.tree.proofs.Readings.{no_record}
 use Rattle.printing.specs.Events.{nothing}
 use Rattle.printing.specs.Running.{going, run, finished, place_of, Shown}
@@ -38,14 +35,14 @@ use Rattle.leaves.proofs.Leaves.{own_items, full_refused}
 
 module _ (bytes : List ℕ) (class : Class) (at : ℕ) where
   -- own bytes that were refused are a refusal
-  pub read_refused : (levels : ℕ) (why : Refusal) → read_own bytes at class levels ≡ Refused why
+  pub read_refused : (levels : ℕ) (why : Refusal) → read_own bytes at class levels ≡ Err why
       → ((read levels bytes class at).tree ≡ refused why) × ((read levels bytes class at).end ≡ at)
   unfolding read
   read_refused zero why is = rw is (refl, refl)
   read_refused (suc levels) why is = rw is (refl, refl)
 
   -- own bytes that were read are a record with its parts, one level below
-  pub read_record : (levels : ℕ) (own : Own) → read_own bytes at class levels ≡ Record own
+  pub read_record : (levels : ℕ) (own : Own) → read_own bytes at class levels ≡ Ok own
       → (0 < levels) × (read levels bytes class at ≡ record_of bytes at own (read_parts (read (levels - 1) bytes) (parts_due class own) own.end))
   unfolding read
   read_record zero own is = no_record bytes at class own is
@@ -100,9 +97,9 @@ module _ {context : Context} {shown : Bool} {levels : ℕ} {bytes : List ℕ} {c
         → Opens (opened_is.Closed answer) room last room context shown levels bytes class stands
     closed_full answered full = closed_there (λ place. full_refused there answered full)
 
-    module _ (some : stands ≡ true) {found : OwnRead} (same : found ≡ read_own bytes there class levels) where
+    module _ (some : stands ≡ true) {found : Result Own Refusal} (same : found ≡ read_own bytes there class levels) where
       -- where own bytes were refused
-      pub closed_refused : {why said : Refusal} {room : List ℕ} → said ≡ refusal_of found → found ≡ Refused why → state.full ≡ 0
+      pub closed_refused : {why said : Refusal} {room : List ℕ} → said ≡ refusal_of found → found ≡ Err why → state.full ≡ 0
           → Opens (opened_is.Closed (answer_is.Refused said)) room last room context shown levels bytes class stands
       unfolding events_in
       closed_refused {why} says told left =
@@ -110,7 +107,7 @@ module _ {context : Context} {shown : Bool} {levels : ℕ} {bytes : List ℕ} {c
           closed_there (λ place. rw (some, says ∙ ap refusal_of told, one.0, one.1) (stopped_there left))
 
       -- where they were read
-      pub opened_record : {own : Own} {room left : List ℕ} {next : CodeFormatter} → Fits bytes there found → found ≡ Record own
+      pub opened_record : {own : Own} {room left : List ℕ} {next : CodeFormatter} → Fits bytes there found → found ≡ Ok own
           → run (cond shown (trivia_events context (items_at bytes own.trivia own.trivia_count)) nothing) (going room state) ≡ going left next
           → Opens (opened_is.Record own next) left last room context shown levels bytes class stands
       opened_record {own} {room} fits told ran =
@@ -134,9 +131,9 @@ module _ {levels : ℕ} {bytes : List ℕ} {class : Class} {stands : Bool} where
     pub skip_full : {answer : Printed} → answer ≡ finished state there → (state.full ≡ 0 → ⊥) → Skips answer last levels bytes class stands
     skip_full answered full = record { from = λ room. done_before is (full_refused there answered full) }
 
-    module _ (some : stands ≡ true) {found : Skipped} (same : found ≡ skipped levels bytes class there) where
+    module _ (some : stands ≡ true) {found : Result ℕ Refusal} (same : found ≡ skipped levels bytes class there) where
       -- where it holds a refusal
-      pub skip_stopped : {why said : Refusal} → said ≡ refused_skip found → found ≡ NotSkipped why → state.full ≡ 0
+      pub skip_stopped : {why said : Refusal} → said ≡ refused_skip found → found ≡ Err why → state.full ≡ 0
           → Skips (answer_is.Refused said) last levels bytes class stands
       skip_stopped {why} says told left = record {
         from = λ room. done_before is
@@ -144,7 +141,7 @@ module _ {levels : ℕ} {bytes : List ℕ} {class : Class} {stands : Bool} where
       }
 
       -- where it holds none
-      pub skip_behind : {answer : Printed} {place : ℕ} → found ≡ Next place → answer ≡ finished state place → Skips answer last levels bytes class stands
+      pub skip_behind : {answer : Printed} {place : ℕ} → found ≡ Ok place → answer ≡ finished state place → Skips answer last levels bytes class stands
       skip_behind {place = place} told answered =
           let passed = skip_passed levels bytes class there place (sym same ∙ told) in
           record { from = λ room. done_before is (rw (some, passed.0) (finish ran_nothing answered passed.1)) }

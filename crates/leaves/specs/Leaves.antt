@@ -1,11 +1,11 @@
 -- What is printed of a record by itself: its trivia where they are shown, and its text; and the classes whose records are leaves.
-use Rattle.std.specs.Prelude.{ℕ, ◌≡◌, List, Bool, cond}
+use Rattle.answers.specs.declared.Refusal.{Refusal}
+use Rattle.tree.specs.declared.own.Own.{Own}
+use Rattle.std.specs.Prelude.{ℕ, ◌≡◌, List, Bool, cond, Result, Ok, Err}
 use Rattle.tree.specs.Grammar.{rule, leaf}
 use Rattle.tree.specs.Reading.{trivia_of, text_of}
 use Rattle.tree.specs.declared.grammar.Class.{Class}
 use Rattle.tree.specs.declared.grammar.TextRule.{TextRule}
-use Rattle.tree.specs.declared.own.OwnRead.{OwnRead}
-use Rattle.tree.specs.declared.own.OwnRead.TheVariants.{Record, Refused}
 use Rattle.printing.specs.Events.{Events, nothing, stop, ◌▹◌}
 use Rattle.printing.specs.declared.Context.{Context}
 use Rattle.events.specs.Printed.{Style, printed}
@@ -15,7 +15,7 @@ use Rattle.events.specs.Trees.{word, trivia_events}
 abbrev pub LeafClass : Class → Type 0
 LeafClass class = (trivia : Bool) × (text : TextRule) × (rule class ≡ leaf trivia text)
 
-abbrev pub own_events : Context → Style → Bool → List ℕ → OwnRead → Events
-own_events context style shown bytes (Record own) =
+abbrev pub own_events : Context → Style → Bool → List ℕ → Result Own Refusal → Events
+own_events context style shown bytes (Ok own) =
     cond shown (trivia_events context (trivia_of bytes own)) nothing ▹ word context (printed context style (text_of bytes own))
-own_events context style shown bytes (Refused why) = stop why
+own_events context style shown bytes (Err why) = stop why

@@ -1,5 +1,6 @@
 -- What printers of records promise: the events of the record at the place where the last answer ended, whatever bytes stand there.
-use Rattle.std.specs.Prelude.{ℕ, ◌/◌, ◌≡◌, List, [], ◌∷◌, Bool, true, cond, ◌&&◌, eqb}
+use Rattle.answers.specs.declared.Refusal.{Refusal}
+use Rattle.std.specs.Prelude.{ℕ, ◌/◌, ◌≡◌, List, [], ◌∷◌, Bool, true, cond, ◌&&◌, eqb, Result, Ok, Err}
 use Rattle.answers.specs.Numbers.{numbers_of}
 use Rattle.tree.specs.Tree.{Tree, absent, built}
 use Rattle.tree.specs.Grammar.{Slot, must, may, fields}
@@ -9,8 +10,6 @@ use Rattle.tree.specs.declared.grammar.Class.{Class}
 use Rattle.tree.specs.declared.grammar.Class.TheVariants.{LocatedExpression}
 use Rattle.tree.specs.declared.grammar.Kind.{Kind}
 use Rattle.tree.specs.declared.own.Own.{Own}
-use Rattle.tree.specs.declared.own.OwnRead.{OwnRead}
-use Rattle.tree.specs.declared.own.OwnRead.TheVariants as own_is
 use Rattle.printing.specs.Events.{nothing}
 use Rattle.printing.specs.Running.{Run, going, run, place_of, outcome, finished, room_of, state_of, Shown, Prints}
 use Rattle.printing.specs.Running.{numbers_printed, finish_numbers}
@@ -63,7 +62,7 @@ PrintsNode answer left before room context kind bits levels bytes = PrintsKind a
 -- its own bytes were read and its trivia have been run; or the answer is what the record's events leave
 abbrev pub OpensAt : Opened → List ℕ → Run → Context → Bool → ℕ → List ℕ → Class → Bool → ℕ → Type 0
 OpensAt (Record own state) left before context shown levels bytes class stands at =
-    (stands ≡ true) × (read_own bytes at class levels ≡ own_is.Record own) × OwnFits bytes at own
+    (stands ≡ true) × (read_own bytes at class levels ≡ Ok own) × OwnFits bytes at own
     × (run (cond shown (trivia_events context (trivia_of bytes own)) nothing) before ≡ going left state)
 OpensAt (Closed answer) left before context shown levels bytes class stands at =
     (place : Place) → Shown answer left (events_in context place shown (cond stands (read levels bytes class at).tree absent)) before
@@ -79,13 +78,13 @@ pub record Opens (opened : Opened) (left : List ℕ) (before : Printed) (room : 
 abbrev pub trivia_run : List ℕ → CodeFormatter → Context → Bool → List ℕ → Own → Run
 trivia_run room state context shown bytes own = run (cond shown (trivia_events context (trivia_of bytes own)) nothing) (going room state)
 
-abbrev pub opened_on : List ℕ → CodeFormatter → Context → Bool → List ℕ → OwnRead → Opened
-opened_on room state context shown bytes (own_is.Record own) = Record own (state_of (trivia_run room state context shown bytes own))
-opened_on room state context shown bytes (own_is.Refused why) = Closed (answer_is.Refused why)
+abbrev pub opened_on : List ℕ → CodeFormatter → Context → Bool → List ℕ → Result Own Refusal → Opened
+opened_on room state context shown bytes (Ok own) = Record own (state_of (trivia_run room state context shown bytes own))
+opened_on room state context shown bytes (Err why) = Closed (answer_is.Refused why)
 
-abbrev pub room_on : List ℕ → CodeFormatter → Context → Bool → List ℕ → OwnRead → List ℕ
-room_on room state context shown bytes (own_is.Record own) = room_of (trivia_run room state context shown bytes own)
-room_on room state context shown bytes (own_is.Refused why) = room
+abbrev pub room_on : List ℕ → CodeFormatter → Context → Bool → List ℕ → Result Own Refusal → List ℕ
+room_on room state context shown bytes (Ok own) = room_of (trivia_run room state context shown bytes own)
+room_on room state context shown bytes (Err why) = room
 
 unfoldable pub opened_by : Printed → List ℕ → Context → Bool → ℕ → List ℕ → Class → Bool → Opened
 opened_by (answer_is.Refused why) room context shown levels bytes class stands = Closed (answer_is.Refused why)

@@ -20,7 +20,7 @@ use crate::{texts, trivia};
 use printing::{CodeFormatter, Context, Printed};
 use tree::grammar::Class;
 use tree::own;
-use tree::own::{Own, OwnRead};
+use tree::own::Own;
 
 // The chunks of trivia that may be shown or not. Most records have none: they are not worth a call.
 pub(crate) fn shown_trivia(
@@ -103,7 +103,7 @@ fn leaf_at(
         return state.finish(at);
     }
     let found = own::read_own(tree, at, class, levels);
-    let OwnRead::Record(own) = found else {
+    let Ok(own) = found else {
         return Printed::Refused(own::refusal_of(found));
     };
     format_own(tree, own, style, shown, context, room, state)

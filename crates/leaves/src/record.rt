@@ -8,8 +8,7 @@ ghost use Rattle.leaves.specs.Records.{numbers_opened, opened_numbers, closed_nu
 use crate::leaf;
 use printing::{CodeFormatter, Context, Printed};
 use tree::grammar::Class;
-use tree::own::{Own, OwnRead};
-use tree::parts::Skipped;
+use tree::own::Own;
 use tree::{own, parts};
 
 // A record that was opened: its own bytes, and the state behind its trivia; or the answer where there is none to go on with.
@@ -59,7 +58,7 @@ pub fn open(
         return Opened::Closed(state.finish(at));
     }
     let found = own::read_own(tree, at, class, levels);
-    let OwnRead::Record(own) = found else {
+    let Ok(own) = found else {
         return Opened::Closed(Printed::Refused(own::refusal_of(found)));
     };
     let next = leaf::shown_trivia(
@@ -99,7 +98,7 @@ pub fn skip(tree: &[u8], levels: usize, class: Class, stands: bool, last: Printe
         return state.finish(at);
     }
     let found = parts::skip(tree, at, class, levels);
-    let Skipped::Next(place) = found else {
+    let Ok(place) = found else {
         return Printed::Refused(parts::refused_skip(found));
     };
     state.finish(place)

@@ -7,7 +7,7 @@ ghost use Rattle.leaves.specs.Items.{item_of, items_at};
 use chunks::stored::ChunkType;
 use printing::{CodeFormatter, Context};
 use text::characters;
-use tree::parts::{TriviumRead, TriviumSpan};
+use tree::parts::TriviumSpan;
 use tree::{codes, parts};
 
 // The chunk of an item.
@@ -50,7 +50,7 @@ pub fn format_trivia(
     let mut left = count;
     while 0 < left {
         let read = parts::trivium_at(tree, place);
-        let TriviumRead::Item(item) = read else {
+        let Some(item) = read else {
             return next;
         };
         next = format_trivium(tree, item, context, room, next);
@@ -98,7 +98,7 @@ pub fn format_lead(
     let mut left = count;
     while 0 < left {
         let read = parts::trivium_at(tree, place);
-        let TriviumRead::Item(item) = read else {
+        let Some(item) = read else {
             return state;
         };
         if !only_newline(tree, item) {

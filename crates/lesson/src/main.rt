@@ -6,14 +6,11 @@ ghost use Rattle.std.specs.Prelude.{◌≤◌};
 
 use answers::{Answer, Checked, Refusal};
 use chunks::stored;
-use chunks::stored::ChunkAt;
 use losses::search::Loss;
 use std::io;
 use std::io::{BufReader, BufWriter, ErrorKind, Read, Write};
 use text::numbers;
-use tree::check::Part;
 use tree::grammar::Class;
-use tree::own::OwnRead;
 use tree::{check, kinds, own};
 use wording::{lines, places, records, sentences};
 
@@ -110,11 +107,11 @@ fn answer_format(
 ) -> io::Result<()> {
     let answer = formatting::format(tree, options, work, text);
     match answer {
-        Answer::Accepted(length) => {
+        Ok(length) => {
             write_status(out, 0)?;
             write_line(out, text, length)?;
         }
-        Answer::Refused(refusal) => {
+        Err(refusal) => {
             write_refusal(out, refusal, tree, options, work.len(), text.len())?;
         }
     }
@@ -126,7 +123,7 @@ fn show_chunks(out: &mut impl Write, list: &[u8], line: &mut [u8]) -> io::Result
     let mut at = 0;
     while at < list.len() {
         let found = stored::chunk_at(list, at);
-        let ChunkAt::Found(chunk) = found else {
+        let Some(chunk) = found else {
             return Ok(());
         };
         let used = records::put_chunk(line, 0, list, at, chunk);
@@ -146,13 +143,13 @@ fn answer_chunks(
 ) -> io::Result<()> {
     let answer = tokens::chunks(tree, options, work);
     match answer {
-        Answer::Accepted(length) => {
+        Ok(length) => {
             write_status(out, 0)?;
             if length <= work.len() {
                 show_chunks(out, &work[..length], line)?;
             }
         }
-        Answer::Refused(refusal) => {
+        Err(refusal) => {
             write_refusal(out, refusal, tree, options, work.len(), line.len())?;
         }
     }
@@ -192,7 +189,7 @@ fn show_record(
     requires { levels ≤ 64 }
 {
     let read = own::read_own(tree, at, class, levels);
-    let OwnRead::Record(own) = read else {
+    let Ok(own) = read else {
         return Ok(at);
     };
     let used = records::put_record(line, 0, tree, at, 65 - levels, class, own);
@@ -201,7 +198,7 @@ fn show_record(
     let mut plan = check::plan_of(class, own);
     loop {
         let part = check::next_part(plan);
-        let Part::Next(field, rest) = part else {
+        let Some((field, rest)) = part else {
             return Ok(place);
         };
         place = show_record(out, tree, place, field, levels - 1, line)?;
@@ -218,11 +215,11 @@ fn answer_tree(
 ) -> io::Result<()> {
     let checked = tree::check_tree(tree);
     match checked {
-        Checked::Passed => {
+        Ok(()) => {
             write_status(out, 0)?;
             show_record(out, tree, 0, Class::Tokens, 64, line)?;
         }
-        Checked::Failed(refusal) => {
+        Err(refusal) => {
             write_refusal(out, refusal, tree, options, 0, line.len())?;
         }
     }
@@ -242,7 +239,7 @@ fn show_loss(
     }
     let class = class_of(numbers::wide(tree[at]));
     let read = own::read_own(tree, at, class, 64);
-    if let OwnRead::Record(own) = read {
+    if let Ok(own) = read {
         let used = places::put_loss(line, 0, tree, at, letters, own);
         write_line(out, line, used)?;
     }

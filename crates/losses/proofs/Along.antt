@@ -1,4 +1,5 @@
 -- Parts one behind the other: their uses in the tree are those of the parts that stand.
+use Rattle.std.specs.Prelude.{Option, Some, None}
 use mathlib.Core.Path.{◌≡◌, refl, ap, ◌∙◌}
 use mathlib.Core.List.{List, [], ◌∷◌, ◌++◌}
 use mathlib.Core.Bool.{Bool, true, false, cond}
@@ -12,8 +13,6 @@ use Rattle.tree.specs.Reading.{Due, nothing, due, slot_class, fields_due, items_
 use Rattle.tree.specs.Tree.{Tree, absent, chain}
 use Rattle.tree.specs.Walk.{standing}
 use Rattle.tree.specs.declared.grammar.Class.{Class}
-use Rattle.tree.specs.declared.grammar.Items.{Items}
-use Rattle.tree.specs.declared.grammar.Items.TheVariants.{NoList, ListOf}
 use Rattle.events.specs.Views.{view}
 use Rattle.reading.specs.Places.{Use, has_comment, places_in}
 use Rattle.losses.specs.Visits.{seen_in, uses_along, end_along, checked_along}
@@ -59,14 +58,14 @@ module _ (reader : Reader) where
       ∙ rest ∙ fields_along listed slots (bits / 2) place))
 
   -- the items of a list
-  items_of : (listed : Bool) (items : Items) → Unlisted items → (count place : ℕ)
+  items_of : (listed : Bool) (items : Option Class) → Unlisted items → (count place : ℕ)
       → places_in listed (chain (read_parts reader (items_due items count) place).trees) ≡ uses_along reader true (standing (items_due items count)) place
   unfolding places_in chain read_parts standing uses_along
-  items_of listed NoList none count place = refl
-  items_of listed (ListOf item) none zero place = refl
-  items_of listed (ListOf item) none (suc count) place =
+  items_of listed None none count place = refl
+  items_of listed (Some item) none zero place = refl
+  items_of listed (Some item) none (suc count) place =
       let tree : Tree = (reader item place).tree in
-      rw (none tree) (ap (λ (uses : List Use). places_in true tree ++ uses) (items_of listed (ListOf item) none count (reader item place).end))
+      rw (none tree) (ap (λ (uses : List Use). places_in true tree ++ uses) (items_of listed (Some item) none count (reader item place).end))
 
   pub items_along : (listed : Bool) (class : Class) (count place : ℕ)
       → places_in listed (chain (read_parts reader (items_due (rule class).items count) place).trees) ≡ uses_along reader true (standing (items_due (rule class).items count)) place

@@ -1,5 +1,10 @@
 -- Every record that uses a place stands within the bytes; so the offset and the letters of an answer are small.
 --   narrow_lost : loss ≡ lost_from from bytes → (loss ≡ lost_from from bytes) × (Narrow loss × (numbers_lost loss ≡ lost_numbers from bytes))
+use Rattle.std.specs.Prelude.{Option, Result, Some, None, Ok, Err}
+use Rattle.tree.specs.declared.parts.Head.{Head}
+use Rattle.answers.specs.declared.Refusal.{Refusal}
+use Rattle.tree.specs.declared.own.Own.{Own}
+use Rattle.answers.specs.Numbers.{no_refusal, Checked}
 use mathlib.Core.Path.{◌≡◌, refl, sym, ap, subst, ◌∙◌}
 use mathlib.Core.List.{List, [], ◌∷◌, ◌++◌}
 use mathlib.Core.Bool.{Bool, true, false, not, ◌&&◌, ◌||◌}
@@ -9,8 +14,6 @@ use lib.ListN.{length, get_or}
 use lib.Dec.{eqb}
 use borrow.Author.Tests.{eq-eqb}
 use Rattle.text.proofs.Choices.{cond_both, by_test}
-use Rattle.answers.specs.declared.Checked.{Checked}
-use Rattle.answers.specs.declared.Checked.TheVariants.{Passed, Failed}
 use Rattle.tree.specs.Tree.{Tree, absent}
 use Rattle.tree.specs.Own.{read_own}
 use Rattle.tree.specs.Parts.{head_at}
@@ -20,10 +23,6 @@ use Rattle.tree.specs.Rows.{class_number}
 use Rattle.tree.specs.Walk.{standing}
 use Rattle.tree.specs.declared.grammar.Class.{Class}
 use Rattle.tree.specs.declared.grammar.Class.TheVariants.{Tokens}
-use Rattle.tree.specs.declared.own.OwnRead.{OwnRead}
-use Rattle.tree.specs.declared.own.OwnRead.TheVariants.{Record, Refused}
-use Rattle.tree.specs.declared.parts.HeadRead.{HeadRead}
-use Rattle.tree.specs.declared.parts.HeadRead.TheVariants.{Found, NoHead}
 use Rattle.tree.proofs.Cases.{both_passed}
 use Rattle.tree.proofs.Limits.{length_passed}
 use Rattle.tree.proofs.Readings.{every_reading, no_record, file_passed}
@@ -35,8 +34,6 @@ use Rattle.reading.specs.Places.{Spot, Use, opening_brace, label_colon, value_he
 use Rattle.reading.specs.Places.{has_comment, mark, at_closing_character}
 use Rattle.losses.specs.Lost.{firsts_in, least_of, bit_at, letters_at, lost_from, numbers_lost, lost_numbers, Narrow}
 use Rattle.losses.specs.Visits.{first_of, seen_in, own_marks, head_marks, closing_marks, own_uses, listed_below, uses_along, checked_along, part_trees, TokenClass}
-use Rattle.losses.specs.declared.firsts.First.{First}
-use Rattle.losses.specs.declared.firsts.First.TheVariants.{At, Never}
 use Rattle.losses.specs.declared.firsts.Firsts.{Firsts}
 use Rattle.losses.specs.declared.search.Loss.{Loss}
 use Rattle.losses.specs.declared.search.Loss.TheVariants.{Used}
@@ -114,19 +111,19 @@ module _ (bytes : List ℕ) (some : 0 < length bytes) where
   parts_stand levels (due class ∷ parts) at (suc place) = parts_stand levels parts (read levels bytes class at).end place
 
   -- and a token's head
-  head_stands : (levels : ℕ) (class : Class) (at : ℕ) (found : HeadRead) → found ≡ head_at levels bytes class at → (read levels bytes class at).checked ≡ Passed
+  head_stands : (levels : ℕ) (class : Class) (at : ℕ) (found : Result Head Refusal) → found ≡ head_at levels bytes class at → (read levels bytes class at).checked ≡ no_refusal
       → TokenClass class → stands_at (head_of (read levels bytes class at).tree) < length bytes
-  head_stands levels class at (Found head) is passed token =
+  head_stands levels class at (Ok head) is passed token =
       rw (head_is bytes class token.0 token.1 levels at head (sym is)) (read_stands head.levels head.class head.place)
-  head_stands levels class at (NoHead why) is passed token = head_missed levels bytes class at is refl passed token
+  head_stands levels class at (Err why) is passed token = head_missed levels bytes class at is refl passed token
 
 -- ---- so the uses that records show do
 
 module _ (bytes : List ℕ) where
   -- those of parts, one behind the other
-  along_below : (levels : ℕ) → ((class : Class) (at : ℕ) (listed : Bool) → (read levels bytes class at).checked ≡ Passed
+  along_below : (levels : ℕ) → ((class : Class) (at : ℕ) (listed : Bool) → (read levels bytes class at).checked ≡ no_refusal
       → Below (length bytes) (seen_in class listed (read levels bytes class at).tree))
-      → (listed : Bool) (classes : List Class) (place : ℕ) → checked_along (read levels bytes) classes place ≡ Passed
+      → (listed : Bool) (classes : List Class) (place : ℕ) → checked_along (read levels bytes) classes place ≡ no_refusal
       → Below (length bytes) (uses_along (read levels bytes) listed classes place)
   unfolding Below uses_along checked_along
   along_below levels below listed [] place passed = tt
@@ -137,18 +134,18 @@ module _ (bytes : List ℕ) where
       (below class place listed both.0) (along_below levels below listed classes next both.1)
 
   -- where no level is left nothing was read
-  unread_below : (class : Class) (at : ℕ) (listed : Bool) (found : OwnRead) → read_own bytes at class zero ≡ found → (read zero bytes class at).checked ≡ Passed
+  unread_below : (class : Class) (at : ℕ) (listed : Bool) (found : Result Own Refusal) → read_own bytes at class zero ≡ found → (read zero bytes class at).checked ≡ no_refusal
       → Below (length bytes) (seen_in class listed (read zero bytes class at).tree)
-  unread_below class at listed (Record own) is passed = no_record bytes at class own is
-  unread_below class at listed (Refused why) is passed = own_unread zero bytes class at passed is
+  unread_below class at listed (Ok own) is passed = no_record bytes at class own is
+  unread_below class at listed (Err why) is passed = own_unread zero bytes class at passed is
 
   -- a record shows its own uses, and those of its parts
-  record_below : (levels : ℕ) → ((class : Class) (at : ℕ) (listed : Bool) → (read (levels - 1) bytes class at).checked ≡ Passed
+  record_below : (levels : ℕ) → ((class : Class) (at : ℕ) (listed : Bool) → (read (levels - 1) bytes class at).checked ≡ no_refusal
       → Below (length bytes) (seen_in class listed (read (levels - 1) bytes class at).tree))
-      → (class : Class) (at : ℕ) (listed : Bool) (found : OwnRead) → read_own bytes at class levels ≡ found
-      → (read levels bytes class at).checked ≡ Passed → Below (length bytes) (seen_in class listed (read levels bytes class at).tree)
-  record_below levels below class at listed (Refused why) is passed = own_unread levels bytes class at passed is
-  record_below levels below class at listed (Record own) is passed =
+      → (class : Class) (at : ℕ) (listed : Bool) (found : Result Own Refusal) → read_own bytes at class levels ≡ found
+      → (read levels bytes class at).checked ≡ no_refusal → Below (length bytes) (seen_in class listed (read levels bytes class at).tree)
+  record_below levels below class at listed (Err why) is passed = own_unread levels bytes class at passed is
+  record_below levels below class at listed (Ok own) is passed =
       let limit : ℕ = length bytes in
       let tree : Tree = (read levels bytes class at).tree in
       let parts : List Tree = part_trees levels bytes class own in
@@ -167,7 +164,7 @@ module _ (bytes : List ℕ) where
       (both_below limit (own_uses class listed tree at parts) _ own_uses_here
       (along_below (levels - 1) below (listed_below (get_or bytes at 0) listed) (standing (parts_due class own)) own.end parts_passed))
 
-  uses_below : (levels : ℕ) (class : Class) (at : ℕ) (listed : Bool) → (read levels bytes class at).checked ≡ Passed
+  uses_below : (levels : ℕ) (class : Class) (at : ℕ) (listed : Bool) → (read levels bytes class at).checked ≡ no_refusal
       → Below (length bytes) (seen_in class listed (read levels bytes class at).tree)
   uses_below zero class at listed = unread_below class at listed (read_own bytes at class zero) refl
   uses_below (suc levels) class at listed =
@@ -182,7 +179,7 @@ unfolding Below
 one_below limit [] used behind below = below.0
 one_below limit (other ∷ before) used behind below = one_below limit before used behind below.1
 
-told_below : (from : ℕ) (bytes : List ℕ) (at letters : ℕ) → batch_checked bytes ≡ Passed → lost_from from bytes ≡ Used at letters → at < length bytes
+told_below : (from : ℕ) (bytes : List ℕ) (at letters : ℕ) → batch_checked bytes ≡ no_refusal → lost_from from bytes ≡ Used at letters → at < length bytes
 told_below from bytes at letters passed told =
     let found = (told_used from bytes at letters passed told).1 in
     let below = uses_below bytes 64 Tokens 0 false (file_passed 65535 64 bytes passed).layout in
@@ -192,12 +189,12 @@ told_below from bytes at letters passed told =
 -- ---- its letters are those of the places that have a first record there, so one at least
 
 -- a bit is there or not
-bit_most : (at : ℕ) (first : First) (bit : ℕ) → bit_at at first bit ≤ bit
-bit_most at Never bit = omega arith
-bit_most at (At place) bit = by_test (eqb place at) (λ q. rw q (omega arith)) (λ q. rw q (omega arith))
+bit_most : (at : ℕ) (first : Option ℕ) (bit : ℕ) → bit_at at first bit ≤ bit
+bit_most at None bit = omega arith
+bit_most at (Some place) bit = by_test (eqb place at) (λ q. rw q (omega arith)) (λ q. rw q (omega arith))
 
 -- it is there where the first record is
-bit_here : {at : ℕ} {first : First} → first ≡ At at → (bit : ℕ) → bit_at at first bit ≡ bit
+bit_here : {at : ℕ} {first : Option ℕ} → first ≡ Some at → (bit : ℕ) → bit_at at first bit ≡ bit
 bit_here {at} {first} is bit = rw (is, eq-eqb at at refl) refl
 
 module _ (firsts : Firsts) (at : ℕ) where
@@ -215,7 +212,7 @@ module _ (firsts : Firsts) (at : ℕ) where
         bit_most at firsts.closing_character 128,
       )
 
-  letters_some : (spot : Spot) → first_of firsts spot ≡ At at → 1 ≤ letters_at firsts at
+  letters_some : (spot : Spot) → first_of firsts spot ≡ Some at → 1 ≤ letters_at firsts at
   letters_some opening_brace is = omega (arith, bit_here is 1)
   letters_some label_colon is = omega (arith, bit_here is 2)
   letters_some value_head is = omega (arith, bit_here is 4)
@@ -227,12 +224,12 @@ module _ (firsts : Firsts) (at : ℕ) where
 
 -- ---- the answer
 
-lost_on_narrow : (from : ℕ) (bytes : List ℕ) (checked : Checked) (least : First) → batch_checked bytes ≡ checked
+lost_on_narrow : (from : ℕ) (bytes : List ℕ) (checked : Checked) (least : Option ℕ) → batch_checked bytes ≡ checked
     → least_of (firsts_in from (read_file 64 bytes).tree) ≡ least → Narrow (lost_from from bytes)
 unfolding lost_from
-lost_on_narrow from bytes (Failed refusal) least is here = rw is tt
-lost_on_narrow from bytes Passed Never is here = rw (is, here) tt
-lost_on_narrow from bytes Passed (At at) is here =
+lost_on_narrow from bytes (Err refusal) least is here = rw is tt
+lost_on_narrow from bytes (Ok tt) None is here = rw (is, here) tt
+lost_on_narrow from bytes (Ok tt) (Some at) is here =
     let firsts : Firsts = firsts_in from (read_file 64 bytes).tree in
     let spot = least_one firsts at here in
     let below = told_below from bytes at (letters_at firsts at) is (rw (is, here) refl) in

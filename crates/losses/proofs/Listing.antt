@@ -1,6 +1,8 @@
 -- Called again behind each of its answers, `lost` lists every use of a place and nothing else.
 --   every_use_told : a use at or after `from` is told by the answer from there, or a record before it is
 --   told_used : what is told is a use
+use Rattle.std.specs.Prelude.{Option, Some, None}
+use Rattle.answers.specs.Numbers.{no_refusal}
 use mathlib.Core.Path.{◌≡◌, refl, sym, ap, subst, ◌∙◌}
 use mathlib.Core.Logic.{◌⊎◌, inl, inr, ⊎_elim}
 use mathlib.Core.List.{List, [], ◌∷◌, ◌++◌}
@@ -10,15 +12,12 @@ use native.Mathlib.Omega.{arith}
 use lib.Dec.{eqb, ltb}
 use borrow.Author.Tests.{le-ltb, ltb-false, ltb-true, eq-eqb, eqb-true}
 use Rattle.text.proofs.Choices.{by_test}
-use Rattle.answers.specs.declared.Checked.TheVariants.{Passed}
 use Rattle.tree.specs.Tree.{Tree}
 use Rattle.tree.specs.Checking.{read_file, batch_checked}
 use Rattle.reading.specs.Places.{Spot, Use, opening_brace, label_colon, value_head, import_path, path_item, register_letter, expression_head, closing_character}
 use Rattle.reading.specs.Places.{spot_number, places_in}
 use Rattle.losses.specs.Lost.{earlier_of, first_with, first_from, first_in, firsts_in, lesser_of, least_of, letters_at, answer_with, lost_on, lost_from}
 use Rattle.losses.specs.Visits.{first_of}
-use Rattle.losses.specs.declared.firsts.First.{First}
-use Rattle.losses.specs.declared.firsts.First.TheVariants.{At, Never}
 use Rattle.losses.specs.declared.firsts.Firsts.{Firsts}
 use Rattle.losses.specs.declared.search.Loss.TheVariants.{Used}
 use Rattle.losses.proofs.Telling.{at_never}
@@ -26,30 +25,30 @@ use Rattle.losses.proofs.Telling.{at_never}
 -- ---- a first record within bounds
 
 -- there is one, and it stands at or before an offset
-abbrev UpTo : ℕ → First → Type 0
-UpTo limit Never = ⊥
-UpTo limit (At place) = place ≤ limit
+abbrev UpTo : ℕ → Option ℕ → Type 0
+UpTo limit None = ⊥
+UpTo limit (Some place) = place ≤ limit
 
 -- if there is one, it stands at or after an offset
-abbrev Onward : ℕ → First → Type 0
-Onward from Never = Unit
-Onward from (At place) = from ≤ place
+abbrev Onward : ℕ → Option ℕ → Type 0
+Onward from None = Unit
+Onward from (Some place) = from ≤ place
 
-earlier_up_to : (limit : ℕ) (first : First) (at : ℕ) → UpTo limit first → UpTo limit (earlier_of first at)
-earlier_up_to limit Never at none = absurd none
-earlier_up_to limit (At other) at within = by_test (ltb at other) (λ q. rw q (omega (arith, ltb-true at other q, within))) (λ q. rw q within)
+earlier_up_to : (limit : ℕ) (first : Option ℕ) (at : ℕ) → UpTo limit first → UpTo limit (earlier_of first at)
+earlier_up_to limit None at none = absurd none
+earlier_up_to limit (Some other) at within = by_test (ltb at other) (λ q. rw q (omega (arith, ltb-true at other q, within))) (λ q. rw q within)
 
-earlier_itself : (first : First) (at : ℕ) → UpTo at (earlier_of first at)
-earlier_itself Never at = omega arith
-earlier_itself (At other) at = by_test (ltb at other) (λ q. rw q (omega arith)) (λ q. rw q (ltb-false at other q))
+earlier_itself : (first : Option ℕ) (at : ℕ) → UpTo at (earlier_of first at)
+earlier_itself None at = omega arith
+earlier_itself (Some other) at = by_test (ltb at other) (λ q. rw q (omega arith)) (λ q. rw q (ltb-false at other q))
 
-earlier_onward : (from : ℕ) (first : First) (at : ℕ) → Onward from first → from ≤ at → Onward from (earlier_of first at)
-earlier_onward from Never at onward here = here
-earlier_onward from (At other) at onward here = by_test (ltb at other) (λ q. rw q here) (λ q. rw q onward)
+earlier_onward : (from : ℕ) (first : Option ℕ) (at : ℕ) → Onward from first → from ≤ at → Onward from (earlier_of first at)
+earlier_onward from None at onward here = here
+earlier_onward from (Some other) at onward here = by_test (ltb at other) (λ q. rw q here) (λ q. rw q onward)
 
 -- ---- the first of some uses
 
-from_up_to : (from limit : ℕ) (spot : Spot) (first : First) (uses : List Use) → UpTo limit first → UpTo limit (first_from from spot first uses)
+from_up_to : (from limit : ℕ) (spot : Spot) (first : Option ℕ) (uses : List Use) → UpTo limit first → UpTo limit (first_from from spot first uses)
 unfolding first_from
 from_up_to from limit spot first [] within = within
 from_up_to from limit spot first (used ∷ others) within =
@@ -59,7 +58,7 @@ from_up_to from limit spot first (used ∷ others) within =
     (λ r. rw (q, r) (from_up_to from limit spot (earlier_of first used.place) others (earlier_up_to limit first used.place within))))
     (λ q. rw q (from_up_to from limit spot first others within))
 
-from_onward : (from : ℕ) (spot : Spot) (first : First) (uses : List Use) → Onward from first → Onward from (first_from from spot first uses)
+from_onward : (from : ℕ) (spot : Spot) (first : Option ℕ) (uses : List Use) → Onward from first → Onward from (first_from from spot first uses)
 unfolding first_from
 from_onward from spot first [] onward = onward
 from_onward from spot first (used ∷ others) onward =
@@ -70,7 +69,7 @@ from_onward from spot first (used ∷ others) onward =
     (λ q. rw q (from_onward from spot first others onward))
 
 -- the first of uses whose first is of the place and at or after `from`
-from_same : (from : ℕ) (first : First) (used : Use) (behind : List Use) → eqb (spot_number used.spot) (spot_number used.spot) ≡ true
+from_same : (from : ℕ) (first : Option ℕ) (used : Use) (behind : List Use) → eqb (spot_number used.spot) (spot_number used.spot) ≡ true
     → ltb used.place from ≡ false → UpTo used.place (first_from from used.spot (earlier_of first used.place) behind)
     → UpTo used.place (first_from from used.spot first (used ∷ behind))
 unfolding first_from
@@ -79,7 +78,7 @@ from_same from first used behind same counts t =
     (subst (λ (below : Bool). UpTo used.place (first_from from used.spot (cond below first (earlier_of first used.place)) behind)) (sym counts) t)
 
 -- a use at or after `from` is not behind the first of its place
-use_up_to : (from : ℕ) (first : First) (before : List Use) (used : Use) (behind : List Use) → from ≤ used.place
+use_up_to : (from : ℕ) (first : Option ℕ) (before : List Use) (used : Use) (behind : List Use) → from ≤ used.place
     → UpTo used.place (first_from from used.spot first (before ++ (used ∷ behind)))
 unfolding first_from
 use_up_to from first [] used behind here =
@@ -90,25 +89,25 @@ use_up_to from first (other ∷ others) used behind here =
 
 -- ---- the first of two, and of the eight
 
-lesser_left : (limit : ℕ) (one other : First) → UpTo limit one → UpTo limit (lesser_of one other)
-lesser_left limit Never other none = absurd none
-lesser_left limit (At place) Never within = within
-lesser_left limit (At place) (At other) within = by_test (ltb other place) (λ q. rw q (omega (arith, ltb-true other place q, within))) (λ q. rw q within)
+lesser_left : (limit : ℕ) (one other : Option ℕ) → UpTo limit one → UpTo limit (lesser_of one other)
+lesser_left limit None other none = absurd none
+lesser_left limit (Some place) None within = within
+lesser_left limit (Some place) (Some other) within = by_test (ltb other place) (λ q. rw q (omega (arith, ltb-true other place q, within))) (λ q. rw q within)
 
-lesser_right : (limit : ℕ) (one other : First) → UpTo limit other → UpTo limit (lesser_of one other)
-lesser_right limit Never other within = within
-lesser_right limit (At place) Never none = absurd none
-lesser_right limit (At place) (At other) within = by_test (ltb other place) (λ q. rw q within) (λ q. rw q (omega (arith, ltb-false other place q, within)))
+lesser_right : (limit : ℕ) (one other : Option ℕ) → UpTo limit other → UpTo limit (lesser_of one other)
+lesser_right limit None other within = within
+lesser_right limit (Some place) None none = absurd none
+lesser_right limit (Some place) (Some other) within = by_test (ltb other place) (λ q. rw q within) (λ q. rw q (omega (arith, ltb-false other place q, within)))
 
-lesser_onward : (from : ℕ) (one other : First) → Onward from one → Onward from other → Onward from (lesser_of one other)
-lesser_onward from Never other left right = right
-lesser_onward from (At place) Never left right = left
-lesser_onward from (At place) (At other) left right = by_test (ltb other place) (λ q. rw q right) (λ q. rw q left)
+lesser_onward : (from : ℕ) (one other : Option ℕ) → Onward from one → Onward from other → Onward from (lesser_of one other)
+lesser_onward from None other left right = right
+lesser_onward from (Some place) None left right = left
+lesser_onward from (Some place) (Some other) left right = by_test (ltb other place) (λ q. rw q right) (λ q. rw q left)
 
-lesser_one : (at : ℕ) (one other : First) → lesser_of one other ≡ At at → (one ≡ At at) ⊎ (other ≡ At at)
-lesser_one at Never other e = inr e
-lesser_one at (At place) Never e = inl e
-lesser_one at (At place) (At other) e = by_test (ltb other place) (λ q. inr (rw q at e)) (λ q. inl (rw q at e))
+lesser_one : (at : ℕ) (one other : Option ℕ) → lesser_of one other ≡ Some at → (one ≡ Some at) ⊎ (other ≡ Some at)
+lesser_one at None other e = inr e
+lesser_one at (Some place) None e = inl e
+lesser_one at (Some place) (Some other) e = by_test (ltb other place) (λ q. inr (rw q at e)) (λ q. inl (rw q at e))
 
 -- the first record of a place, of a tree
 first_of_lem : (from : ℕ) (spot : Spot) (tree : Tree) → first_of (firsts_in from tree) spot ≡ first_in from spot tree
@@ -122,20 +121,20 @@ first_of_lem from expression_head tree = refl
 first_of_lem from closing_character tree = refl
 
 module _ (firsts : Firsts) where
-  abbrev of : Spot → First
+  abbrev of : Spot → Option ℕ
   of spot = first_of firsts spot
 
   -- the lesser of the first two, of the next two, and so on; then of four
-  abbrev ab : First
+  abbrev ab : Option ℕ
   ab = lesser_of (of opening_brace) (of label_colon)
 
-  abbrev cd : First
+  abbrev cd : Option ℕ
   cd = lesser_of (of value_head) (of import_path)
 
-  abbrev ef : First
+  abbrev ef : Option ℕ
   ef = lesser_of (of path_item) (of register_letter)
 
-  abbrev gh : First
+  abbrev gh : Option ℕ
   gh = lesser_of (of expression_head) (of closing_character)
 
   first_half : (limit : ℕ) → UpTo limit (lesser_of ab cd) → UpTo limit (least_of firsts)
@@ -166,7 +165,7 @@ module _ (firsts : Firsts) where
       (lesser_onward from (of expression_head) (of closing_character) (each expression_head) (each closing_character)))
 
   -- and is one of them
-  pub least_one : (at : ℕ) → least_of firsts ≡ At at → (spot : Spot) × (first_of firsts spot ≡ At at)
+  pub least_one : (at : ℕ) → least_of firsts ≡ Some at → (spot : Spot) × (first_of firsts spot ≡ Some at)
   least_one at e =
       ⊎_elim
       (λ half. ⊎_elim
@@ -187,32 +186,32 @@ pub record Told (from : ℕ) (bytes : List ℕ) (used : Use) : Type 0 where
   pub answer : lost_from from bytes ≡ Used at (letters_at (firsts_in from (read_file 64 bytes).tree) at)
   pub onward : from ≤ at
   pub reached : at ≤ used.place
-  pub letter : at ≡ used.place → first_in from used.spot (read_file 64 bytes).tree ≡ At at
+  pub letter : at ≡ used.place → first_in from used.spot (read_file 64 bytes).tree ≡ Some at
 
 -- a first record within bounds stands somewhere
-there : (limit : ℕ) (first : First) → UpTo limit first → (at : ℕ) × ((first ≡ At at) × (at ≤ limit))
-there limit Never none = absurd none
-there limit (At at) within = (at, (refl, within))
+there : (limit : ℕ) (first : Option ℕ) → UpTo limit first → (at : ℕ) × ((first ≡ Some at) × (at ≤ limit))
+there limit None none = absurd none
+there limit (Some at) within = (at, (refl, within))
 
-pub every_use_told : (from : ℕ) (bytes : List ℕ) (before : List Use) (used : Use) (behind : List Use) → batch_checked bytes ≡ Passed
+pub every_use_told : (from : ℕ) (bytes : List ℕ) (before : List Use) (used : Use) (behind : List Use) → batch_checked bytes ≡ no_refusal
     → places_in false (read_file 64 bytes).tree ≡ before ++ (used ∷ behind) → from ≤ used.place → Told from bytes used
 unfolding lost_from
 every_use_told from bytes before used behind passed places here =
     let tree : Tree = (read_file 64 bytes).tree in
     let firsts : Firsts = firsts_in from tree in
     let own : UpTo used.place (first_in from used.spot tree) =
-    subst (λ (uses : List Use). UpTo used.place (first_from from used.spot Never uses)) (sym places) (use_up_to from Never before used behind here) in
+    subst (λ (uses : List Use). UpTo used.place (first_from from used.spot None uses)) (sym places) (use_up_to from None before used behind here) in
     let first = there used.place (first_in from used.spot tree) own in
-    let is : first_of firsts used.spot ≡ At first.0 = first_of_lem from used.spot tree ∙ first.1.0 in
-    let least = there first.0 (least_of firsts) (least_up_to firsts first.0 used.spot (subst (λ (one : First). UpTo first.0 one) (sym is) (omega arith))) in
+    let is : first_of firsts used.spot ≡ Some first.0 = first_of_lem from used.spot tree ∙ first.1.0 in
+    let least = there first.0 (least_of firsts) (least_up_to firsts first.0 used.spot (subst (λ (one : Option ℕ). UpTo first.0 one) (sym is) (omega arith))) in
     let lower : Onward from (least_of firsts) =
-    least_onward firsts from (λ spot. subst (λ (one : First). Onward from one) (sym (first_of_lem from spot tree)) (from_onward from spot Never (places_in false tree) tt)) in
+    least_onward firsts from (λ spot. subst (λ (one : Option ℕ). Onward from one) (sym (first_of_lem from spot tree)) (from_onward from spot None (places_in false tree) tt)) in
     record {
       at = least.0;
       answer = ap (lost_on from tree) passed ∙ ap (answer_with firsts) least.1.0;
-      onward = subst (λ (one : First). Onward from one) least.1.0 lower;
+      onward = subst (λ (one : Option ℕ). Onward from one) least.1.0 lower;
       reached = omega (arith, least.1.1, first.1.1);
-      letter = λ same. first.1.0 ∙ ap (λ (place : ℕ). At place) (omega (arith, least.1.1, first.1.1, same));
+      letter = λ same. first.1.0 ∙ ap (λ (place : ℕ). Some place) (omega (arith, least.1.1, first.1.1, same));
     }
 
 -- ---- nothing else is told
@@ -236,14 +235,14 @@ occurs_on at spot other others found = record {
   same = found.same;
 }
 
-earlier_one : (at : ℕ) (first : First) (place : ℕ) → earlier_of first place ≡ At at → (first ≡ At at) ⊎ (At place ≡ At at)
-earlier_one at Never place e = inr e
-earlier_one at (At other) place e = by_test (ltb place other) (λ q. inr (rw q at e)) (λ q. inl (rw q at e))
+earlier_one : (at : ℕ) (first : Option ℕ) (place : ℕ) → earlier_of first place ≡ Some at → (first ≡ Some at) ⊎ (Some place ≡ Some at)
+earlier_one at None place e = inr e
+earlier_one at (Some other) place e = by_test (ltb place other) (λ q. inr (rw q at e)) (λ q. inl (rw q at e))
 
-at_same : {one other : ℕ} → At one ≡ At other → one ≡ other
+at_same : {one other : ℕ} → Some one ≡ Some other → one ≡ other
 at_same e = cc
 
-from_occurs : (from at : ℕ) (spot : Spot) (first : First) (uses : List Use) → first_from from spot first uses ≡ At at → (first ≡ At at) ⊎ Occurs at spot uses
+from_occurs : (from at : ℕ) (spot : Spot) (first : Option ℕ) (uses : List Use) → first_from from spot first uses ≡ Some at → (first ≡ Some at) ⊎ Occurs at spot uses
 unfolding first_from
 from_occurs from at spot first [] e = inl e
 from_occurs from at spot first (used ∷ others) e =
@@ -258,11 +257,11 @@ from_occurs from at spot first (used ∷ others) e =
     (from_occurs from at spot (earlier_of first used.place) others (rw (q, r) at e))))
     (λ q. ⊎_elim (λ is. inl is) (λ found. inr (occurs_on at spot used others found)) (from_occurs from at spot first others (rw q at e)))
 
-answer_used : (firsts : Firsts) (least : First) (at letters : ℕ) → answer_with firsts least ≡ Used at letters → least ≡ At at
-answer_used firsts Never at letters e = let zero_one : ◌≡◌ {A = ℕ} 0 1 = cc in absurd (omega arith)
-answer_used firsts (At place) at letters e = let same : place ≡ at = cc in ap (λ (place : ℕ). At place) same
+answer_used : (firsts : Firsts) (least : Option ℕ) (at letters : ℕ) → answer_with firsts least ≡ Used at letters → least ≡ Some at
+answer_used firsts None at letters e = let zero_one : ◌≡◌ {A = ℕ} 0 1 = cc in absurd (omega arith)
+answer_used firsts (Some place) at letters e = let same : place ≡ at = cc in ap (λ (place : ℕ). Some place) same
 
-pub told_used : (from : ℕ) (bytes : List ℕ) (at letters : ℕ) → batch_checked bytes ≡ Passed → lost_from from bytes ≡ Used at letters
+pub told_used : (from : ℕ) (bytes : List ℕ) (at letters : ℕ) → batch_checked bytes ≡ no_refusal → lost_from from bytes ≡ Used at letters
     → (spot : Spot) × Occurs at spot (places_in false (read_file 64 bytes).tree)
 unfolding lost_from
 told_used from bytes at letters passed told =
@@ -270,4 +269,4 @@ told_used from bytes at letters passed told =
     let firsts : Firsts = firsts_in from tree in
     let least = answer_used firsts (least_of firsts) at letters (sym (ap (lost_on from tree) passed) ∙ told) in
     let one = least_one firsts at least in
-    (one.0, ⊎_elim (λ none. at_never (sym none)) (λ found. found) (from_occurs from at one.0 Never (places_in false tree) (sym (first_of_lem from one.0 tree) ∙ one.1)))
+    (one.0, ⊎_elim (λ none. at_never (sym none)) (λ found. found) (from_occurs from at one.0 None (places_in false tree) (sym (first_of_lem from one.0 tree) ∙ one.1)))

@@ -1,4 +1,5 @@
 -- What the first records become with the uses that a record shows.
+use Rattle.std.specs.Prelude.{Option}
 use mathlib.Core.Path.{◌≡◌, refl, sym, ap, ◌∙◌}
 use mathlib.Core.List.{List, [], ◌∷◌, ◌++◌, append-nil}
 use mathlib.Core.Bool.{Bool, true, false, cond, ◌&&◌, ◌||◌}
@@ -11,13 +12,12 @@ use Rattle.tree.specs.declared.grammar.Class.{Class}
 use Rattle.reading.specs.Places.{Spot, Use, spot_number, opening_brace, label_colon, value_head, import_path, path_item, register_letter, expression_head, mark}
 use Rattle.losses.specs.Lost.{first_with, first_from}
 use Rattle.losses.specs.Visits.{first_of, TakesIf, TakesAll, kind_spot, own_spot, head_spot, own_marks, head_marks}
-use Rattle.losses.specs.declared.firsts.First.{First}
 use Rattle.losses.specs.declared.firsts.Firsts.{Firsts}
 use Rattle.losses.proofs.Steps.{no_spot_lem}
 
 -- ---- uses behind others
 
-pub from_append : (from : ℕ) (spot : Spot) (first : First) (some others : List Use)
+pub from_append : (from : ℕ) (spot : Spot) (first : Option ℕ) (some others : List Use)
     → first_from from spot first (some ++ others) ≡ first_from from spot (first_from from spot first some) others
 unfolding first_from
 from_append from spot first [] others = refl
@@ -28,7 +28,7 @@ module _ {after middle before : Firsts} {from : ℕ} {some others : List Use} wh
   pub all_then : TakesAll middle before from some → TakesAll after middle from others → TakesAll after before from (some ++ others)
   all_then first second = record {
     each = λ spot.
-        second.each spot ∙ ap (λ (first : First). first_from from spot first others) (first.each spot) ∙ sym (from_append from spot (first_of before spot) some others);
+        second.each spot ∙ ap (λ (first : Option ℕ). first_from from spot first others) (first.each spot) ∙ sym (from_append from spot (first_of before spot) some others);
   }
 
 -- none

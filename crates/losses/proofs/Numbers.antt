@@ -1,31 +1,28 @@
 -- The answer of `lost` has the number and value of document 01.
 --   lost_numbers_lem : loss ≡ lost_from from bytes → numbers_lost loss ≡ lost_numbers from bytes
+use Rattle.std.specs.Prelude.{Option, Some, None, Ok, Err}
 use mathlib.Core.Path.{◌≡◌, refl, ap, ◌∙◌}
 use mathlib.Core.List.{List}
 use Prim.Native.Nat.{ℕ}
-use Rattle.answers.specs.Numbers.{numbers_checked, unless_refused}
+use Rattle.answers.specs.Numbers.{numbers_checked, unless_refused, Checked}
 use Rattle.answers.proofs.Numbers.{refused_number}
-use Rattle.answers.specs.declared.Checked.{Checked}
-use Rattle.answers.specs.declared.Checked.TheVariants.{Passed, Failed}
 use Rattle.tree.specs.Checking.{read_file, batch_checked}
 use Rattle.tree.specs.Tree.{Tree}
 use Rattle.tree.proofs.Numbers.{tree_numbers_lem}
 use Rattle.losses.specs.Lost.{firsts_in, least_of, answer_with, lost_on, lost_from, numbers_lost, loss_value, lost_numbers}
-use Rattle.losses.specs.declared.firsts.First.{First}
-use Rattle.losses.specs.declared.firsts.First.TheVariants.{At, Never}
 use Rattle.losses.specs.declared.firsts.Firsts.{Firsts}
 use Rattle.losses.specs.declared.search.Loss.{Loss}
 
 -- of the record that is found
-value_numbers : (firsts : Firsts) (least : First) → numbers_lost (answer_with firsts least) ≡ (0, loss_value firsts least)
-value_numbers firsts Never = refl
-value_numbers firsts (At at) = refl
+value_numbers : (firsts : Firsts) (least : Option ℕ) → numbers_lost (answer_with firsts least) ≡ (0, loss_value firsts least)
+value_numbers firsts None = refl
+value_numbers firsts (Some at) = refl
 
 -- of a tree by its judgement
 checked_numbers : (from : ℕ) (tree : Tree) (checked : Checked)
     → numbers_lost (lost_on from tree checked) ≡ unless_refused (numbers_checked checked) (0, loss_value (firsts_in from tree) (least_of (firsts_in from tree)))
-checked_numbers from tree Passed = value_numbers (firsts_in from tree) (least_of (firsts_in from tree))
-checked_numbers from tree (Failed refusal) = rw (refused_number refusal.reason) refl
+checked_numbers from tree (Ok tt) = value_numbers (firsts_in from tree) (least_of (firsts_in from tree))
+checked_numbers from tree (Err refusal) = rw (refused_number refusal.reason) refl
 
 -- so an answer that is known has them
 pub lost_numbers_lem : {loss : Loss} (from : ℕ) (bytes : List ℕ) → loss ≡ lost_from from bytes → numbers_lost loss ≡ lost_numbers from bytes

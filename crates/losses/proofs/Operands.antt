@@ -1,4 +1,6 @@
 -- The closing character of an operand that was read without refusal: where it stands, and whether it is printed.
+use Rattle.std.specs.Prelude.{Result, Some, Ok, Err}
+use Rattle.answers.specs.Numbers.{no_refusal}
 use mathlib.Core.Path.{◌≡◌, refl, sym, ap, ◌∙◌}
 use mathlib.Core.Logic.{⊎_elim}
 use mathlib.Core.List.{List, [], ◌∷◌}
@@ -11,7 +13,6 @@ use lib.Seq.{slice, slice_empty, slice-cons}
 use lib.Dec.{eqb, ltb}
 use borrow.Author.Tests.{ltb-true, ltb-false}
 use Rattle.answers.specs.declared.Refusal.{Refusal}
-use Rattle.answers.specs.declared.Checked.TheVariants.{Passed}
 use Rattle.text.proofs.Choices.{by_test, true_false, and_true_left, and_true_right}
 use Rattle.tree.specs.Grammar.{Slot, must, may, kind_of, rule, fields}
 use Rattle.tree.specs.Own.{fields_fit, read_own}
@@ -22,12 +23,7 @@ use Rattle.tree.specs.declared.grammar.Class.{Class}
 use Rattle.tree.specs.declared.grammar.Class.TheVariants.{LocatedExpression, Char, AddressingMode, SuffixRecord}
 use Rattle.tree.specs.declared.grammar.Kind.{Kind}
 use Rattle.tree.specs.declared.grammar.Kind.TheVariants as variant
-use Rattle.tree.specs.declared.grammar.KindRead.TheVariants.{Known}
 use Rattle.tree.specs.declared.own.Own.{Own}
-use Rattle.tree.specs.declared.own.OwnRead.{OwnRead}
-use Rattle.tree.specs.declared.own.OwnRead.TheVariants.{Record, Refused}
-use Rattle.tree.specs.declared.parts.Skipped.{Skipped}
-use Rattle.tree.specs.declared.parts.Skipped.TheVariants.{Next, NotSkipped}
 use Rattle.tree.proofs.OwnBytes.{own_fits}
 use Rattle.tree.proofs.Cases.{both_passed}
 use Rattle.events.specs.Views.{view, token_number, stands_at, index_of, bit_at}
@@ -38,8 +34,6 @@ use Rattle.leaves.proofs.Fielded.{standing_range}
 use Rattle.reading.specs.Places.{at_closing_character}
 use Rattle.losses.specs.Visits.{behind_field, index_in, part_trees, Takes, TakesIf, Shows, TakesClosing}
 use Rattle.losses.specs.declared.firsts.Firsts.{Firsts}
-use Rattle.losses.specs.declared.uses.Seen.{Seen}
-use Rattle.losses.specs.declared.uses.Seen.TheVariants.{Shown}
 use Rattle.losses.proofs.Steps.{takes_used, takes_unused}
 use Rattle.losses.proofs.Records.{node_read, inner_number}
 use Rattle.losses.proofs.Passed.{next_unskipped, same_next, own_unread, passed_at, passed_skip, shows_it}
@@ -62,8 +56,8 @@ module _ (reader : Reader) (slot : Slot) (slots : List Slot) (bits at : ℕ) whe
   first_trees = by_test (eqb (bits % 2) 1) (λ q. rw q refl) (λ q. rw q refl)
 
   -- where they pass it does, and so do those behind it
-  first_passed : (read_parts reader (fields_due (slot ∷ slots) bits) at).checked ≡ Passed
-      → (bit_at 0 bits ≡ true → (reader (slot_class slot) at).checked ≡ Passed) × ((read_parts reader (fields_due slots (bits / 2)) next).checked ≡ Passed)
+  first_passed : (read_parts reader (fields_due (slot ∷ slots) bits) at).checked ≡ no_refusal
+      → (bit_at 0 bits ≡ true → (reader (slot_class slot) at).checked ≡ no_refusal) × ((read_parts reader (fields_due slots (bits / 2)) next).checked ≡ no_refusal)
   unfolding fields_due read_parts bit_at
   first_passed passed =
       by_test (eqb (bits % 2) 1)
@@ -90,10 +84,10 @@ module _ (reader : Reader) (bits at : ℕ) where
 
   -- what is known of them
   record OperandRead (trees : List Tree) : Type 0 where
-    pub expression : (reader LocatedExpression at).checked ≡ Passed
-    pub opening : bit_at 1 bits ≡ true → (reader Char lchar_at).checked ≡ Passed
-    pub closing : bit_at 2 bits ≡ true → (reader Char rchar_at).checked ≡ Passed
-    pub mode : (reader AddressingMode mode_at).checked ≡ Passed
+    pub expression : (reader LocatedExpression at).checked ≡ no_refusal
+    pub opening : bit_at 1 bits ≡ true → (reader Char lchar_at).checked ≡ no_refusal
+    pub closing : bit_at 2 bits ≡ true → (reader Char rchar_at).checked ≡ no_refusal
+    pub mode : (reader AddressingMode mode_at).checked ≡ no_refusal
     pub rchar : get_or trees 2 absent ≡ cond (bit_at 2 bits) (reader Char rchar_at).tree absent
     pub index : get_or trees 3 absent ≡ (reader AddressingMode mode_at).tree
 
@@ -105,7 +99,7 @@ module _ (reader : Reader) (bits at : ℕ) where
     and_true_left (eqb (bits / 2 / 2 / 2 % 2) 1) _ (and_true_right (eqb (bits % 2) 1) _ fits),
   )
 
-  operand_read : fields_fit operand_slots bits ≡ true → (read_parts reader (fields_due operand_slots bits) at).checked ≡ Passed
+  operand_read : fields_fit operand_slots bits ≡ true → (read_parts reader (fields_due operand_slots bits) at).checked ≡ no_refusal
       → OperandRead (read_parts reader (fields_due operand_slots bits) at).trees
   unfolding bit_at
   operand_read fits passed =
@@ -141,14 +135,14 @@ slice_first bytes start end part inside =
     let same : start ≡ end = le_antisymm part (ltb-false start end q) in
     rw q (ap (λ (text : List ℕ). get_or text 0 0) (ap (λ (place : ℕ). slice place end bytes) same ∙ slice_empty end bytes)))
 
-index_read : (levels : ℕ) (bytes : List ℕ) (at : ℕ) (own : Own) → read_own bytes at AddressingMode levels ≡ Record own
+index_read : (levels : ℕ) (bytes : List ℕ) (at : ℕ) (own : Own) → read_own bytes at AddressingMode levels ≡ Ok own
     → get_or (index_of (read levels bytes AddressingMode at).tree) 0 0 ≡ index_in bytes own
 unfolding built view
 index_read levels bytes at own is =
     let headed = (record_headed bytes at AddressingMode levels own is).1 in
     let within = standing_range (rule AddressingMode) (get_or bytes at 0) refl headed.standing in
     let number : get_or bytes at 0 ≡ 25 = le_antisymm within.1 within.0 in
-    let known : kind_of 25 ≡ Known own.kind = rw number at headed.kind_is in
+    let known : kind_of 25 ≡ Some own.kind = rw number at headed.kind_is in
     let leaf : own.kind ≡ variant.Leaf = cc in
     let fits = own_fits bytes at AddressingMode levels own is in
     rw (node_read levels bytes AddressingMode at own is, leaf) (slice_first bytes own.text own.end fits.part fits.inside)
@@ -167,10 +161,10 @@ module _ (levels : ℕ) (bytes : List ℕ) {bits at : ℕ} {trees : List Tree} (
   printed = mode_at (read levels bytes) bits at
 
   -- what is skipped on the way to the character
-  expression_skipped : skipped levels bytes LocatedExpression at ≡ Next opens
+  expression_skipped : skipped levels bytes LocatedExpression at ≡ Ok opens
   expression_skipped = passed_skip levels bytes LocatedExpression at held.expression
 
-  opening_skipped : behind_field levels bytes Char opens (bit_at 1 bits) ≡ Next closes
+  opening_skipped : behind_field levels bytes Char opens (bit_at 1 bits) ≡ Ok closes
   opening_skipped = by_test (bit_at 1 bits) (λ q. rw q (passed_skip levels bytes Char opens (held.opening q))) (λ q. rw q)
 
   -- it does not stand
@@ -186,11 +180,11 @@ module _ (levels : ℕ) (bytes : List ℕ) {bits at : ℕ} {trees : List Tree} (
     closing_at = rw (held.rchar, there) (passed_at levels bytes Char closes (held.closing there))
 
     -- the mode stands behind it
-    closing_skipped : skipped levels bytes Char closes ≡ Next printed
+    closing_skipped : skipped levels bytes Char closes ≡ Ok printed
     closing_skipped = rw there (passed_skip levels bytes Char closes (held.closing there))
 
     -- and it counts where the mode prints none
-    closing_used : (leaf : Own) → read_own bytes printed AddressingMode levels ≡ Record leaf
+    closing_used : (leaf : Own) → read_own bytes printed AddressingMode levels ≡ Ok leaf
         → at_closing_character (index_of (get_or trees 3 absent)) (get_or trees 2 absent) ≡ not (eqb (index_in bytes leaf) 3 || eqb (index_in bytes leaf) 4)
     closing_used leaf is =
         let same : get_or (index_of (get_or trees 3 absent)) 0 0 ≡ index_in bytes leaf =
@@ -198,8 +192,8 @@ module _ (levels : ℕ) (bytes : List ℕ) {bits at : ℕ} {trees : List Tree} (
         rw (same, held.rchar, there, read_stands levels bytes Char closes, and-true _)
 
 -- they are read so
-module _ (levels : ℕ) (bytes : List ℕ) (class : Class) (at : ℕ) (own : Own) (is : read_own bytes at class levels ≡ Record own) (operand : own.kind ≡ variant.Operand)
-    (passed : (read levels bytes class at).checked ≡ Passed) where
+module _ (levels : ℕ) (bytes : List ℕ) (class : Class) (at : ℕ) (own : Own) (is : read_own bytes at class levels ≡ Ok own) (operand : own.kind ≡ variant.Operand)
+    (passed : (read levels bytes class at).checked ≡ no_refusal) where
   abbrev reader : Reader
   reader = read (levels - 1) bytes
 
@@ -226,7 +220,7 @@ module _ (levels : ℕ) (bytes : List ℕ) (class : Class) (at : ℕ) (own : Own
       let due : parts_due class own ≡ fields_due operand_slots bits =
       held.parts ∙ ap (λ (kind : Kind). fields_due (fields kind (rule class).value) bits) operand in
       let fits : fields_fit operand_slots bits ≡ true = rw operand at (held.fits (rw (sym operand_number))) in
-      let parts_passed : (read_parts reader (parts_due class own) own.end).checked ≡ Passed =
+      let parts_passed : (read_parts reader (parts_due class own) own.end).checked ≡ no_refusal =
       sym (ap (λ (reading : Reading). reading.checked) (read_record bytes class at levels own is).1) ∙ passed in
       rw (sym due) at (operand_read reader bits own.end fits (rw due at parts_passed))
 
@@ -240,67 +234,67 @@ module _ (levels : ℕ) (bytes : List ℕ) (own : Own) where
   Held trees = OperandRead (read below bytes) (own.map / 2) own.end trees
 
   -- by what is read of its fields
-  by_parts : {seen : Seen} {before : Firsts} {from : ℕ}
+  by_parts : {seen : Result Firsts Refusal} {before : Firsts} {from : ℕ}
       → ((trees : List Tree) → Held trees → Shows seen (λ after. TakesIf after before from (stands_at (get_or trees 2 absent)) 7
       (at_closing_character (index_of (get_or trees 3 absent)) (get_or trees 2 absent)))) → TakesClosing seen before from levels bytes own
   by_parts shows class at is operand passed = shows (part_trees levels bytes class own) (parts_held levels bytes class at own is operand passed)
 
   -- where it does not stand
   pub takes_no_closing : {before : Firsts} {from : ℕ} {there : Bool} → there ≡ bit_at 2 (own.map / 2) → there ≡ false
-      → TakesClosing (Shown before) before from levels bytes own
+      → TakesClosing (Ok before) before from levels bytes own
   takes_no_closing same none = by_parts (λ trees held. shows_it (takes_unused (closing_absent below bytes held (sym same ∙ none))))
 
   -- where it does: nothing that is read on the way to it and to the mode is refused
   module _ {there : Bool} (stands-third : there ≡ bit_at 2 (own.map / 2)) (yes-there : there ≡ true)
-      {expression : Skipped} (expression-is : expression ≡ skipped below bytes LocatedExpression own.end) where
+      {expression : Result ℕ Refusal} (expression-is : expression ≡ skipped below bytes LocatedExpression own.end) where
     it_stands : bit_at 2 (own.map / 2) ≡ true
     it_stands = sym stands-third ∙ yes-there
 
-    pub no_expression : {seen : Seen} {before : Firsts} {from : ℕ} {why : Refusal} → expression ≡ NotSkipped why → TakesClosing seen before from levels bytes own
+    pub no_expression : {seen : Result Firsts Refusal} {before : Firsts} {from : ℕ} {why : Refusal} → expression ≡ Err why → TakesClosing seen before from levels bytes own
     no_expression none = by_parts (λ trees held. next_unskipped (sym (expression_skipped below bytes held) ∙ sym expression-is ∙ none))
 
-    module _ {lchar : ℕ} (lchar-is : expression ≡ Next lchar) {second : Bool} (stands-second : second ≡ bit_at 1 (own.map / 2))
-        {opening : Skipped} (opening-is : opening ≡ behind_field below bytes Char lchar second) where
-      opening_there : {trees : List Tree} (held : Held trees) → opening ≡ Next (closes below bytes held)
+    module _ {lchar : ℕ} (lchar-is : expression ≡ Ok lchar) {second : Bool} (stands-second : second ≡ bit_at 1 (own.map / 2))
+        {opening : Result ℕ Refusal} (opening-is : opening ≡ behind_field below bytes Char lchar second) where
+      opening_there : {trees : List Tree} (held : Held trees) → opening ≡ Ok (closes below bytes held)
       opening_there held =
           let same = same_next (sym lchar-is ∙ expression-is ∙ expression_skipped below bytes held) in
           opening-is ∙ rw (same, stands-second) (opening_skipped below bytes held)
 
-      pub no_opening : {seen : Seen} {before : Firsts} {from : ℕ} {why : Refusal} → opening ≡ NotSkipped why → TakesClosing seen before from levels bytes own
+      pub no_opening : {seen : Result Firsts Refusal} {before : Firsts} {from : ℕ} {why : Refusal} → opening ≡ Err why → TakesClosing seen before from levels bytes own
       no_opening none = by_parts (λ trees held. next_unskipped (sym (opening_there held) ∙ none))
 
-      module _ {rchar : ℕ} (rchar-is : opening ≡ Next rchar) {closing : Skipped} (closing-is : closing ≡ skipped below bytes Char rchar) where
+      module _ {rchar : ℕ} (rchar-is : opening ≡ Ok rchar) {closing : Result ℕ Refusal} (closing-is : closing ≡ skipped below bytes Char rchar) where
         rchar_there : {trees : List Tree} (held : Held trees) → rchar ≡ closes below bytes held
         rchar_there held = same_next (sym rchar-is ∙ opening_there held)
 
-        closing_there : {trees : List Tree} (held : Held trees) → closing ≡ Next (printed below bytes held)
+        closing_there : {trees : List Tree} (held : Held trees) → closing ≡ Ok (printed below bytes held)
         closing_there held = closing-is ∙ rw (rchar_there held) (closing_skipped below bytes held it_stands)
 
-        pub no_closing : {seen : Seen} {before : Firsts} {from : ℕ} {why : Refusal} → closing ≡ NotSkipped why → TakesClosing seen before from levels bytes own
+        pub no_closing : {seen : Result Firsts Refusal} {before : Firsts} {from : ℕ} {why : Refusal} → closing ≡ Err why → TakesClosing seen before from levels bytes own
         no_closing none = by_parts (λ trees held. next_unskipped (sym (closing_there held) ∙ none))
 
-        module _ {mode : ℕ} (mode-is : closing ≡ Next mode) {found : OwnRead} (found-is : found ≡ read_own bytes mode AddressingMode below) where
+        module _ {mode : ℕ} (mode-is : closing ≡ Ok mode) {found : Result Own Refusal} (found-is : found ≡ read_own bytes mode AddressingMode below) where
           mode_there : {trees : List Tree} (held : Held trees) → read_own bytes (printed below bytes held) AddressingMode below ≡ found
           mode_there held =
               sym (found-is ∙ ap (λ (place : ℕ). read_own bytes place AddressingMode below) (same_next (sym mode-is ∙ closing_there held)))
 
-          pub no_mode : {seen : Seen} {before : Firsts} {from : ℕ} {why : Refusal} → found ≡ Refused why → TakesClosing seen before from levels bytes own
+          pub no_mode : {seen : Result Firsts Refusal} {before : Firsts} {from : ℕ} {why : Refusal} → found ≡ Err why → TakesClosing seen before from levels bytes own
           no_mode none = by_parts (λ trees held. own_unread below bytes AddressingMode (printed below bytes held) held.mode (mode_there held ∙ none))
 
           -- the index that the leaf holds tells whether it counts
-          module _ (leaf : Own) (leaf-is : found ≡ Record leaf) {index : ℕ} (index_is : index ≡ index_in bytes leaf) where
+          module _ (leaf : Own) (leaf-is : found ≡ Ok leaf) {index : ℕ} (index_is : index ≡ index_in bytes leaf) where
             used_there : {trees : List Tree} (held : Held trees)
                 → at_closing_character (index_of (get_or trees 3 absent)) (get_or trees 2 absent) ≡ not (eqb index 3 || eqb index 4)
             used_there held =
                 closing_used below bytes held it_stands leaf (mode_there held ∙ leaf-is) ∙ ap (λ (index : ℕ). not (eqb index 3 || eqb index 4)) (sym index_is)
 
             -- the mode prints it
-            pub takes_printed : {before : Firsts} {from : ℕ} → (eqb index 3 || eqb index 4) ≡ true → TakesClosing (Shown before) before from levels bytes own
+            pub takes_printed : {before : Firsts} {from : ℕ} → (eqb index 3 || eqb index 4) ≡ true → TakesClosing (Ok before) before from levels bytes own
             takes_printed prints = by_parts (λ trees held. shows_it (takes_unused (used_there held ∙ ap not prints)))
 
             -- or not
             pub takes_closing : {after before : Firsts} {from : ℕ} → (eqb index 3 || eqb index 4) ≡ false → Takes after before from rchar 7
-                → TakesClosing (Shown after) before from levels bytes own
+                → TakesClosing (Ok after) before from levels bytes own
             takes_closing omits takes =
                 by_parts
                 (λ trees held. shows_it (rw (closing_at below bytes held it_stands ∙ sym (rchar_there held)) (takes_used (used_there held ∙ ap not omits) takes)))

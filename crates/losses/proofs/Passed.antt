@@ -1,56 +1,50 @@
 -- A record that was read without refusal: its own bytes were read, it stands at its place, it is skipped, and an answer
 -- to it is no refusal.
 --   own_unread, next_unskipped, shows_never, finds_never : a refusal of it, from which anything follows
+use Rattle.std.specs.Prelude.{Result, Ok, Err}
+use Rattle.answers.specs.Numbers.{no_refusal}
 use mathlib.Core.Path.{◌≡◌, refl, sym, ap, ◌∙◌}
 use mathlib.Core.List.{List}
 use Prim.Native.Nat.{ℕ}
 use native.Mathlib.Omega.{arith}
 use Rattle.answers.specs.declared.Refusal.{Refusal}
-use Rattle.answers.specs.declared.Checked.TheVariants.{Passed}
 use Rattle.answers.proofs.Cases.{failed_passed}
 use Rattle.tree.specs.Own.{read_own}
 use Rattle.tree.specs.Parts.{skipped}
 use Rattle.tree.specs.Reading.{read}
 use Rattle.tree.specs.declared.grammar.Class.{Class}
 use Rattle.tree.specs.declared.own.Own.{Own}
-use Rattle.tree.specs.declared.own.OwnRead.{OwnRead}
-use Rattle.tree.specs.declared.own.OwnRead.TheVariants.{Record, Refused}
-use Rattle.tree.specs.declared.parts.Skipped.TheVariants.{Next, NotSkipped}
 use Rattle.events.specs.Views.{view, stands_at}
 use Rattle.events.proofs.Heads.{own_refused}
 use Rattle.events.proofs.Passed.{own_passed}
 use Rattle.events.proofs.Refusals.{read_refusal}
 use Rattle.losses.specs.Visits.{Shows, Finds}
 use Rattle.losses.specs.declared.firsts.Firsts.{Firsts}
-use Rattle.losses.specs.declared.uses.Seen.{Seen}
-use Rattle.losses.specs.declared.uses.Seen.TheVariants as seeing
-use Rattle.losses.specs.declared.search.Searched.{Searched}
-use Rattle.losses.specs.declared.search.Searched.TheVariants as searching
 use Rattle.losses.proofs.Records.{node_read}
 
 -- ---- the bytes
 
 -- a place behind a record is no refusal
-pub next_unskipped : {R : Type 0} {place : ℕ} {why : Refusal} → Next place ≡ NotSkipped why → R
+pub next_unskipped : {R : Type 0} {place : ℕ} {why : Refusal} → ◌≡◌ {A = Result ℕ Refusal} (Ok place) (Err why) → R
 next_unskipped e = let z : ◌≡◌ {A = ℕ} 0 1 = cc in absurd (omega arith)
 
 -- and is the only one
-pub same_next : {place other : ℕ} → Next place ≡ Next other → place ≡ other
+pub same_next : {place other : ℕ} → ◌≡◌ {A = Result ℕ Refusal} (Ok place) (Ok other) → place ≡ other
 same_next e = cc
 
-module _ (levels : ℕ) (bytes : List ℕ) (class : Class) (at : ℕ) (passed : (read levels bytes class at).checked ≡ Passed) where
+module _ (levels : ℕ) (bytes : List ℕ) (class : Class) (at : ℕ) (passed : (read levels bytes class at).checked ≡ no_refusal) where
   -- its own bytes were not refused
-  pub own_unread : {R : Type 0} {why : Refusal} → read_own bytes at class levels ≡ Refused why → R
+  pub own_unread : {R : Type 0} {why : Refusal} → read_own bytes at class levels ≡ Err why → R
   own_unread {R} {why} is =
       failed_passed (sym (own_refused levels bytes class at why is) ∙ own_passed (read levels bytes class at).tree (read_refusal levels bytes class at ∙ passed))
 
   -- so they were read
-  pub own_there : (own : Own) × (read_own bytes at class levels ≡ Record own)
+  pub own_there : (own : Own) × (read_own bytes at class levels ≡ Ok own)
   own_there = go (read_own bytes at class levels) refl
     where
-      go : (found : OwnRead) → read_own bytes at class levels ≡ found → (own : Own) × (read_own bytes at class levels ≡ Record own)
-      go (Record own) is = (own, is)
-      go (Refused why) is = own_unread is
+      go : (found : Result Own Refusal) → read_own bytes at class levels ≡ found → (own : Own) × (read_own bytes at class levels ≡ Ok own)
+      go (Ok own) is = (own, is)
+      go (Err why) is = own_unread is
 
   -- it stands at its place
   pub passed_at : stands_at (read levels bytes class at).tree ≡ at
@@ -58,43 +52,44 @@ module _ (levels : ℕ) (bytes : List ℕ) (class : Class) (at : ℕ) (passed : 
   passed_at = ap stands_at (node_read levels bytes class at own_there.0 own_there.1)
 
   -- it is skipped
-  pub passed_skip : skipped levels bytes class at ≡ Next (read levels bytes class at).end
+  pub passed_skip : skipped levels bytes class at ≡ Ok (read levels bytes class at).end
   unfolding skipped
   passed_skip = rw passed
 
 -- ---- an answer to it
 
 -- what was shown is no refusal
-pub shown_refused : {R : Type 0} {firsts : Firsts} {why : Refusal} → seeing.Shown firsts ≡ seeing.Refused why → R
+pub shown_refused : {R : Type 0} {firsts : Firsts} {why : Refusal} → Ok firsts ≡ Err why → R
 shown_refused e = let z : ◌≡◌ {A = ℕ} 0 1 = cc in absurd (omega arith)
 
 module _ {held : Firsts → Type 0} where
-  pub shows_it : {firsts : Firsts} → held firsts → Shows (seeing.Shown firsts) held
+  pub shows_it : {firsts : Firsts} → held firsts → Shows (Ok firsts) held
   shows_it {firsts} holds = record { firsts = firsts; is = refl; holds = holds }
 
   -- what holds of it
-  pub shows_held : {seen : Seen} {firsts : Firsts} → seen ≡ seeing.Shown firsts → Shows seen held → held firsts
+  pub shows_held : {seen : Result Firsts Refusal} {firsts : Firsts} → seen ≡ Ok firsts → Shows seen held → held firsts
   shows_held {seen} {firsts} shown shows =
       let both = sym shows.is ∙ shown in
       let same : shows.firsts ≡ firsts = cc in
       rw same at shows.holds
 
-  pub shows_never : {R : Type 0} {seen : Seen} {why : Refusal} → seen ≡ seeing.Refused why → Shows seen held → R
+  pub shows_never : {R : Type 0} {seen : Result Firsts Refusal} {why : Refusal} → seen ≡ Err why → Shows seen held → R
   shows_never refused shows = shown_refused (sym shows.is ∙ refused)
 
 module _ {held : ℕ → Firsts → Type 0} where
-  pub finds_it : {end : ℕ} {firsts : Firsts} → held end firsts → Finds (searching.Whole end firsts) held
+  pub finds_it : {end : ℕ} {firsts : Firsts} → held end firsts → Finds (Ok (end, firsts)) held
   finds_it {end} {firsts} holds = record { end = end; firsts = firsts; is = refl; holds = holds }
 
   -- what holds of it
-  pub finds_held : {searched : Searched} {end : ℕ} {firsts : Firsts} → searched ≡ searching.Whole end firsts → Finds searched held → held end firsts
+  pub finds_held : {searched : Result (ℕ × Firsts) Refusal} {end : ℕ} {firsts : Firsts} → searched ≡ Ok (end, firsts) → Finds searched held → held end firsts
   finds_held {searched} {end} {firsts} whole finds =
       let both = sym finds.is ∙ whole in
-      let same : finds.firsts ≡ firsts = cc in
-      let behind : finds.end ≡ end = cc in
+      let pair : ◌≡◌ {A = ℕ × Firsts} (finds.end, finds.firsts) (end, firsts) = cc in
+      let same : finds.firsts ≡ firsts = ap (λ (found : ℕ × Firsts). found.1) pair in
+      let behind : finds.end ≡ end = ap (λ (found : ℕ × Firsts). found.0) pair in
       rw (same, behind) at finds.holds
 
-  pub finds_never : {R : Type 0} {searched : Searched} {why : Refusal} → searched ≡ searching.Refused why → Finds searched held → R
+  pub finds_never : {R : Type 0} {searched : Result (ℕ × Firsts) Refusal} {why : Refusal} → searched ≡ Err why → Finds searched held → R
   finds_never refused finds =
       let both = sym finds.is ∙ refused in
       let z : ◌≡◌ {A = ℕ} 0 1 = cc in

@@ -1,4 +1,5 @@
 -- The uses of a record: what it shows by itself, then those of its parts.
+use Rattle.std.specs.Prelude.{Some, None, Ok}
 use mathlib.Core.Path.{◌≡◌, refl, sym, ap, ◌∙◌}
 use mathlib.Core.Logic.{⊎_elim}
 use mathlib.Core.List.{List, [], ◌++◌, append-nil, append_assoc}
@@ -18,12 +19,9 @@ use Rattle.tree.specs.Rows.{class_number, class_of}
 use Rattle.tree.specs.Walk.{standing}
 use Rattle.tree.specs.declared.grammar.Kind.{Kind}
 use Rattle.tree.specs.declared.grammar.Kind.TheVariants as variant
-use Rattle.tree.specs.declared.grammar.KindRead.TheVariants.{Known}
 use Rattle.tree.specs.declared.grammar.Class.{Class}
 use Rattle.tree.specs.declared.grammar.Class.TheVariants as class
 use Rattle.tree.specs.declared.own.Own.{Own}
-use Rattle.tree.specs.declared.own.OwnRead.TheVariants.{Record}
-use Rattle.tree.specs.declared.grammar.Items.TheVariants.{NoList}
 use Rattle.tree.proofs.Rows.{class_back}
 use Rattle.events.specs.Views.{view, own_trivia, head_of, stands_at, token_number}
 use Rattle.events.proofs.OwnParts.{Fielded, record_parts, record_headed, token_number_lem}
@@ -87,7 +85,7 @@ token_class_lem class is =
 
 -- ---- the parts of a record that was read
 
-module _ (levels : ℕ) (bytes : List ℕ) (class : Class) (at : ℕ) (own : Own) (is : read_own bytes at class levels ≡ Record own) where
+module _ (levels : ℕ) (bytes : List ℕ) (class : Class) (at : ℕ) (own : Own) (is : read_own bytes at class levels ≡ Ok own) where
   abbrev parts : List Tree
   parts = part_trees levels bytes class own
 
@@ -144,7 +142,7 @@ module _ (class : Class) (number at : ℕ) (stands : may_stand (rule class) numb
       ++ (head_marks class number listed (stands_at head) (has_comment (own_trivia head)) ++ closing_marks number parts)) ++ others
 
   -- a leaf: a brace, a colon or a register
-  leaf_met : (leaf : ℕ) → eqb (class_number class) leaf ≡ true → (rule (class_of leaf)).items ≡ NoList → (rule (class_of leaf)).first ≡ 25 → (rule (class_of leaf)).last ≡ 25
+  leaf_met : (leaf : ℕ) → eqb (class_number class) leaf ≡ true → (rule (class_of leaf)).items ≡ None → (rule (class_of leaf)).first ≡ 25 → (rule (class_of leaf)).last ≡ 25
       → number ≡ 25
   leaf_met leaf is items first last =
       let within = standing_range (rule (class_of leaf)) number items (rw (class_is class leaf is) at stands) in
@@ -154,7 +152,7 @@ module _ (class : Class) (number at : ℕ) (stands : may_stand (rule class) numb
   token_met : (eqb (class_number class) 20 || eqb (class_number class) 21) ≡ true → number ≤ 23
   token_met is =
       let tokens = token_class_lem class is in
-      let none : (rule class).items ≡ NoList = rw tokens.1 in
+      let none : (rule class).items ≡ None = rw tokens.1 in
       let last : (rule class).last ≡ 23 = rw tokens.1 in
       rw last at (standing_range (rule class) number none stands).1
 
@@ -193,12 +191,12 @@ module _ (class : Class) (number at : ℕ) (stands : may_stand (rule class) numb
       (token_uses brace colon register)
       (other_uses brace colon register))))
 
-module _ (levels : ℕ) (bytes : List ℕ) (class : Class) (at : ℕ) (own : Own) (is : read_own bytes at class levels ≡ Record own) where
+module _ (levels : ℕ) (bytes : List ℕ) (class : Class) (at : ℕ) (own : Own) (is : read_own bytes at class levels ≡ Ok own) where
   -- the head of an `Expression` is its expression's
   nine_head : get_or bytes at 0 ≡ 9 → head_of (read levels bytes class at).tree ≡ head_of (get_or (part_trees levels bytes class own) 0 absent)
   unfolding built view
   nine_head number =
-      let known : kind_of 9 ≡ Known own.kind = rw number at (record_headed bytes at class levels own is).1.kind_is in
+      let known : kind_of 9 ≡ Some own.kind = rw number at (record_headed bytes at class levels own is).1.kind_is in
       let same : own.kind ≡ variant.Expression = cc in
       rw (node_read levels bytes class at own is) (rw same refl)
 

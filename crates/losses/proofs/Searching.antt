@@ -1,33 +1,24 @@
 -- The loop over a record's parts: the plan that is left goes on with the search of the parts.
+use Rattle.std.specs.Prelude.{Option, Result, Some, None, Ok, Err}
+use Rattle.answers.specs.Numbers.{no_refusal}
 use mathlib.Core.Path.{◌≡◌, refl, sym, ap, ◌∙◌}
 use mathlib.Core.List.{List, []}
 use mathlib.Core.Bool.{Bool}
 use Prim.Native.Nat.{ℕ, ◌-◌}
 use lib.ListN.{get_or}
 use Rattle.answers.specs.declared.Refusal.{Refusal}
-use Rattle.answers.specs.declared.Checked.TheVariants.{Passed}
 use Rattle.tree.specs.Own.{read_own}
 use Rattle.tree.specs.Reading.{Due, Reading, Reader, parts_due, read}
 use Rattle.tree.specs.Walk.{Plans, standing, NextOf}
 use Rattle.tree.specs.declared.grammar.Class.{Class}
 use Rattle.tree.specs.declared.own.Own.{Own}
-use Rattle.tree.specs.declared.own.OwnRead.{OwnRead}
-use Rattle.tree.specs.declared.own.OwnRead.TheVariants.{Record, Refused}
 use Rattle.tree.specs.declared.check.Plan.{Plan}
-use Rattle.tree.specs.declared.check.Part.{Part}
-use Rattle.tree.specs.declared.check.Part.TheVariants.{Next, NoPart}
 use Rattle.tree.proofs.Cases.{both_passed}
 use Rattle.leaves.proofs.Records.{read_record}
 use Rattle.reading.specs.Places.{Spot}
 use Rattle.losses.specs.Lost.{first_from}
 use Rattle.losses.specs.Visits.{first_of, seen_in, listed_below, uses_along, end_along, checked_along, TakesAll, TakesRecord, Finds, Searches}
 use Rattle.losses.specs.declared.firsts.Firsts.{Firsts}
-use Rattle.losses.specs.declared.uses.Seen.{Seen}
-use Rattle.losses.specs.declared.uses.Seen.TheVariants as seeing
-use Rattle.losses.specs.declared.uses.Seen.TheVariants.{Shown}
-use Rattle.losses.specs.declared.search.Searched.{Searched}
-use Rattle.losses.specs.declared.search.Searched.TheVariants as searching
-use Rattle.losses.specs.declared.search.Searched.TheVariants.{Whole}
 use Rattle.losses.proofs.Along.{parts_end, parts_checked}
 use Rattle.losses.proofs.Marks.{from_append, all_then}
 use Rattle.losses.proofs.Passed.{own_unread, shows_held, shows_never, finds_it, finds_held, finds_never}
@@ -36,13 +27,13 @@ use Rattle.losses.proofs.Records.{record_uses}
 module _ (reader : Reader) (listed : Bool) (from : ℕ) where
   -- what searching parts of these classes leaves to do
   pub record Left (some : List Class) (place : ℕ) (before : Firsts) (others : List Class) (behind : ℕ) (after : Firsts) : Type 0 where
-    pub passed : checked_along reader others behind ≡ Passed
+    pub passed : checked_along reader others behind ≡ no_refusal
     pub end : end_along reader some place ≡ end_along reader others behind
     pub each : (spot : Spot) → first_from from spot (first_of before spot) (uses_along reader listed some place)
         ≡ first_from from spot (first_of after spot) (uses_along reader listed others behind)
 
   pub record PartsLeft (plan : Plan) (place : ℕ) (before : Firsts) (later : Plan) (behind : ℕ) (after : Firsts) : Type 0 where
-    pub walk : (parts : List Due) → Plans plan parts → checked_along reader (standing parts) place ≡ Passed
+    pub walk : (parts : List Due) → Plans plan parts → checked_along reader (standing parts) place ≡ no_refusal
         → (others : List Due) × Plans later others × Left (standing parts) place before (standing others) behind after
 
   -- before the first part
@@ -50,9 +41,9 @@ module _ (reader : Reader) (listed : Bool) (from : ℕ) where
   parts_start plan place before = record { walk = λ parts plans passed. (parts, plans, record { passed = passed; end = refl; each = λ spot. refl }) }
 
   module _ (plan : Plan) (place : ℕ) (before : Firsts) (later : Plan) (behind : ℕ) (after : Firsts) (left : PartsLeft plan place before later behind after)
-      (part : Part) (next : (parts : List Due) → Plans later parts → NextOf part parts) where
+      (part : Option (Class × Plan)) (next : (parts : List Due) → Plans later parts → NextOf part parts) where
     -- no part is left
-    pub search_done : part ≡ NoPart → (parts : List Due) → Plans plan parts → checked_along reader (standing parts) place ≡ Passed
+    pub search_done : part ≡ None → (parts : List Due) → Plans plan parts → checked_along reader (standing parts) place ≡ no_refusal
         → (behind ≡ end_along reader (standing parts) place) × TakesAll after before from (uses_along reader listed (standing parts) place)
     unfolding uses_along end_along first_from
     search_done e parts plans passed =
@@ -62,11 +53,11 @@ module _ (reader : Reader) (listed : Bool) (from : ℕ) where
         (sym done.end, record { each = λ spot. sym (done.each spot) })
 
     -- a part was searched
-    module _ (class : Class) (rest : Plan) (e : part ≡ Next class rest) (searched : Searched)
-        (searches : (reader class behind).checked ≡ Passed
+    module _ (class : Class) (rest : Plan) (e : part ≡ Some (class, rest)) (searched : Result (ℕ × Firsts) Refusal)
+        (searches : (reader class behind).checked ≡ no_refusal
         → Finds searched (λ end found. (end ≡ (reader class behind).end) × TakesAll found after from (seen_in class listed (reader class behind).tree))) where
       -- the plan goes on behind it
-      pub search_on : (end : ℕ) (found : Firsts) → searched ≡ Whole end found → PartsLeft plan place before rest end found
+      pub search_on : (end : ℕ) (found : Firsts) → searched ≡ Ok (end, found) → PartsLeft plan place before rest end found
       unfolding uses_along end_along checked_along
       search_on end found whole = record {
         walk = λ parts plans passed.
@@ -87,8 +78,8 @@ module _ (reader : Reader) (listed : Bool) (from : ℕ) where
       }
 
       -- it was not refused where all parts passed
-      pub part_unread : {why : Refusal} → searched ≡ searching.Refused why → (parts : List Due) → Plans plan parts
-          → checked_along reader (standing parts) place ≡ Passed → ⊥
+      pub part_unread : {why : Refusal} → searched ≡ Err why → (parts : List Due) → Plans plan parts
+          → checked_along reader (standing parts) place ≡ no_refusal → ⊥
       unfolding checked_along
       part_unread none parts plans passed =
           let now = left.walk parts plans passed in
@@ -99,39 +90,39 @@ module _ (reader : Reader) (listed : Bool) (from : ℕ) where
 
 -- ---- a record
 
-module _ (levels : ℕ) (bytes : List ℕ) (class : Class) (at : ℕ) (listed : Bool) {found : OwnRead} (same : found ≡ read_own bytes at class levels) where
+module _ (levels : ℕ) (bytes : List ℕ) (class : Class) (at : ℕ) (listed : Bool) {found : Result Own Refusal} (same : found ≡ read_own bytes at class levels) where
   -- its own bytes are not refused where it passed
-  pub search_refused : {searched : Searched} {before : Firsts} {from : ℕ} {why : Refusal} → found ≡ Refused why
+  pub search_refused : {searched : Result (ℕ × Firsts) Refusal} {before : Firsts} {from : ℕ} {why : Refusal} → found ≡ Err why
       → Searches searched before from levels bytes class at listed
   search_refused is passed = own_unread levels bytes class at passed (sym same ∙ is)
 
-  module _ (own : Own) (is : found ≡ Record own) {seen : Seen} {before : Firsts} {from : ℕ}
+  module _ (own : Own) (is : found ≡ Ok own) {seen : Result Firsts Refusal} {before : Firsts} {from : ℕ}
       (shown : TakesRecord seen before from levels bytes class at own listed) where
     abbrev reader : Reader
     reader = read (levels - 1) bytes
 
     -- nor is what it shows by itself
-    pub use_refused : {searched : Searched} {why : Refusal} → seen ≡ seeing.Refused why → Searches searched before from levels bytes class at listed
+    pub use_refused : {searched : Result (ℕ × Firsts) Refusal} {why : Refusal} → seen ≡ Err why → Searches searched before from levels bytes class at listed
     use_refused none passed = shows_never none (shown (sym same ∙ is) passed)
 
     -- its parts passed too
-    parts_passed : (read levels bytes class at).checked ≡ Passed → checked_along reader (standing (parts_due class own)) own.end ≡ Passed
+    parts_passed : (read levels bytes class at).checked ≡ no_refusal → checked_along reader (standing (parts_due class own)) own.end ≡ no_refusal
     parts_passed passed =
         sym (parts_checked reader (parts_due class own) own.end)
         ∙ sym (ap (λ (reading : Reading). reading.checked) (read_record bytes class at levels own (sym same ∙ is)).1) ∙ passed
 
     -- so none of them is refused
-    pub part_refused : {searched : Searched} → (checked_along reader (standing (parts_due class own)) own.end ≡ Passed → ⊥)
+    pub part_refused : {searched : Result (ℕ × Firsts) Refusal} → (checked_along reader (standing (parts_due class own)) own.end ≡ no_refusal → ⊥)
         → Searches searched before from levels bytes class at listed
     part_refused never passed = absurd (never (parts_passed passed))
 
     -- it is what it shows by itself, and its parts
-    pub record_searched : {after middle : Firsts} {end number : ℕ} {below : Bool} → seen ≡ Shown middle
+    pub record_searched : {after middle : Firsts} {end number : ℕ} {below : Bool} → seen ≡ Ok middle
         → number ≡ get_or bytes at 0 → below ≡ listed_below number listed
-        → (checked_along reader (standing (parts_due class own)) own.end ≡ Passed
+        → (checked_along reader (standing (parts_due class own)) own.end ≡ no_refusal
         → (end ≡ end_along reader (standing (parts_due class own)) own.end)
         × TakesAll after middle from (uses_along reader below (standing (parts_due class own)) own.end))
-        → Searches (Whole end after) before from levels bytes class at listed
+        → Searches (Ok (end, after)) before from levels bytes class at listed
     record_searched whole byte below-is parts passed =
         let held = sym same ∙ is in
         let reading = (read_record bytes class at levels own held).1 in

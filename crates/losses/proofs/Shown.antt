@@ -1,4 +1,6 @@
 -- What a record shows by itself, step by step: a comment on it, on its head, and an operand's closing character.
+use Rattle.std.specs.Prelude.{Result, Some, Ok, Err}
+use Rattle.answers.specs.Numbers.{no_refusal}
 use mathlib.Core.Path.{◌≡◌, refl, sym, ◌∙◌}
 use mathlib.Core.List.{List}
 use mathlib.Core.Bool.{Bool, false, ◌||◌}
@@ -7,7 +9,6 @@ use lib.ListN.{get_or}
 use lib.Dec.{eqb}
 use borrow.Author.Tests.{ne_eqb}
 use Rattle.answers.specs.declared.Refusal.{Refusal}
-use Rattle.answers.specs.declared.Checked.TheVariants.{Passed}
 use Rattle.text.proofs.Choices.{by_test}
 use Rattle.tree.specs.Grammar.{kind_of}
 use Rattle.tree.specs.Own.{read_own}
@@ -16,9 +17,7 @@ use Rattle.tree.specs.Tree.{Tree}
 use Rattle.tree.specs.Rows.{class_number}
 use Rattle.tree.specs.declared.grammar.Class.{Class}
 use Rattle.tree.specs.declared.grammar.Kind.TheVariants as variant
-use Rattle.tree.specs.declared.grammar.KindRead.TheVariants.{Known}
 use Rattle.tree.specs.declared.own.Own.{Own}
-use Rattle.tree.specs.declared.own.OwnRead.TheVariants.{Record}
 use Rattle.tree.proofs.OwnBytes.{own_fits}
 use Rattle.events.specs.Views.{own_trivia, head_of, stands_at, token_number}
 use Rattle.events.proofs.Heads.{own_read, number_read}
@@ -29,25 +28,23 @@ use Rattle.reading.specs.Places.{has_comment, closing_character}
 use Rattle.losses.specs.Visits.{own_spot, head_spot, own_marks, head_marks}
 use Rattle.losses.specs.Visits.{TakesIf, TakesAll, TakesHead, TakesClosing, TakesRecord}
 use Rattle.losses.specs.declared.firsts.Firsts.{Firsts}
-use Rattle.losses.specs.declared.uses.Seen.{Seen}
-use Rattle.losses.specs.declared.uses.Seen.TheVariants.{Shown, Refused}
 use Rattle.losses.proofs.Records.{token_class_lem}
 use Rattle.losses.proofs.Passed.{shown_refused, shows_it, shows_held, shows_never}
 use Rattle.losses.proofs.Marks.{all_then, all_none, one_used, own_used, head_used}
 
-module _ (levels : ℕ) (bytes : List ℕ) (class : Class) (at : ℕ) (own : Own) (listed : Bool) {number spot head from : ℕ} {before by-own : Firsts} {headed : Seen}
+module _ (levels : ℕ) (bytes : List ℕ) (class : Class) (at : ℕ) (own : Own) (listed : Bool) {number spot head from : ℕ} {before by-own : Firsts} {headed : Result Firsts Refusal}
     (byte : number ≡ get_or bytes at 0) (spot_is : spot ≡ own_spot class number listed) (head_is : head ≡ head_spot class number listed)
     (own-takes : TakesIf by-own before from at spot (has_comment (items_at bytes own.trivia own.trivia_count)))
-    (unheaded : head ≡ 8 → headed ≡ Shown by-own) (head-takes : TakesHead headed by-own from levels bytes class at head)
+    (unheaded : head ≡ 8 → headed ≡ Ok by-own) (head-takes : TakesHead headed by-own from levels bytes class at head)
   where
     -- what was read of its head was not refused
-    pub head_stopped : {why : Refusal} → headed ≡ Refused why → TakesRecord headed before from levels bytes class at own listed
+    pub head_stopped : {why : Refusal} → headed ≡ Err why → TakesRecord headed before from levels bytes class at own listed
     head_stopped none is passed =
         by_test (eqb (class_number class) 20 || eqb (class_number class) 21)
         (λ token. shows_never none (head-takes passed (token_class_lem class token)))
         (λ token. shown_refused (sym (unheaded (head_is ∙ rw token)) ∙ none))
 
-    module _ (is : read_own bytes at class levels ≡ Record own) (passed : (read levels bytes class at).checked ≡ Passed) where
+    module _ (is : read_own bytes at class levels ≡ Ok own) (passed : (read levels bytes class at).checked ≡ no_refusal) where
       abbrev tree : Tree
       tree = (read levels bytes class at).tree
 
@@ -65,29 +62,29 @@ module _ (levels : ℕ) (bytes : List ℕ) (class : Class) (at : ℕ) (own : Own
       own_all = rw (number_is, trivia_are) at (own_used own-takes class number listed spot_is)
 
       -- a comment on its head
-      head_all : {by-head : Firsts} → headed ≡ Shown by-head
+      head_all : {by-head : Firsts} → headed ≡ Ok by-head
           → TakesAll by-head by-own from (head_marks class (token_number tree) listed (stands_at (head_of tree)) (has_comment (own_trivia (head_of tree))))
       head_all {by-head} held =
           by_test (eqb (class_number class) 20 || eqb (class_number class) 21)
           (λ token. rw number_is at (head_used (shows_held held (head-takes passed (token_class_lem class token))) class number listed token head_is))
           (λ token.
-          let shown : Shown by-head ≡ Shown by-own = sym held ∙ unheaded (head_is ∙ rw token) in
+          let shown : Ok by-head ≡ Ok by-own = sym held ∙ unheaded (head_is ∙ rw token) in
           let same : by-head ≡ by-own = cc in
           rw (token, same) all_none)
 
-    module _ {by-head : Firsts} (held : headed ≡ Shown by-head) where
+    module _ {by-head : Firsts} (held : headed ≡ Ok by-head) where
       -- it is an operand
-      pub operand_shown : {closing : Seen} → number ≡ 37 → TakesClosing closing by-head from levels bytes own
+      pub operand_shown : {closing : Result Firsts Refusal} → number ≡ 37 → TakesClosing closing by-head from levels bytes own
           → TakesRecord closing before from levels bytes class at own listed
       operand_shown operand closing is passed =
-          let known : kind_of 37 ≡ Known own.kind = rw (sym byte ∙ operand) at (record_headed bytes at class levels own is).1.kind_is in
+          let known : kind_of 37 ≡ Some own.kind = rw (sym byte ∙ operand) at (record_headed bytes at class levels own is).1.kind_is in
           let kind : own.kind ≡ variant.Operand = cc in
           let shows = closing class at is kind passed in
           let last = one_used shows.holds closing_character refl in
           rw shows.is (shows_it (all_then (own_all is passed) (all_then (head_all is passed held) (rw (sym (number_is is passed) ∙ operand) last))))
 
       -- it is none
-      pub record_shown : (number ≡ 37 → ⊥) → TakesRecord (Shown by-head) before from levels bytes class at own listed
+      pub record_shown : (number ≡ 37 → ⊥) → TakesRecord (Ok by-head) before from levels bytes class at own listed
       record_shown other is passed =
           let number_other : eqb (token_number (read levels bytes class at).tree) 37 ≡ false = rw (sym (number_is is passed)) (ne_eqb number 37 other) in
           shows_it (all_then (own_all is passed) (all_then (head_all is passed held) (rw number_other all_none)))

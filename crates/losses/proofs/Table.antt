@@ -1,4 +1,5 @@
 -- The uses of a record's parts, kind by kind: what the kind itself tells, then the parts in stored order.
+use Rattle.std.specs.Prelude.{Option, Some, None}
 use mathlib.Core.Path.{◌≡◌, refl, sym, ap, ◌∙◌}
 use mathlib.Core.List.{List, [], ◌∷◌, ◌++◌, append-nil, append_assoc}
 use mathlib.Core.Bool.{Bool, true, false}
@@ -13,8 +14,6 @@ use Rattle.tree.specs.declared.grammar.Kind.{Kind}
 use Rattle.tree.specs.declared.grammar.Kind.TheVariants as variant
 use Rattle.tree.specs.declared.grammar.Class.{Class}
 use Rattle.tree.specs.declared.grammar.Class.TheVariants as class
-use Rattle.tree.specs.declared.grammar.Items.{Items}
-use Rattle.tree.specs.declared.grammar.Items.TheVariants.{NoList, ListOf}
 use Rattle.events.specs.Views.{view, token_number}
 use Rattle.events.specs.Views.{stands_at}
 use Rattle.reading.specs.Places.{Use, opening_brace, mark, at_opening_brace, places_in}
@@ -26,9 +25,9 @@ slots_seen listed [] place trees = []
 slots_seen listed (slot ∷ slots) place trees = seen_in (slot_class slot) listed (get_or trees place absent) ++ slots_seen listed slots (suc place) trees
 
 -- what a record's class tells of its parts by theirs is no use: neither the value of an argument nor an item of a list
-abbrev pub Unlisted : Items → Type 0
-Unlisted NoList = Unit
-Unlisted (ListOf item) = (tree : Tree) → class_uses item true tree ≡ []
+abbrev pub Unlisted : Option Class → Type 0
+Unlisted None = Unit
+Unlisted (Some item) = (tree : Tree) → class_uses item true tree ≡ []
 
 abbrev pub Untold : Class → Type 0
 Untold class = ((listed : Bool) (tree : Tree) → class_uses (rule class).value listed tree ≡ []) × Unlisted (rule class).items

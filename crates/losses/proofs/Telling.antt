@@ -1,6 +1,8 @@
 -- What an answer of `lost` tells: none at all, that no place is used; so demand 3's premise can be tested.
 --   nothing_lost : batch_checked bytes ≡ Passed → lost_from 0 bytes ≡ Unused → uses_place (read_file 64 bytes).tree ≡ false
 --   first_never : first_in 0 spot tree ≡ Never → uses spot tree ≡ false
+use Rattle.std.specs.Prelude.{Option, Some, None}
+use Rattle.answers.specs.Numbers.{no_refusal}
 use mathlib.Core.Path.{◌≡◌, refl, sym, ap, ◌∙◌}
 use mathlib.Core.List.{List, [], ◌∷◌}
 use mathlib.Core.Bool.{false}
@@ -9,29 +11,26 @@ use native.Mathlib.Omega.{arith}
 use lib.Dec.{eqb, ltb}
 use borrow.Author.Tests.{le-ltb}
 use Rattle.text.proofs.Choices.{by_test}
-use Rattle.answers.specs.declared.Checked.TheVariants.{Passed}
 use Rattle.tree.specs.Checking.{read_file, batch_checked}
 use Rattle.tree.specs.Tree.{Tree}
 use Rattle.reading.specs.Places.{Spot, Use, opening_brace, label_colon, value_head, import_path, path_item, register_letter, expression_head, closing_character}
 use Rattle.reading.specs.Places.{spot_number, places_in, among, uses, uses_place}
 use Rattle.losses.specs.Lost.{earlier_of, first_from, first_in, firsts_in, lesser_of, least_of, answer_with, lost_on, lost_from}
-use Rattle.losses.specs.declared.firsts.First.{First}
-use Rattle.losses.specs.declared.firsts.First.TheVariants.{At, Never}
 use Rattle.losses.specs.declared.firsts.Firsts.{Firsts}
 use Rattle.losses.specs.declared.search.Loss.TheVariants.{Unused}
 
 -- ---- a first record stays one
 
 -- a first record is not none
-pub at_never : {R : Type 0} {at : ℕ} → At at ≡ Never → R
+pub at_never : {R : Type 0} {at : ℕ} → Some at ≡ None → R
 at_never e = let zero_one : ◌≡◌ {A = ℕ} 0 1 = cc in absurd (omega arith)
 
 -- with another record there is one
-earlier_some : (first : First) (at : ℕ) → (place : ℕ) × (earlier_of first at ≡ At place)
-earlier_some Never at = (at, refl)
-earlier_some (At other) at = by_test (ltb at other) (λ q. (at, rw q)) (λ q. (other, rw q))
+earlier_some : (first : Option ℕ) (at : ℕ) → (place : ℕ) × (earlier_of first at ≡ Some place)
+earlier_some None at = (at, refl)
+earlier_some (Some other) at = by_test (ltb at other) (λ q. (at, rw q)) (λ q. (other, rw q))
 
-some_stays : (from : ℕ) (spot : Spot) (place : ℕ) (found : List Use) → (at : ℕ) × (first_from from spot (At place) found ≡ At at)
+some_stays : (from : ℕ) (spot : Spot) (place : ℕ) (found : List Use) → (at : ℕ) × (first_from from spot (Some place) found ≡ Some at)
 unfolding first_from
 some_stays from spot place [] = (place, refl)
 some_stays from spot place (used ∷ others) =
@@ -39,7 +38,7 @@ some_stays from spot place (used ∷ others) =
     (λ q. by_test (ltb used.place from)
     (λ r. let rest = some_stays from spot place others in (rest.0, rw (q, r) rest.1))
     (λ r.
-    let next = earlier_some (At place) used.place in
+    let next = earlier_some (Some place) used.place in
     let rest = some_stays from spot next.0 others in
     (rest.0, rw (q, r, next.1) rest.1)))
     (λ q. let rest = some_stays from spot place others in (rest.0, rw q rest.1))
@@ -47,7 +46,7 @@ some_stays from spot place (used ∷ others) =
 -- ---- none is found where none is used
 
 -- of uses from the first byte on
-never_among : (spot : Spot) (found : List Use) → first_from 0 spot Never found ≡ Never → among spot found ≡ false
+never_among : (spot : Spot) (found : List Use) → first_from 0 spot None found ≡ None → among spot found ≡ false
 unfolding first_from among
 never_among spot [] none = refl
 never_among spot (used ∷ others) none =
@@ -56,22 +55,22 @@ never_among spot (used ∷ others) none =
     (λ q. let found = some_stays 0 spot used.place others in at_never (sym found.1 ∙ rw (q, counts) at none))
     (λ q. rw q (never_among spot others (rw q at none)))
 
-pub first_never : (spot : Spot) (tree : Tree) → first_in 0 spot tree ≡ Never → uses spot tree ≡ false
+pub first_never : (spot : Spot) (tree : Tree) → first_in 0 spot tree ≡ None → uses spot tree ≡ false
 first_never spot tree none = never_among spot (places_in false tree) none
 
 -- the lesser of two is none where both are
-lesser_never : (one other : First) → lesser_of one other ≡ Never → (one ≡ Never) × (other ≡ Never)
-lesser_never Never other e = (refl, e)
-lesser_never (At place) Never e = at_never e
-lesser_never (At place) (At other) e = by_test (ltb other place) (λ q. at_never (rw q at e)) (λ q. at_never (rw q at e))
+lesser_never : (one other : Option ℕ) → lesser_of one other ≡ None → (one ≡ None) × (other ≡ None)
+lesser_never None other e = (refl, e)
+lesser_never (Some place) None e = at_never e
+lesser_never (Some place) (Some other) e = by_test (ltb other place) (λ q. at_never (rw q at e)) (λ q. at_never (rw q at e))
 
 -- the answer is none where the least is
-answer_unused : (firsts : Firsts) (least : First) → answer_with firsts least ≡ Unused → least ≡ Never
-answer_unused firsts Never e = refl
-answer_unused firsts (At at) e = let zero_one : ◌≡◌ {A = ℕ} 0 1 = cc in absurd (omega arith)
+answer_unused : (firsts : Firsts) (least : Option ℕ) → answer_with firsts least ≡ Unused → least ≡ None
+answer_unused firsts None e = refl
+answer_unused firsts (Some at) e = let zero_one : ◌≡◌ {A = ℕ} 0 1 = cc in absurd (omega arith)
 
 -- `lost` finds nothing from the first byte on: the tree uses none of the eight places
-pub nothing_lost : (bytes : List ℕ) → batch_checked bytes ≡ Passed → lost_from 0 bytes ≡ Unused → uses_place (read_file 64 bytes).tree ≡ false
+pub nothing_lost : (bytes : List ℕ) → batch_checked bytes ≡ no_refusal → lost_from 0 bytes ≡ Unused → uses_place (read_file 64 bytes).tree ≡ false
 unfolding lost_from
 nothing_lost bytes passed none =
     let tree : Tree = (read_file 64 bytes).tree in

@@ -1,9 +1,7 @@
 -- Not part of the promise: the places as the search meets them, record by record, each by the class of the field that it stands in.
-use Rattle.std.specs.Prelude.{ℕ, ◌-◌, ◌≡◌, List, [], ◌∷◌, ◌++◌, Bool, true, false, cond, not, ◌&&◌, ◌||◌, eqb, ltb, get_or}
-use Rattle.answers.specs.declared.Checked.{Checked}
-use Rattle.answers.specs.declared.Checked.TheVariants.{Passed, Failed}
+use Rattle.std.specs.Prelude.{ℕ, ◌-◌, ◌≡◌, List, [], ◌∷◌, ◌++◌, Bool, true, false, cond, not, ◌&&◌, ◌||◌, eqb, ltb, get_or, Option, Result, None, Ok, Err}
 use Rattle.answers.specs.declared.Refusal.{Refusal}
-use Rattle.answers.specs.Numbers.{and_then}
+use Rattle.answers.specs.Numbers.{no_refusal, and_then, Checked}
 use Rattle.tree.specs.Kinds as kinds
 use Rattle.tree.specs.Grammar.{rule, nodes}
 use Rattle.tree.specs.Own.{layout, read_own}
@@ -15,23 +13,12 @@ use Rattle.tree.specs.declared.grammar.Class.{Class}
 use Rattle.tree.specs.declared.grammar.Class.TheVariants.{OpenBrace, Colon, IndexRegister, BareToken, LocatedToken}
 use Rattle.tree.specs.declared.grammar.Kind.TheVariants as kind
 use Rattle.tree.specs.declared.own.Own.{Own}
-use Rattle.tree.specs.declared.own.OwnRead.TheVariants.{Record}
-use Rattle.tree.specs.declared.parts.Skipped.{Skipped}
-use Rattle.tree.specs.declared.parts.Skipped.TheVariants.{Next}
 use Rattle.events.specs.Views.{own_trivia, token_number, index_of}
 use Rattle.events.specs.Views.{stands_at, head_of}
 use Rattle.reading.specs.Places.{Spot, Use, has_comment, mark, places_in}
 use Rattle.reading.specs.Places.{opening_brace, label_colon, value_head, import_path, path_item, register_letter, expression_head, closing_character, spot_number}
 use Rattle.reading.specs.Places.{at_opening_brace, at_label_colon, at_register_letter, at_value_head, at_expression_head, at_closing_character}
-use Rattle.losses.specs.declared.firsts.First.{First}
-use Rattle.losses.specs.declared.firsts.First.TheVariants.{Never}
 use Rattle.losses.specs.declared.firsts.Firsts.{Firsts}
-use Rattle.losses.specs.declared.uses.Seen.{Seen}
-use Rattle.losses.specs.declared.uses.Seen.TheVariants as seeing
-use Rattle.losses.specs.declared.uses.Seen.TheVariants.{Shown}
-use Rattle.losses.specs.declared.search.Searched.{Searched}
-use Rattle.losses.specs.declared.search.Searched.TheVariants as searching
-use Rattle.losses.specs.declared.search.Searched.TheVariants.{Whole}
 use Rattle.losses.specs.Lost.{first_with, first_from}
 
 -- ---- which use a record shows, by its class and its kind
@@ -108,7 +95,7 @@ head_spot class number listed = cond (eqb (class_number class) (class_number Bar
 
 -- ---- what the first records become
 
-abbrev pub first_of : Firsts → Spot → First
+abbrev pub first_of : Firsts → Spot → Option ℕ
 first_of firsts opening_brace = firsts.opening_brace
 first_of firsts label_colon = firsts.label_colon
 first_of firsts value_head = firsts.value_head
@@ -120,14 +107,14 @@ first_of firsts closing_character = firsts.closing_character
 
 abbrev pub no_firsts : Firsts
 no_firsts = record {
-  opening_brace = Never;
-  label_colon = Never;
-  value_head = Never;
-  import_path = Never;
-  path_item = Never;
-  register_letter = Never;
-  expression_head = Never;
-  closing_character = Never;
+  opening_brace = None;
+  label_colon = None;
+  value_head = None;
+  import_path = None;
+  path_item = None;
+  register_letter = None;
+  expression_head = None;
+  closing_character = None;
 }
 
 -- with a record at an offset that uses a place
@@ -148,58 +135,58 @@ abbrev pub TokenClass : Class → Type 0
 TokenClass class = (located : Bool) × (rule class ≡ nodes kinds.align kinds.variable_definition located)
 
 -- the first records are shown, and this holds of them; so no refusal was met
-pub record Shows (seen : Seen) (held : Firsts → Type 0) : Type 0 where
+pub record Shows (seen : Result Firsts Refusal) (held : Firsts → Type 0) : Type 0 where
   pub firsts : Firsts
-  pub is : seen ≡ Shown firsts
+  pub is : seen ≡ Ok firsts
   pub holds : held firsts
 
-abbrev pub TakesHead : Seen → Firsts → ℕ → ℕ → List ℕ → Class → ℕ → ℕ → Type 0
+abbrev pub TakesHead : Result Firsts Refusal → Firsts → ℕ → ℕ → List ℕ → Class → ℕ → ℕ → Type 0
 TakesHead seen before from levels bytes class at number =
-    (read levels bytes class at).checked ≡ Passed → TokenClass class
+    (read levels bytes class at).checked ≡ no_refusal → TokenClass class
     → Shows seen (λ after. TakesIf after before from (stands_at (head_of (read levels bytes class at).tree)) number
     (has_comment (own_trivia (head_of (read levels bytes class at).tree))))
 
 abbrev pub part_trees : ℕ → List ℕ → Class → Own → List Tree
 part_trees levels bytes class own = (read_parts (read (levels - 1) bytes) (parts_due class own) own.end).trees
 
-abbrev pub TakesClosing : Seen → Firsts → ℕ → ℕ → List ℕ → Own → Type 0
+abbrev pub TakesClosing : Result Firsts Refusal → Firsts → ℕ → ℕ → List ℕ → Own → Type 0
 TakesClosing seen before from levels bytes own =
-    (class : Class) (at : ℕ) → read_own bytes at class levels ≡ Record own → own.kind ≡ kind.Operand → (read levels bytes class at).checked ≡ Passed
+    (class : Class) (at : ℕ) → read_own bytes at class levels ≡ Ok own → own.kind ≡ kind.Operand → (read levels bytes class at).checked ≡ no_refusal
     → Shows seen (λ after. TakesIf after before from (stands_at (get_or (part_trees levels bytes class own) 2 absent)) 7
     (at_closing_character (index_of (get_or (part_trees levels bytes class own) 3 absent)) (get_or (part_trees levels bytes class own) 2 absent)))
 
-abbrev pub TakesRecord : Seen → Firsts → ℕ → ℕ → List ℕ → Class → ℕ → Own → Bool → Type 0
+abbrev pub TakesRecord : Result Firsts Refusal → Firsts → ℕ → ℕ → List ℕ → Class → ℕ → Own → Bool → Type 0
 TakesRecord seen before from levels bytes class at own listed =
-    read_own bytes at class levels ≡ Record own → (read levels bytes class at).checked ≡ Passed
+    read_own bytes at class levels ≡ Ok own → (read levels bytes class at).checked ≡ no_refusal
     → Shows seen (λ after. TakesAll after before from
     (own_uses class listed (read levels bytes class at).tree at (part_trees levels bytes class own)))
 
 -- the same of a search, which comes to the place behind the record
-pub record Finds (searched : Searched) (held : ℕ → Firsts → Type 0) : Type 0 where
+pub record Finds (searched : Result (ℕ × Firsts) Refusal) (held : ℕ → Firsts → Type 0) : Type 0 where
   pub end : ℕ
   pub firsts : Firsts
-  pub is : searched ≡ Whole end firsts
+  pub is : searched ≡ Ok (end, firsts)
   pub holds : held end firsts
 
-abbrev pub Searches : Searched → Firsts → ℕ → ℕ → List ℕ → Class → ℕ → Bool → Type 0
+abbrev pub Searches : Result (ℕ × Firsts) Refusal → Firsts → ℕ → ℕ → List ℕ → Class → ℕ → Bool → Type 0
 Searches searched before from levels bytes class at listed =
-    (read levels bytes class at).checked ≡ Passed
+    (read levels bytes class at).checked ≡ no_refusal
     → Finds searched (λ end after. (end ≡ (read levels bytes class at).end)
     × TakesAll after before from (seen_in class listed (read levels bytes class at).tree))
 
 -- ---- the refusal that was met; where there is none a place stands for one
 
-abbrev pub refused_use : ℕ → Seen → Refusal
-refused_use at (seeing.Refused refusal) = refusal
-refused_use at (Shown firsts) = layout at
+abbrev pub refused_use : ℕ → Result Firsts Refusal → Refusal
+refused_use at (Err refusal) = refusal
+refused_use at (Ok firsts) = layout at
 
-abbrev pub refused_search : Searched → Refusal
-refused_search (searching.Refused refusal) = refusal
-refused_search (Whole end firsts) = layout end
+abbrev pub refused_search : Result (ℕ × Firsts) Refusal → Refusal
+refused_search (Err refusal) = refusal
+refused_search (Ok (end, firsts)) = layout end
 
 abbrev pub refused_check : Checked → Refusal
-refused_check (Failed refusal) = refusal
-refused_check Passed = layout 0
+refused_check (Err refusal) = refusal
+refused_check (Ok tt) = layout 0
 
 -- ---- the parts of a record
 
@@ -216,13 +203,13 @@ end_along reader (class ∷ classes) place = end_along reader classes (reader cl
 
 -- the first refusal in them
 unfoldable pub checked_along : Reader → List Class → ℕ → Checked
-checked_along reader [] place = Passed
+checked_along reader [] place = no_refusal
 checked_along reader (class ∷ classes) place = and_then (reader class place).checked (checked_along reader classes (reader class place).end)
 
 -- ---- a field, and a leaf's index
 
-abbrev pub behind_field : ℕ → List ℕ → Class → ℕ → Bool → Skipped
-behind_field levels bytes class at stands = cond stands (skipped levels bytes class at) (Next at)
+abbrev pub behind_field : ℕ → List ℕ → Class → ℕ → Bool → Result ℕ Refusal
+behind_field levels bytes class at stands = cond stands (skipped levels bytes class at) (Ok at)
 
 abbrev pub index_in : List ℕ → Own → ℕ
 index_in bytes own = cond (ltb own.text own.end) (get_or bytes own.text 0) 0

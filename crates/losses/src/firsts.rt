@@ -5,28 +5,21 @@ ghost use Rattle.losses.specs.Visits.{Takes};
 
 use crate::places;
 
-// The offset of the first record so far, if there is one.
-#[derive(Clone, Copy)]
-pub enum First {
-    At(usize),
-    Never,
-}
-
 // The first records so far, of places (a) to (h).
 #[derive(Clone, Copy)]
 pub struct Firsts {
-    pub opening_brace: First,
-    pub label_colon: First,
-    pub value_head: First,
-    pub import_path: First,
-    pub path_item: First,
-    pub register_letter: First,
-    pub expression_head: First,
-    pub closing_character: First,
+    pub opening_brace: Option<usize>,
+    pub label_colon: Option<usize>,
+    pub value_head: Option<usize>,
+    pub import_path: Option<usize>,
+    pub path_item: Option<usize>,
+    pub register_letter: Option<usize>,
+    pub expression_head: Option<usize>,
+    pub closing_character: Option<usize>,
 }
 
 // A record at an offset, held against the first one so far; one before `from` does not count.
-fn earlier(from: usize, first: First, at: usize, used: bool) -> First
+fn earlier(from: usize, first: Option<usize>, at: usize, used: bool) -> Option<usize>
     ensures { result ≡ cond used (first_with from first at) first }
 {
     if !used {
@@ -36,10 +29,10 @@ fn earlier(from: usize, first: First, at: usize, used: bool) -> First
         return first;
     }
     match first {
-        First::Never => First::At(at),
-        First::At(other) => {
+        None => Some(at),
+        Some(other) => {
             if at < other {
-                return First::At(at);
+                return Some(at);
             }
             first
         }
@@ -76,14 +69,14 @@ pub(crate) fn take(from: usize, firsts: Firsts, at: usize, spot: usize) -> First
 }
 
 // The lesser of two.
-fn lesser(one: First, other: First) -> First
+fn lesser(one: Option<usize>, other: Option<usize>) -> Option<usize>
     ensures { result ≡ lesser_of one other }
 {
     match one {
-        First::Never => other,
-        First::At(place) => match other {
-            First::Never => one,
-            First::At(second) => {
+        None => other,
+        Some(place) => match other {
+            None => one,
+            Some(second) => {
                 if second < place {
                     return other;
                 }
@@ -94,7 +87,7 @@ fn lesser(one: First, other: First) -> First
 }
 
 // The least of the eight.
-pub(crate) fn least(firsts: Firsts) -> First
+pub(crate) fn least(firsts: Firsts) -> Option<usize>
     ensures { result ≡ least_of firsts }
 {
     let opening_brace = firsts.opening_brace;
@@ -113,13 +106,13 @@ pub(crate) fn least(firsts: Firsts) -> First
 }
 
 // A place's bit, where its first record stands at an offset.
-fn bit_at(at: usize, first: First, bit: usize) -> usize
+fn bit_at(at: usize, first: Option<usize>, bit: usize) -> usize
     ensures answer { result ≡ bit_at at first bit }
     ensures within { result ≤ bit }
 {
     match first {
-        First::Never => 0,
-        First::At(place) => {
+        None => 0,
+        Some(place) => {
             if place == at {
                 return bit;
             }

@@ -3,23 +3,12 @@ ghost use Rattle.std.specs.Prelude.{◌≡◌};
 ghost use Rattle.losses.specs.Lost.{lost_from, numbers_lost, lost_numbers, Narrow};
 ghost use Rattle.losses.specs.Visits.{listed_below, no_firsts, refused_search, refused_check, Searches};
 
-use crate::firsts::{First, Firsts};
-use crate::uses::Seen;
+use crate::firsts::Firsts;
 use crate::{firsts, uses};
 use answers::{Checked, Reason, Refusal};
 use text::numbers;
-use tree::check::Part;
 use tree::grammar::Class;
-use tree::own::OwnRead;
 use tree::{check, kinds, own};
-
-// A record that was searched: the place behind it and the first records so far, or the refusal that reading it met,
-// which is none where the tree passed the check.
-#[derive(Clone, Copy)]
-pub enum Searched {
-    Whole(usize, Firsts),
-    Refused(Refusal),
-}
 
 // The first record that uses a place: its offset, and its places as bits, 1 for (a) to 128 for (h).
 #[derive(Clone, Copy)]
@@ -52,16 +41,16 @@ fn search(
     listed: bool,
     from: usize,
     firsts: Firsts,
-) -> Searched
+) -> Result<(usize, Firsts), Refusal>
     ensures { Searches result firsts from levels tree.now class at listed }
 {
     let read = own::read_own(tree, at, class, levels);
-    let OwnRead::Record(own) = read else {
-        return Searched::Refused(own::refusal_of(read));
+    let Ok(own) = read else {
+        return Err(own::refusal_of(read));
     };
     let used = uses::record_uses(tree, at, class, levels, own, listed, from, firsts);
-    let Seen::Shown(shown) = used else {
-        return Searched::Refused(uses::refused_use(used, at));
+    let Ok(shown) = used else {
+        return Err(uses::refused_use(used, at));
     };
     let below = listed_below(numbers::byte_at(tree, at), listed);
     let mut place = own.end;
@@ -69,11 +58,11 @@ fn search(
     let mut plan = check::plan_of(class, own);
     loop {
         let part = check::next_part(plan);
-        let Part::Next(field, rest) = part else {
-            return Searched::Whole(place, seen);
+        let Some((field, rest)) = part else {
+            return Ok((place, seen));
         };
         let searched = search(tree, place, field, levels - 1, below, from, seen);
-        let Searched::Whole(end, found) = searched else {
+        let Ok((end, found)) = searched else {
             return searched;
         };
         place = end;
@@ -83,12 +72,12 @@ fn search(
 }
 
 // The refusal that the search met; a record that was searched has none, and the place behind it stands for one.
-fn refused_search(searched: Searched) -> Refusal
+fn refused_search(searched: Result<(usize, Firsts), Refusal>) -> Refusal
     ensures { result ≡ refused_search searched }
 {
     match searched {
-        Searched::Refused(refusal) => refusal,
-        Searched::Whole(end, _) => Refusal {
+        Err(refusal) => refusal,
+        Ok((end, _)) => Refusal {
             reason: Reason::TreeLayout,
             place: end,
         },
@@ -100,8 +89,8 @@ fn refused_check(checked: Checked) -> Refusal
     ensures { result ≡ refused_check checked }
 {
     match checked {
-        Checked::Failed(refusal) => refusal,
-        Checked::Passed => Refusal {
+        Err(refusal) => refusal,
+        Ok(()) => Refusal {
             reason: Reason::TreeLayout,
             place: 0,
         },
@@ -113,14 +102,14 @@ fn no_firsts() -> Firsts
     ensures { result ≡ no_firsts }
 {
     Firsts {
-        opening_brace: First::Never,
-        label_colon: First::Never,
-        value_head: First::Never,
-        import_path: First::Never,
-        path_item: First::Never,
-        register_letter: First::Never,
-        expression_head: First::Never,
-        closing_character: First::Never,
+        opening_brace: None,
+        label_colon: None,
+        value_head: None,
+        import_path: None,
+        path_item: None,
+        register_letter: None,
+        expression_head: None,
+        closing_character: None,
     }
 }
 
@@ -132,16 +121,16 @@ pub fn lost(tree: &[u8], from: usize) -> Loss
     ensures numbers { numbers_lost result ≡ lost_numbers from tree.now }
 {
     let checked = check::check_tree(tree);
-    let Checked::Passed = checked else {
+    let Ok(()) = checked else {
         return Loss::Refused(refused_check(checked));
     };
     let searched = search(tree, 0, Class::Tokens, 64, false, from, no_firsts());
-    let Searched::Whole(_, seen) = searched else {
+    let Ok((_, seen)) = searched else {
         return Loss::Refused(refused_search(searched));
     };
     let least = firsts::least(seen);
     match least {
-        First::Never => Loss::Unused,
-        First::At(at) => Loss::Used(at, firsts::letters_at(seen, at)),
+        None => Loss::Unused,
+        Some(at) => Loss::Used(at, firsts::letters_at(seen, at)),
     }
 }

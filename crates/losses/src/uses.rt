@@ -1,8 +1,7 @@
 // The uses of places that a record shows by itself: comments on it, on its head, and an operand's closing character.
-ghost use Rattle.std.specs.Prelude.{◌≡◌, ◌<◌};
+ghost use Rattle.std.specs.Prelude.{◌≡◌, ◌<◌, Ok};
 ghost use Rattle.leaves.specs.Items.{items_at};
 ghost use Rattle.reading.specs.Places.{has_comment};
-ghost use Rattle.losses.specs.declared.uses.Seen.TheVariants as Seen;
 ghost use Rattle.losses.specs.Visits.{no_spot, kind_spot, own_spot, token_spot, head_spot, behind_field, index_in, refused_use};
 ghost use Rattle.losses.specs.Visits.{TakesIf, TakesHead, TakesClosing, TakesRecord};
 
@@ -12,25 +11,16 @@ use answers::{Reason, Refusal};
 use leaves::record;
 use text::numbers;
 use tree::grammar::Class;
-use tree::own::{Own, OwnRead};
-use tree::parts::{HeadRead, Skipped, TriviumRead};
+use tree::own::Own;
 use tree::{codes, kinds, own, parts};
 
-// What a record shows: the first records so far with it, or the refusal that reading it met, which is none where the
-// tree passed the check.
-#[derive(Clone, Copy)]
-pub enum Seen {
-    Shown(Firsts),
-    Refused(Refusal),
-}
-
 // The refusal that was met; what was shown has none, and the record's place stands for one.
-pub(crate) fn refused_use(seen: Seen, at: usize) -> Refusal
+pub(crate) fn refused_use(seen: Result<Firsts, Refusal>, at: usize) -> Refusal
     ensures { result ≡ refused_use at seen }
 {
     match seen {
-        Seen::Refused(refusal) => refusal,
-        Seen::Shown(_) => Refusal {
+        Err(refusal) => refusal,
+        Ok(_) => Refusal {
             reason: Reason::TreeLayout,
             place: at,
         },
@@ -46,7 +36,7 @@ fn has_comment(tree: &[u8], at: usize, count: usize) -> bool
     let mut left = count;
     while 0 < left {
         let read = parts::trivium_at(tree, place);
-        let TriviumRead::Item(item) = read else {
+        let Some(item) = read else {
             return false;
         };
         if codes::C_STYLE <= item.code {
@@ -136,31 +126,37 @@ fn head_use(
     spot: usize,
     from: usize,
     firsts: Firsts,
-) -> Seen
-    ensures unused { spot ≡ no_spot → result ≡ Seen.Shown firsts }
+) -> Result<Firsts, Refusal>
+    ensures unused { spot ≡ no_spot → result ≡ Ok firsts }
     ensures takes { TakesHead result firsts from levels tree.now class at spot }
 {
     if spot == places::NONE {
-        return Seen::Shown(firsts);
+        return Ok(firsts);
     }
     let place = parts::head_place(tree, at, class, levels);
-    let HeadRead::Found(head) = place else {
-        return Seen::Refused(parts::refused_head(place));
+    let Ok(head) = place else {
+        return Err(parts::refused_head(place));
     };
     let field = head.class;
     let read = own::read_own(tree, head.place, field, head.levels);
-    let OwnRead::Record(own) = read else {
-        return Seen::Refused(own::refusal_of(read));
+    let Ok(own) = read else {
+        return Err(own::refusal_of(read));
     };
-    Seen::Shown(own_use(tree, own, head.place, spot, from, firsts))
+    Ok(own_use(tree, own, head.place, spot, from, firsts))
 }
 
 // The place behind a field that may stand or not.
-fn behind(tree: &[u8], at: usize, class: Class, levels: usize, stands: bool) -> Skipped
+fn behind(
+    tree: &[u8],
+    at: usize,
+    class: Class,
+    levels: usize,
+    stands: bool,
+) -> Result<usize, Refusal>
     ensures { result ≡ behind_field levels tree.now class at stands }
 {
     if !stands {
-        return Skipped::Next(at);
+        return Ok(at);
     }
     parts::skip(tree, at, class, levels)
 }
@@ -176,36 +172,42 @@ fn index_of(tree: &[u8], leaf: Own) -> usize
 }
 
 // An operand's closing character, where it stands and its mode prints none: `Indirect` and `OuterIndirect` do.
-fn closing_use(tree: &[u8], own: Own, levels: usize, from: usize, firsts: Firsts) -> Seen
+fn closing_use(
+    tree: &[u8],
+    own: Own,
+    levels: usize,
+    from: usize,
+    firsts: Firsts,
+) -> Result<Firsts, Refusal>
     requires { 0 < levels }
     ensures { TakesClosing result firsts from levels tree.now own }
 {
     let bits = own.map / 2;
     if !record::stands(bits, 2) {
-        return Seen::Shown(firsts);
+        return Ok(firsts);
     }
     let below = levels - 1;
     let expression = parts::skip(tree, own.end, Class::LocatedExpression, below);
-    let Skipped::Next(lchar) = expression else {
-        return Seen::Refused(parts::refused_skip(expression));
+    let Ok(lchar) = expression else {
+        return Err(parts::refused_skip(expression));
     };
     let opening = behind(tree, lchar, Class::Char, below, record::stands(bits, 1));
-    let Skipped::Next(rchar) = opening else {
-        return Seen::Refused(parts::refused_skip(opening));
+    let Ok(rchar) = opening else {
+        return Err(parts::refused_skip(opening));
     };
     let closing = parts::skip(tree, rchar, Class::Char, below);
-    let Skipped::Next(mode) = closing else {
-        return Seen::Refused(parts::refused_skip(closing));
+    let Ok(mode) = closing else {
+        return Err(parts::refused_skip(closing));
     };
     let read = own::read_own(tree, mode, Class::AddressingMode, below);
-    let OwnRead::Record(leaf) = read else {
-        return Seen::Refused(own::refusal_of(read));
+    let Ok(leaf) = read else {
+        return Err(own::refusal_of(read));
     };
     let index = index_of(tree, leaf);
     if index == codes::INDIRECT || index == codes::OUTER_INDIRECT {
-        return Seen::Shown(firsts);
+        return Ok(firsts);
     }
-    Seen::Shown(firsts::take(from, firsts, rchar, places::CLOSING_CHARACTER))
+    Ok(firsts::take(from, firsts, rchar, places::CLOSING_CHARACTER))
 }
 
 // All that a record shows by itself.
@@ -218,7 +220,7 @@ pub(crate) fn record_uses(
     listed: bool,
     from: usize,
     firsts: Firsts,
-) -> Seen
+) -> Result<Firsts, Refusal>
     requires { 0 < levels }
     ensures { TakesRecord result firsts from levels tree.now class at own listed }
 {
@@ -227,7 +229,7 @@ pub(crate) fn record_uses(
     let by_own = own_use(tree, own, at, spot, from, firsts);
     let head = head_spot(class, number, listed);
     let headed = head_use(tree, at, class, levels, head, from, by_own);
-    let Seen::Shown(by_head) = headed else {
+    let Ok(by_head) = headed else {
         return headed;
     };
     if number == kinds::OPERAND {

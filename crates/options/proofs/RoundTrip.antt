@@ -2,6 +2,8 @@
 -- their bytes.
 --   stored_read : EightFields fields → AllBytes (stored_form fields) × (fields_of (stored_form fields) ≡ fields) × (read_options (stored_form fields) ≡ Options (field_options fields))
 --   read_stored : AllBytes stored → read_options stored ≡ Options options → EightFields (fields_of stored) × (stored_form (fields_of stored) ≡ stored) × (options ≡ field_options (fields_of stored))
+use Rattle.std.specs.Prelude.{Ok, Err}
+use Rattle.answers.specs.Numbers.{no_refusal, Checked}
 use Prim.Native.Nat.{ℕ, zero, suc, ◌+◌, ◌*◌, ◌/◌, ◌^◌, ◌≤◌, ◌<◌}
 use mathlib.Core.Path.{◌≡◌, refl, sym, ap, ◌∙◌}
 use mathlib.Core.List.{List, [], ◌∷◌}
@@ -16,14 +18,11 @@ use lib.Seq.{drop-length, drop-cons, drop-drop, get_or-drop}
 use borrow.Author.Tests.{ltb-true, ltb-false, eqb-true, eqb-false, le-ltb, eq-eqb, ne_eqb}
 use borrow.Table.Steps.{cases}
 use Rattle.answers.specs.declared.Refusal.{Refusal}
-use Rattle.answers.specs.declared.Checked.{Checked}
-use Rattle.answers.specs.declared.Checked.TheVariants.{Passed, Failed}
 use Rattle.answers.proofs.Bytes.{one_more}
 use Rattle.options.specs.Stored.{bit, standing, place_of, defaults, largest, map_of, value_of, values_checked, stored_options, accepted, read_options}
 use Rattle.options.specs.Forms.{bits_of, values_of, stored_form, FieldsFit, EightFields, field_at, fields_from, fields_of, chosen, field_options, AllBytes}
 use Rattle.options.specs.Forms as form
 use Rattle.options.specs.declared.FormattingOptions.{FormattingOptions}
-use Rattle.options.specs.declared.OptionsRead.TheVariants.{Options, Refused}
 use Rattle.options.proofs.Values.{standing_step, passed_step}
 
 -- ---- bits
@@ -103,7 +102,7 @@ largest_first k most others e =
 
 -- fields that fit pass
 values_passed : (stored : List ℕ) (k : ℕ) {mosts : List ℕ} (fields : List (Option ℕ)) → FieldsFit mosts fields → drop k largest ≡ mosts → Left stored k fields
-    → values_checked stored k (length fields) ≡ Passed
+    → values_checked stored k (length fields) ≡ no_refusal
 unfolding values_checked
 values_passed stored k [] form.end from left = refl
 values_passed stored k (none ∷ fields) (form.absent {most} {others} rest) from left =
@@ -172,40 +171,40 @@ small_bytes (byte ∷ bytes) all =
 
 -- eight fields that fit are stored as bytes that hold them and are read as their options
 pub stored_read : (fields : List (Option ℕ)) → EightFields fields
-    → AllBytes (stored_form fields) × (fields_of (stored_form fields) ≡ fields) × (read_options (stored_form fields) ≡ Options (field_options fields))
+    → AllBytes (stored_form fields) × (fields_of (stored_form fields) ≡ fields) × (read_options (stored_form fields) ≡ Ok (field_options fields))
 unfolding read_options
 stored_read fields fits =
     let stored : List ℕ = stored_form fields in
     let eight : length fields ≡ 8 = fit_counted fits in
     let left = left_first fields in
     let held : fields_of stored ≡ fields = rw eight at (fields_read stored 0 fields left) in
-    let passed : values_checked stored 0 8 ≡ Passed = rw eight at (values_passed stored 0 fields fits refl left) in
+    let passed : values_checked stored 0 8 ≡ no_refusal = rw eight at (values_passed stored 0 fields fits refl left) in
     let long : length stored ≡ place_of (map_of stored) 8 = rw eight at (left_last stored 0 fields left) in
     let map_small : bits_of fields < 256 = rw eight at (bits_small fields) in (
       one_more (bits_of fields) (values_of fields) map_small (values_bytes fits (small_bytes largest refl)),
       held,
-      rw (ne_eqb (length stored) 0 (omega arith), eq-eqb (length stored) (1 + standing (map_of stored) 8) long, passed) (ap Options (held_options stored ∙ rw held)),
+      rw (ne_eqb (length stored) 0 (omega arith), eq-eqb (length stored) (1 + standing (map_of stored) 8) long, passed) (ap Ok (held_options stored ∙ rw held)),
     )
 
 -- ---- bytes that were read
 
 -- a refusal is no options
-refused_options : {P : Type 0} {refusal : Refusal} {options : FormattingOptions} → Refused refusal ≡ Options options → P
+refused_options : {P : Type 0} {refusal : Refusal} {options : FormattingOptions} → Err refusal ≡ Ok options → P
 refused_options e = let z : ◌≡◌ {A = ℕ} 0 1 = cc in absurd (omega arith)
 
 -- options are accepted where their values passed
-accepted_told : (checked : Checked) (held options : FormattingOptions) → accepted checked held ≡ Options options → (checked ≡ Passed) × (options ≡ held)
-accepted_told Passed held options e = (refl, (cc))
-accepted_told (Failed refusal) held options e = refused_options e
+accepted_told : (checked : Checked) (held options : FormattingOptions) → accepted checked held ≡ Ok options → (checked ≡ no_refusal) × (options ≡ held)
+accepted_told (Ok tt) held options e = (refl, (cc))
+accepted_told (Err refusal) held options e = refused_options e
 
 -- options that were read have the right length, and their values passed
 record ReadFrom (stored : List ℕ) (options : FormattingOptions) : Type 0 where
   long : length stored ≡ place_of (map_of stored) 8
-  passed : values_checked stored 0 8 ≡ Passed
+  passed : values_checked stored 0 8 ≡ no_refusal
   same : options ≡ stored_options stored
 
 -- in checking order
-read_from : (stored : List ℕ) (options : FormattingOptions) → read_options stored ≡ Options options → ReadFrom stored options
+read_from : (stored : List ℕ) (options : FormattingOptions) → read_options stored ≡ Ok options → ReadFrom stored options
 unfolding read_options
 read_from stored options e =
     cases (eqb (length stored) 0)
@@ -263,7 +262,7 @@ values_back stored (suc n) k long =
     rw (set, drop-cons stored here 0 inside) (ap (λ (rest : List ℕ). get_or stored here 0 ∷ rest) (rw place at rest)))
 
 -- the fields fit
-fields_back : (stored : List ℕ) (mosts : List ℕ) (k : ℕ) → drop k largest ≡ mosts → values_checked stored k (length mosts) ≡ Passed
+fields_back : (stored : List ℕ) (mosts : List ℕ) (k : ℕ) → drop k largest ≡ mosts → values_checked stored k (length mosts) ≡ no_refusal
     → FieldsFit mosts (fields_from stored k (length mosts))
 unfolding fields_from
 fields_back stored [] k from passed = form.end
@@ -283,7 +282,7 @@ unfolding standing
 first_place map = refl
 
 -- options that were read are those of eight fields that fit, which are stored as the bytes
-pub read_stored : (stored : List ℕ) (options : FormattingOptions) → AllBytes stored → read_options stored ≡ Options options
+pub read_stored : (stored : List ℕ) (options : FormattingOptions) → AllBytes stored → read_options stored ≡ Ok options
     → EightFields (fields_of stored) × (stored_form (fields_of stored) ≡ stored) × (options ≡ field_options (fields_of stored))
 read_stored stored options small e =
     let told = read_from stored options e in

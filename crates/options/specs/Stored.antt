@@ -1,13 +1,10 @@
 -- The stored options: document 01, "Options" ("a bit map and then only the fields whose bit stands ... One byte each") and refusals 1 and 2.
-use Rattle.std.specs.Prelude.{ℕ, zero, suc, ◌+◌, ◌/◌, ◌%◌, ◌^◌, List, [], ◌∷◌, Bool, true, cond, not, ◌&&◌, length, get_or, eqb, ltb}
-use Rattle.answers.specs.declared.Checked.{Checked}
-use Rattle.answers.specs.declared.Checked.TheVariants.{Passed, Failed}
+use Rattle.answers.specs.declared.Refusal.{Refusal}
+use Rattle.std.specs.Prelude.{ℕ, zero, suc, ◌+◌, ◌/◌, ◌%◌, ◌^◌, List, [], ◌∷◌, Bool, true, cond, not, ◌&&◌, length, get_or, eqb, ltb, Result, Ok, Err}
 use Rattle.answers.specs.declared.Reason.TheVariants.{OptionsLength, OptionsValue}
-use Rattle.answers.specs.Numbers.{numbers_of}
+use Rattle.answers.specs.Numbers.{no_refusal, numbers_of, Checked}
 use Rattle.options.specs.Types.{options_of, Narrow}
 use Rattle.options.specs.declared.FormattingOptions.{FormattingOptions}
-use Rattle.options.specs.declared.OptionsRead.{OptionsRead}
-use Rattle.options.specs.declared.OptionsRead.TheVariants.{Options, Refused}
 
 -- bit k of a map: 1 where it stands
 abbrev pub bit : ℕ → ℕ → ℕ
@@ -43,10 +40,10 @@ too_large stored k = eqb (bit (map_of stored) k) 1 && ltb (get_or largest k 0) (
 
 -- refusal 2 for the n fields from field k on: "place of the first such byte"
 unfoldable pub values_checked : List ℕ → ℕ → ℕ → Checked
-values_checked stored k zero = Passed
+values_checked stored k zero = no_refusal
 values_checked stored k (suc n) =
     cond (too_large stored k)
-    (Failed (record { reason = OptionsValue; place = place_of (map_of stored) k }))
+    (Err (record { reason = OptionsValue; place = place_of (map_of stored) k }))
     (values_checked stored (k + 1) n)
 
 -- the options that stored bytes stand for
@@ -58,23 +55,23 @@ stored_options stored =
 abbrev pub length_wrong : List ℕ → Bool
 length_wrong stored = cond (eqb (length stored) 0) true (not (eqb (length stored) (1 + standing (map_of stored) 8)))
 
-abbrev pub accepted : Checked → FormattingOptions → OptionsRead
-accepted Passed options = Options options
-accepted (Failed refusal) options = Refused refusal
+abbrev pub accepted : Checked → FormattingOptions → Result FormattingOptions Refusal
+accepted (Ok tt) options = Ok options
+accepted (Err refusal) options = Err refusal
 
 -- reading stored options
-unfoldable pub read_options : List ℕ → OptionsRead
+unfoldable pub read_options : List ℕ → Result FormattingOptions Refusal
 read_options stored =
     cond (length_wrong stored)
-    (Refused (record { reason = OptionsLength; place = 0 }))
+    (Err (record { reason = OptionsLength; place = 0 }))
     (accepted (values_checked stored 0 8) (stored_options stored))
 
 -- ---- in document 01's numbers: (0, 0), or a refusal's number and place
 
 -- of an answer; options that were read have no length or place
-abbrev pub numbers_read : OptionsRead → ℕ × ℕ
-numbers_read (Options options) = (0, 0)
-numbers_read (Refused refusal) = numbers_of refusal
+abbrev pub numbers_read : Result FormattingOptions Refusal → ℕ × ℕ
+numbers_read (Ok options) = (0, 0)
+numbers_read (Err refusal) = numbers_of refusal
 
 -- "A casing, brace or alignment value is above 1 or the indent above 64; place of the first such byte.", of the n fields from field k on
 unfoldable pub values_numbers : List ℕ → ℕ → ℕ → ℕ × ℕ
@@ -86,6 +83,6 @@ unfoldable pub options_numbers : List ℕ → ℕ × ℕ
 options_numbers stored = cond (length_wrong stored) (1, 0) (values_numbers stored 0 8)
 
 -- what holds of options that were read
-abbrev pub NarrowRead : OptionsRead → Type 0
-NarrowRead (Options options) = Narrow options
-NarrowRead (Refused refusal) = Unit
+abbrev pub NarrowRead : Result FormattingOptions Refusal → Type 0
+NarrowRead (Ok options) = Narrow options
+NarrowRead (Err refusal) = Unit

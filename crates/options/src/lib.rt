@@ -59,13 +59,6 @@ pub struct FormattingOptions {
     pub listing: ListingOptions,
 }
 
-// What reading stored options gives.
-#[derive(Clone, Copy)]
-pub enum OptionsRead {
-    Options(FormattingOptions),
-    Refused(Refusal),
-}
-
 impl Casing {
     // A byte in this casing: only the letters of ASCII change.
     pub fn format_byte(self, b: u8) -> u8
@@ -252,14 +245,14 @@ fn check_values(stored: &[u8], map: usize) -> Checked
     let mut k = 0;
     while k < 8 {
         if too_large(stored, map, k) {
-            return Checked::Failed(Refusal {
+            return Err(Refusal {
                 reason: Reason::OptionsValue,
                 place: place_of(map, k),
             });
         }
         k += 1;
     }
-    Checked::Passed
+    Ok(())
 }
 
 // The options that stored bytes stand for.
@@ -293,28 +286,28 @@ fn stored_options(stored: &[u8]) -> FormattingOptions
 }
 
 // The options in stored bytes, or refusal 1 or 2.
-pub fn read_options(stored: &[u8]) -> OptionsRead
+pub fn read_options(stored: &[u8]) -> Result<FormattingOptions, Refusal>
     ensures answer { result ≡ read_options stored.now }
     ensures narrow { NarrowRead result }
     ensures numbers { numbers_read result ≡ options_numbers stored.now }
 {
     let length = stored.len();
     if length == 0 {
-        return OptionsRead::Refused(Refusal {
+        return Err(Refusal {
             reason: Reason::OptionsLength,
             place: 0,
         });
     }
     let map = byte_at(stored, 0);
     if length != place_of(map, 8) {
-        return OptionsRead::Refused(Refusal {
+        return Err(Refusal {
             reason: Reason::OptionsLength,
             place: 0,
         });
     }
     let checked = check_values(stored, map);
-    if let Checked::Failed(refusal) = checked {
-        return OptionsRead::Refused(refusal);
+    if let Err(refusal) = checked {
+        return Err(refusal);
     }
-    OptionsRead::Options(stored_options(stored))
+    Ok(stored_options(stored))
 }

@@ -1,4 +1,5 @@
 -- Laws of one push: a text behind a pending space and before a colon, and the state and the room then.
+use Rattle.std.specs.Prelude.{Result}
 use mathlib.Core.Path.{◌≡◌, refl}
 use mathlib.Core.List.{List, [], ◌∷◌}
 use mathlib.Core.Bool.{Bool, true, false}
@@ -9,7 +10,7 @@ use lib.Dec.{eqb}
 use borrow.Author.Tests.{eq-eqb, ne_eqb}
 use Rattle.text.specs.Lines.{is_empty, is_newline}
 use Rattle.chunks.specs.Appending.{with_space, with_colon, appended, room_after}
-use Rattle.chunks.specs.declared.append.Appended.{Appended}
+use Rattle.chunks.specs.declared.append.Unappended.{Unappended}
 use Rattle.chunks.specs.declared.stored.ChunkType.{ChunkType}
 use Rattle.printing.specs.Running.{is_spaced, chunk_with, behind, pushed, pushed_room}
 use Rattle.printing.specs.declared.Context.{Context}
@@ -72,7 +73,7 @@ module _ (room : List ℕ) (state : CodeFormatter) (ty : ChunkType) (context : C
   empty_not_pushed room_left empty = (rw (eq-eqb _ _ room_left, empty), rw (eq-eqb _ _ room_left, empty))
 
   -- elsewhere a chunk is appended
-  pub is_pushed : {newline : Bool} {answer : Appended} {next : CodeFormatter} {after : List ℕ}
+  pub is_pushed : {newline : Bool} {answer : Result ℕ Unappended} {next : CodeFormatter} {after : List ℕ}
       → state.full ≡ 0 → is_empty text ≡ false → newline ≡ is_newline (with_space (is_spaced state) text)
       → answer ≡ appended (length room) state.used (chunk_with state ty context text) → after ≡ room_after room state.used (chunk_with state ty context text)
       → next ≡ behind state newline answer → Pushed room state ty context text next after

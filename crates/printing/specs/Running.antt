@@ -1,13 +1,13 @@
 -- The same events on the work room and the formatter's state, byte by byte.
-use Rattle.std.specs.Prelude.{ℕ, ◌≡◌, List, Bool, cond, not, ◌||◌, length, eqb}
+use Rattle.std.specs.Prelude.{ℕ, ◌≡◌, List, Bool, cond, not, ◌||◌, length, eqb, Result, Ok, Err}
 use Rattle.answers.specs.Numbers.{numbers_of}
 use Rattle.answers.specs.declared.Refusal.{Refusal}
 use Rattle.answers.specs.declared.Reason.TheVariants.{WorkRoom}
 use Rattle.text.specs.Lines.{is_empty, is_newline}
 use Rattle.chunks.specs.Stored.{Chunk}
 use Rattle.chunks.specs.Appending.{with_space, appended, room_after}
-use Rattle.chunks.specs.declared.append.Appended.{Appended}
-use Rattle.chunks.specs.declared.append.Appended.TheVariants.{Used, NoRoom, NoChunk, UsedPastRoom}
+use Rattle.chunks.specs.declared.append.Unappended.{Unappended}
+use Rattle.chunks.specs.declared.append.Unappended.TheVariants.{NoRoom, NoChunk, UsedPastRoom}
 use Rattle.chunks.specs.declared.stored.ChunkType.{ChunkType}
 use Rattle.printing.specs.Events.{Events, nothing, push, space, clear, trim, stop, ◌▹◌}
 use Rattle.printing.specs.declared.Context.{Context}
@@ -54,11 +54,11 @@ abbrev pub unstorable : ℕ
 unstorable = 1048577
 
 -- the state behind an appended chunk, exactly a newline or not
-abbrev pub behind : CodeFormatter → Bool → Appended → CodeFormatter
-behind state newline (Used end) = grown state end newline
-behind state newline (NoRoom needed) = filled state needed
-behind state newline NoChunk = filled state unstorable
-behind state newline UsedPastRoom = filled state unstorable
+abbrev pub behind : CodeFormatter → Bool → Result ℕ Unappended → CodeFormatter
+behind state newline (Ok end) = grown state end newline
+behind state newline (Err (NoRoom needed)) = filled state needed
+behind state newline (Err NoChunk) = filled state unstorable
+behind state newline (Err UsedPastRoom) = filled state unstorable
 
 -- "an empty text is no push and keeps the pending space"; on a full state nothing is pushed
 abbrev pub no_push : CodeFormatter → List ℕ → Bool

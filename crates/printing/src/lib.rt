@@ -10,7 +10,7 @@ ghost use Rattle.printing.specs.Running.{numbers_printed, finish_numbers};
 
 use answers::{Reason, Refusal};
 use chunks::append;
-use chunks::append::Appended;
+use chunks::append::Unappended;
 use chunks::stored::ChunkType;
 use options::FormattingOptions;
 use text::characters;
@@ -122,14 +122,13 @@ impl CodeFormatter {
     }
 
     // The state behind what appending answered, of a chunk that is exactly a newline or not.
-    fn behind(self, appended: Appended, newline: bool) -> Self
+    fn behind(self, appended: Result<usize, Unappended>, newline: bool) -> Self
         ensures { result ≡ behind self newline appended }
     {
         match appended {
-            Appended::Used(end) => self.grown(end, newline),
-            Appended::NoRoom(needed) => self.filled(needed),
-            Appended::NoChunk => self.filled(UNSTORABLE),
-            Appended::UsedPastRoom => self.filled(UNSTORABLE),
+            Ok(end) => self.grown(end, newline),
+            Err(Unappended::NoRoom(needed)) => self.filled(needed),
+            Err(Unappended::NoChunk | Unappended::UsedPastRoom) => self.filled(UNSTORABLE),
         }
     }
 

@@ -3,6 +3,8 @@
 --   all_behind : .. list.count ≤ count .. → tokens_behind bytes count ≡ skipped 64 bytes Tokens 0
 -- And behind some of them, by computing.
 --   some_behind : map found rows ≡ map wanted rows
+use Rattle.std.specs.Prelude.{Result, Some, Ok, Err}
+use Rattle.answers.specs.declared.Refusal.{Refusal}
 use mathlib.Core.Path.{◌≡◌, refl, sym, ap, ◌∙◌}
 use mathlib.Core.List.{List, [], ◌∷◌, ◌++◌, map}
 use mathlib.Core.Bool.{cond}
@@ -11,9 +13,7 @@ use native.Mathlib.Omega.{arith}
 use lib.ListN.{get_or, replicate}
 use lib.Dec.{eqb, ltb}
 use borrow.Author.Tests.{ltb-false, eqb-true}
-use Rattle.answers.specs.Numbers.{and_then}
-use Rattle.answers.specs.declared.Checked.{Checked}
-use Rattle.answers.specs.declared.Checked.TheVariants.{Passed, Failed}
+use Rattle.answers.specs.Numbers.{and_then, Checked}
 use Rattle.text.proofs.Choices.{by_test, cond_both, no_other}
 use Rattle.tree.specs.Grammar.{kind_of}
 use Rattle.tree.specs.Own.{fields_fit, map_fits, sized_end, trivium_end, trivia_end, trivia_read, text_end, rest_of}
@@ -23,23 +23,18 @@ use Rattle.tree.specs.Parts.{skipped_on, skipped}
 use Rattle.tree.specs.Tree.{built, chain}
 use Rattle.tree.specs.declared.grammar.Kind.{Kind}
 use Rattle.tree.specs.declared.grammar.Kind.TheVariants as kind_is_here
-use Rattle.tree.specs.declared.grammar.KindRead.TheVariants.{Known}
 use Rattle.tree.specs.declared.grammar.Class.TheVariants.{BareToken, Tokens}
 use Rattle.tree.specs.declared.own.Own.{Own}
-use Rattle.tree.specs.declared.own.OwnRead.{OwnRead}
 use Rattle.tree.specs.declared.own.TriviaSpan.{TriviaSpan}
-use Rattle.tree.specs.declared.own.OwnRead.TheVariants.{Record, Refused}
-use Rattle.tree.specs.declared.parts.Skipped.{Skipped}
-use Rattle.tree.specs.declared.parts.Skipped.TheVariants.{Next, NotSkipped}
 use Rattle.tree.proofs.OwnBytes.{Headed, own_cases}
 use Rattle.reader.specs.Tokens.{then_at, behind_row, behind_on, tokens_behind}
 
 -- ---- tokens in a row
 
-then_behind : (end last : ℕ) (checked rest : Checked) (next : ℕ → Skipped) → next end ≡ skipped_on last rest
+then_behind : (end last : ℕ) (checked rest : Checked) (next : ℕ → Result ℕ Refusal) → next end ≡ skipped_on last rest
     → then_at (skipped_on end checked) next ≡ skipped_on last (and_then checked rest)
-then_behind end last Passed rest next e = e
-then_behind end last (Failed refusal) rest next e = refl
+then_behind end last (Ok tt) rest next e = e
+then_behind end last (Err refusal) rest next e = refl
 
 -- they are read as the items of a list are
 row_parts : (bytes : List ℕ) (at count : ℕ)
@@ -62,10 +57,10 @@ list_headed {bytes} {at} {kind} headed =
     let is : get_or bytes at 0 ≡ 24 =
     by_test (eqb (get_or bytes at 0) 24) (λ q. eqb-true _ _ q)
     (λ other. no_other 24 _ (rw other at headed.standing)) in
-    let same : Known kind ≡ Known kind_is_here.Vec = sym headed.kind_is ∙ ap kind_of is in
+    let same : Some kind ≡ Some kind_is_here.Vec = sym headed.kind_is ∙ ap kind_of is in
     cc
 
-list_kind : (bytes : List ℕ) (own : Own) → read_own bytes 0 Tokens 64 ≡ Record own → own.kind ≡ kind_is_here.Vec
+list_kind : (bytes : List ℕ) (own : Own) → read_own bytes 0 Tokens 64 ≡ Ok own → own.kind ≡ kind_is_here.Vec
 list_kind bytes own =
     own_cases bytes 0 Tokens (λ (own : Own). own.kind ≡ kind_is_here.Vec)
     (λ kind trivia headed number room. list_headed headed)
@@ -79,18 +74,18 @@ lesser_first first second within =
     (λ not-less. omega (arith, within, ltb-false first second not-less))
 
 -- by what the list's own bytes read as
-list_behind : (bytes : List ℕ) (count : ℕ) (own : OwnRead) → read_own bytes 0 Tokens 64 ≡ own
-    → ((list : Own) → own ≡ Record list → list.count ≤ count)
+list_behind : (bytes : List ℕ) (count : ℕ) (own : Result Own Refusal) → read_own bytes 0 Tokens 64 ≡ own
+    → ((list : Own) → own ≡ Ok list → list.count ≤ count)
     → behind_on bytes count own ≡ skipped_on (read_on (read 63 bytes) bytes Tokens 0 own).end
     (read_on (read 63 bytes) bytes Tokens 0 own).checked
 unfolding parts_due fields_due
-list_behind bytes count (Record list) is all =
+list_behind bytes count (Ok list) is all =
     let least = lesser_first list.count count (all list refl) in
     rw (least, list_kind bytes list is, row_parts bytes list.end list.count)
-list_behind bytes count (Refused refusal) is all = refl
+list_behind bytes count (Err refusal) is all = refl
 
 pub all_behind : (bytes : List ℕ) (count : ℕ)
-    → ((list : Own) → read_own bytes 0 Tokens 64 ≡ Record list → list.count ≤ count)
+    → ((list : Own) → read_own bytes 0 Tokens 64 ≡ Ok list → list.count ≤ count)
     → tokens_behind bytes count ≡ skipped 64 bytes Tokens 0
 unfolding tokens_behind skipped read
 all_behind bytes count all = list_behind bytes count (read_own bytes 0 Tokens 64) refl all
@@ -108,24 +103,24 @@ abbrev two : List ℕ → List ℕ → List ℕ
 two first second = 24 ∷ 0 ∷ 2 ∷ 0 ∷ (first ++ second)
 
 -- a stored tree, how many tokens, and the place behind them, or the place of refusal 5 where it is met before
-abbrev rows : List (List ℕ × ℕ × Skipped)
+abbrev rows : List (List ℕ × ℕ × (Result ℕ Refusal))
 rows =
-    (two nop nop, 0, Next 4)
-    ∷ (two nop nop, 1, Next 11)
-    ∷ (two nop nop, 2, Next 18)
-    ∷ (two nop nop, 3, Next 18)
-    ∷ (two nop broken, 1, Next 11)
-    ∷ (two nop broken, 2, NotSkipped (layout 13))
-    ∷ (two nop [], 2, NotSkipped (layout 11))
-    ∷ (two nop (nop ++ nop), 2, Next 18)
-    ∷ ([], 0, NotSkipped (layout 0))
-    ∷ (nop, 0, NotSkipped (layout 0))
+    (two nop nop, 0, Ok 4)
+    ∷ (two nop nop, 1, Ok 11)
+    ∷ (two nop nop, 2, Ok 18)
+    ∷ (two nop nop, 3, Ok 18)
+    ∷ (two nop broken, 1, Ok 11)
+    ∷ (two nop broken, 2, Err (layout 13))
+    ∷ (two nop [], 2, Err (layout 11))
+    ∷ (two nop (nop ++ nop), 2, Ok 18)
+    ∷ ([], 0, Err (layout 0))
+    ∷ (nop, 0, Err (layout 0))
     ∷ []
 
-abbrev found : List ℕ × ℕ × Skipped → Skipped
+abbrev found : List ℕ × ℕ × (Result ℕ Refusal) → Result ℕ Refusal
 found sample = tokens_behind sample.0 sample.1
 
-abbrev wanted : List ℕ × ℕ × Skipped → Skipped
+abbrev wanted : List ℕ × ℕ × (Result ℕ Refusal) → Result ℕ Refusal
 wanted sample = sample.2
 
 pub some_behind : map found rows ≡ map wanted rows

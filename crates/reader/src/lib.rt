@@ -7,9 +7,9 @@ ghost use Rattle.tree.specs.Own.{read_own, numbers_own, own_numbers};
 ghost use Rattle.tree.specs.Parts.{skipped, numbers_skipped, read_numbers};
 ghost use Rattle.reader.specs.Tokens.{behind_row, tokens_behind, tokens_numbers};
 
+use answers::Refusal;
 use tree::grammar::Class;
-use tree::own::OwnRead;
-use tree::parts::Skipped;
+use tree::own::Own;
 use tree::{own, parts};
 
 #[derive(Clone, Copy)]
@@ -36,7 +36,7 @@ pub fn moved<'a>(reader: Reader<'a>, at: usize) -> Reader<'a>
 }
 
 // The own bytes of the record of a class at the reader, where so many levels are left.
-pub fn own_bytes<'a>(reader: Reader<'a>, class: Class, levels: usize) -> OwnRead
+pub fn own_bytes<'a>(reader: Reader<'a>, class: Class, levels: usize) -> Result<Own, Refusal>
     ensures { (result ≡ read_own reader.entry.tree.now reader.entry.at class levels)
         × (numbers_own result ≡ own_numbers reader.entry.tree.now reader.entry.at class levels) }
 {
@@ -44,7 +44,7 @@ pub fn own_bytes<'a>(reader: Reader<'a>, class: Class, levels: usize) -> OwnRead
 }
 
 // The place behind the record of a class at the reader, or the first refusal in it.
-pub fn behind<'a>(reader: Reader<'a>, class: Class, levels: usize) -> Skipped
+pub fn behind<'a>(reader: Reader<'a>, class: Class, levels: usize) -> Result<usize, Refusal>
     ensures { (result ≡ skipped levels reader.entry.tree.now class reader.entry.at)
         × (numbers_skipped result ≡ read_numbers levels reader.entry.tree.now class reader.entry.at) }
 {
@@ -52,7 +52,7 @@ pub fn behind<'a>(reader: Reader<'a>, class: Class, levels: usize) -> Skipped
 }
 
 // The own bytes of a file's list of tokens, which is the whole tree: how many tokens there are, and where the first begins.
-pub fn list_head(tree: &[u8]) -> OwnRead
+pub fn list_head(tree: &[u8]) -> Result<Own, Refusal>
     ensures { let bytes = tree.now in
         (result ≡ read_own bytes 0 Class.Tokens 64) × (numbers_own result ≡ own_numbers bytes 0 Class.Tokens 64) }
 {
@@ -60,27 +60,27 @@ pub fn list_head(tree: &[u8]) -> OwnRead
 }
 
 // The place behind a token of a file's list.
-fn behind_token(tree: &[u8], at: usize) -> Skipped
+fn behind_token(tree: &[u8], at: usize) -> Result<usize, Refusal>
     ensures { result ≡ skipped 63 tree.now Class.BareToken at }
 {
     behind(moved(new(tree), at), Class::BareToken, 63)
 }
 
 // The place behind so many tokens in a row.
-fn behind_row(tree: &[u8], at: usize, count: usize) -> Skipped
+fn behind_row(tree: &[u8], at: usize, count: usize) -> Result<usize, Refusal>
     ensures { result ≡ behind_row tree.now at count }
 {
     let mut place = at;
     let mut left = count;
     while 0 < left {
         let token = behind_token(tree, place);
-        let Skipped::Next(next) = token else {
+        let Ok(next) = token else {
             return token;
         };
         place = next;
         left -= 1;
     }
-    Skipped::Next(place)
+    Ok(place)
 }
 
 // The lesser of two numbers.
@@ -94,13 +94,13 @@ fn lesser(number: usize, other: usize) -> usize
 }
 
 // The place behind so many tokens of a file's list, behind all where it has fewer, or the refusal that is met before it.
-pub fn behind_tokens(tree: &[u8], count: usize) -> Skipped
+pub fn behind_tokens(tree: &[u8], count: usize) -> Result<usize, Refusal>
     ensures answer { result ≡ tokens_behind tree.now count }
     ensures numbers { numbers_skipped result ≡ tokens_numbers tree.now count }
 {
     let read = list_head(tree);
-    let OwnRead::Record(list) = read else {
-        return Skipped::NotSkipped(own::refusal_of(read));
+    let Ok(list) = read else {
+        return Err(own::refusal_of(read));
     };
     behind_row(tree, list.end, lesser(count, list.count))
 }

@@ -2,6 +2,7 @@
 -- what is read before them. Every field of every kind that can have trivia is among them. The rows come from a second
 -- reading of document 01 that was held against the Rust: tools/place_samples.py makes them.
 --   places_held : map found rows ≡ map wanted rows
+use Rattle.answers.specs.Numbers.{no_refusal, Checked}
 use Prim.Native.Nat.{ℕ, ◌+◌}
 use Prim.Native.String.{String}
 use mathlib.Core.Path.{◌≡◌, refl}
@@ -9,8 +10,6 @@ use mathlib.Core.List.{List, [], ◌∷◌, ◌++◌, map}
 use mathlib.Core.Bool.{false, cond}
 use lib.ListN.{get_or, take, drop}
 use lib.Dec.{eqb}
-use Rattle.answers.specs.declared.Checked.{Checked}
-use Rattle.answers.specs.declared.Checked.TheVariants.{Passed}
 use Rattle.text.specs.Ink.{flat}
 use Rattle.text.specs.Accepted.{accepted_byte, accepted_text, fault_at}
 use Rattle.text.specs.Literals.{ascii}
@@ -486,7 +485,7 @@ found_at sample here =
 
 abbrev wanted_at : Row → Note → Found
 wanted_at sample here = record {
-  checked = Passed;
+  checked = no_refusal;
   uses = here.uses;
   text = take here.before sample.text ++ (here.text ++ drop here.before sample.text);
 }

@@ -1,4 +1,6 @@
 -- A tree that was read without refusal keeps the grammar.
+use Rattle.std.specs.Prelude.{Option, Some, None, Ok}
+use Rattle.answers.specs.Numbers.{no_refusal}
 use mathlib.Core.Path.{◌≡◌, refl, sym, ◌∙◌}
 use mathlib.Core.Logic.{inl, inr}
 use mathlib.Core.List.{List, [], ◌∷◌, append-nil}
@@ -9,7 +11,6 @@ use lib.ListN.{length, get_or}
 use lib.Dec.{eqb}
 use lib.Seq.{slice}
 use borrow.Author.Tests.{eqb-true, ne_eqb}
-use Rattle.answers.specs.declared.Checked.TheVariants.{Passed}
 use Rattle.answers.proofs.Cases.{failed_passed}
 use Rattle.text.specs.Numbers.{number_at}
 use Rattle.text.proofs.Choices.{by_test, true_false, and_true_left, and_true_right}
@@ -19,12 +20,8 @@ use Rattle.tree.specs.Reading.{trivia_from, fields_due, items_due, parts_due, Re
 use Rattle.tree.specs.Tree.{Tree, absent, nil, Vec, chain, built}
 use Rattle.tree.specs.declared.grammar.Kind.{Kind}
 use Rattle.tree.specs.declared.grammar.Kind.TheVariants as variant
-use Rattle.tree.specs.declared.grammar.KindRead.TheVariants.{Known}
 use Rattle.tree.specs.declared.grammar.Class.{Class}
-use Rattle.tree.specs.declared.grammar.Items.{Items}
-use Rattle.tree.specs.declared.grammar.Items.TheVariants.{NoList, ListOf}
 use Rattle.tree.specs.declared.own.Own.{Own}
-use Rattle.tree.specs.declared.own.OwnRead.TheVariants.{Record}
 use Rattle.tree.specs.declared.own.TriviaSpan.{TriviaSpan}
 use Rattle.tree.proofs.Cases.{both_passed}
 use Rattle.tree.proofs.KindLayout.{leaf_stored}
@@ -139,7 +136,7 @@ trivia_allowed bytes at class kind trivia headed tree number =
 
 -- what is claimed of a reading
 abbrev Reads : Class → Reading → Type 0
-Reads class reading = reading.checked ≡ Passed → Shaped class reading.tree × (stands reading.tree ≡ true)
+Reads class reading = reading.checked ≡ no_refusal → Shaped class reading.tree × (stands reading.tree ≡ true)
 
 -- fields behind another
 fields_behind : (slots : List Slot) (bits place : ℕ) (tree : Tree) (trees : List Tree) → FieldsShaped slots bits place trees → FieldsShaped slots bits (suc place) (tree ∷ trees)
@@ -148,7 +145,7 @@ fields_behind (slot ∷ slots) bits place tree trees parts = (parts.0, fields_be
 
 module _ (reader : Reader) (below : (class : Class) (at : ℕ) → Reads class (reader class at)) where
   -- fields whose bits fit keep the grammar
-  fields_shaped : (slots : List Slot) (bits at : ℕ) → fields_fit slots bits ≡ true → (read_parts reader (fields_due slots bits) at).checked ≡ Passed
+  fields_shaped : (slots : List Slot) (bits at : ℕ) → fields_fit slots bits ≡ true → (read_parts reader (fields_due slots bits) at).checked ≡ no_refusal
       → FieldsShaped slots bits 0 (read_parts reader (fields_due slots bits) at).trees
   unfolding fields_fit fields_due read_parts view
   fields_shaped [] bits at fits e = tt
@@ -172,16 +169,16 @@ module _ (reader : Reader) (below : (class : Class) (at : ℕ) → Reads class (
       rw q ((inl refl, refl), fields_behind slots (bits / 2) 0 _ _ rest))
 
   -- so do the items of a list
-  items_shaped : (class : Class) (items : Items) → (rule class).items ≡ items → is_list items ≡ true → (count at : ℕ) → (read_parts reader (items_due items count) at).checked ≡ Passed
+  items_shaped : (class : Class) (items : Option Class) → (rule class).items ≡ items → is_list items ≡ true → (count at : ℕ) → (read_parts reader (items_due items count) at).checked ≡ no_refusal
       → Shaped class (chain (read_parts reader (items_due items count) at).trees)
   unfolding read_parts chain Shaped
-  items_shaped class NoList is listed count at e = true_false (sym listed)
-  items_shaped class (ListOf item) is listed zero at e = rw is
-  items_shaped class (ListOf item) is listed (suc count) at e =
+  items_shaped class None is listed count at e = true_false (sym listed)
+  items_shaped class (Some item) is listed zero at e = rw is
+  items_shaped class (Some item) is listed (suc count) at e =
       let next : ℕ = (reader item at).end in
-      let passed = both_passed (reader item at).checked (read_parts reader (items_due (ListOf item) count) next).checked e in
+      let passed = both_passed (reader item at).checked (read_parts reader (items_due (Some item) count) next).checked e in
       let one : Shaped (item_in (rule class).items class) (reader item at).tree = rw is (below item at passed.0).0 in
-      (rw is, one, items_shaped class (ListOf item) is listed count next passed.1)
+      (rw is, one, items_shaped class (Some item) is listed count next passed.1)
 
 -- ---- a record
 
@@ -201,7 +198,7 @@ module _ (bytes : List ℕ) (reader : Reader) (below : (class : Class) (at : ℕ
       → OwnReads (own_of kind (get_or bytes (at + 1) 0) trivia (trivia.end + 2) (trivia.end + 2) (number_at bytes trivia.end))
   unfolding built parts_due fields_due Shaped view
   list_reads kind trivia headed is room =
-      let known : kind_of 24 ≡ Known kind = rw is at headed.kind_is in
+      let known : kind_of 24 ≡ Some kind = rw is at headed.kind_is in
       let same : kind ≡ variant.Vec = cc in
       let listed : is_list (rule class).items ≡ true = rw is at headed.standing in
       let allowed = trivia_allowed bytes at class kind trivia headed in
@@ -234,7 +231,7 @@ module _ (bytes : List ℕ) (reader : Reader) (below : (class : Class) (at : ℕ
       ((trivia_allowed bytes at class kind trivia headed tree is, shaped), refl))
 
   -- a record whose own bytes were read
-  record_reads : (levels : ℕ) (own : Own) → read_own bytes at class levels ≡ Record own → OwnReads own
+  record_reads : (levels : ℕ) (own : Own) → read_own bytes at class levels ≡ Ok own → OwnReads own
   record_reads levels own e =
       own_cases bytes at class OwnReads list_reads
       (λ kind trivia end headed leaf stands text. other_reads kind trivia (trivia.end + 2) end headed (leaf_other (get_or bytes at 0) leaf))
@@ -244,7 +241,7 @@ module _ (bytes : List ℕ) (reader : Reader) (below : (class : Class) (at : ℕ
 -- ---- every reading
 
 -- a tree that was read without refusal keeps the grammar
-pub read_shaped : (levels : ℕ) (bytes : List ℕ) (class : Class) (at : ℕ) → (read levels bytes class at).checked ≡ Passed → Shaped class (read levels bytes class at).tree
+pub read_shaped : (levels : ℕ) (bytes : List ℕ) (class : Class) (at : ℕ) → (read levels bytes class at).checked ≡ no_refusal → Shaped class (read levels bytes class at).tree
 read_shaped levels bytes class at passed =
     (every_reading bytes (λ levels class at reading. Reads class reading)
     (λ levels class at reader why e. failed_passed e)

@@ -1,4 +1,5 @@
 -- Trees that keep the grammar, as far as the ink law goes by it: which kinds may stand where, and where trivia may.
+use Rattle.std.specs.Prelude.{Option, Some, None}
 use Prim.Native.Nat.{ℕ}
 use mathlib.Core.Path.{◌≡◌}
 use mathlib.Core.Logic.{◌⊎◌}
@@ -18,8 +19,6 @@ use Rattle.tree.specs.declared.grammar.Class.TheVariants.{VariableType, NumberTy
 use Rattle.tree.specs.declared.grammar.Class.TheVariants.{LocatedExpression, BareExpression, LocatedFactor, BareToken, LocatedToken, BlockRecord}
 use Rattle.tree.specs.declared.grammar.Class.TheVariants.{StringRecord, OperandRecord, SuffixRecord, AsRecord, ImportArguments, Tokens}
 use Rattle.tree.specs.declared.grammar.Class.TheVariants.{ExpressionArguments, IdentifierArguments, StringItems}
-use Rattle.tree.specs.declared.grammar.Items.{Items}
-use Rattle.tree.specs.declared.grammar.Items.TheVariants.{NoList, ListOf}
 use Rattle.events.specs.Views.{token_number, stands}
 
 -- "Which kind may stand in a field follows its Rust type."
@@ -38,9 +37,9 @@ abbrev pub TriviaAllowed : Class → List Trivium → Tree → Type 0
 TriviaAllowed class trivia tree = (no_trivia trivia || ((rule class).located || eqb (token_number tree) 26)) ≡ true
 
 -- the class of a list's items
-abbrev pub item_in : Items → Class → Class
-item_in NoList class = class
-item_in (ListOf item) class = item
+abbrev pub item_in : Option Class → Class → Class
+item_in None class = class
+item_in (Some item) class = item
 
 -- "A field is an `Option` in ast.rs or it must stand"
 abbrev pub Given : Tree → Type 0 → Type 0

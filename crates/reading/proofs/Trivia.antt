@@ -1,4 +1,6 @@
 -- The ink of trivia where they are printed, and of what a list prints beside its records.
+use Rattle.std.specs.Prelude.{Ok, Err}
+use Rattle.answers.specs.Numbers.{Checked}
 use mathlib.Core.Path.{◌≡◌, refl, sym, ◌∙◌}
 use mathlib.Core.List.{List, [], ◌∷◌, ◌++◌}
 use mathlib.Core.Bool.{Bool, true, false, cond, not, ◌&&◌, ◌||◌}
@@ -6,8 +8,6 @@ use Prim.Native.Nat.{ℕ}
 use native.Mathlib.Omega.{arith}
 use lib.Dec.{eqb}
 use borrow.Author.Tests.{eqb-true, eqb-false, le-leb, lt-leb}
-use Rattle.answers.specs.declared.Checked.{Checked}
-use Rattle.answers.specs.declared.Checked.TheVariants.{Passed, Failed}
 use Rattle.text.specs.Ink.{blank, ink, inks}
 use Rattle.text.specs.Lines.{is_empty, is_newline}
 use Rattle.text.proofs.Choices.{by_test, true_false}
@@ -79,8 +79,8 @@ ink_break context (behind previous) number block =
 -- nor has a refusal that a reading may have found
 pub ink_stop : (found : Checked) → ink_of (stop_at found) ≡ []
 unfolding ink_of
-ink_stop Passed = refl
-ink_stop (Failed why) = refl
+ink_stop (Ok tt) = refl
+ink_stop (Err why) = refl
 
 -- nor a field that may be skipped
 pub ink_skip : (test : Bool) (tree : Tree) → ink_of (cond test (skipping tree) nothing) ≡ []

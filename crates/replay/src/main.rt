@@ -1,7 +1,7 @@
 // Answers a stream of cases from standard input on standard output: README.md beside src/ says how a case and an answer are written.
 #![tactic(auto)]
 
-use answers::Answer;
+use answers::{Answer, Numbered};
 use losses::search::Loss;
 use std::io;
 use std::io::{BufReader, BufWriter, ErrorKind, Read, Write};
@@ -104,13 +104,13 @@ fn answer_join(
     stores::fill(text, 0, text.len(), 165);
     let answer = join::join_chunks(chunks, options, text);
     match answer {
-        Answer::Accepted(length) => {
+        Ok(length) => {
             write_head(out, answer, flag_of(text, length))?;
             if length <= text.len() {
                 out.write_all(&text[..length])?;
             }
         }
-        Answer::Refused(_) => write_head(out, answer, flag_of(text, 0))?,
+        Err(_) => write_head(out, answer, flag_of(text, 0))?,
     }
     Ok(())
 }
@@ -148,7 +148,7 @@ fn answer_repeated(
 fn answer_check(out: &mut impl Write, bytes: &[u8], text: &mut [u8]) -> io::Result<()> {
     stores::fill(text, 0, text.len(), 165);
     let checked = tree::check_tree(bytes);
-    write_head(out, checked.answer(), flag_of(text, 0))
+    write_head(out, answers::answer_of(checked), flag_of(text, 0))
 }
 
 // A case of the walk: the chunks in the work room, which holds 90s before.
@@ -163,7 +163,7 @@ fn answer_chunks(
     stores::fill(room, 0, room.len(), 90);
     let answer = tokens::chunks(bytes, options, room);
     write_head(out, answer, flag_of(text, 0))?;
-    if let Answer::Accepted(length) = answer {
+    if let Ok(length) = answer {
         if length <= room.len() {
             out.write_all(&room[..length])?;
         }
@@ -194,13 +194,13 @@ fn answer_format(
     stores::fill(work, 0, work.len(), 90);
     let answer = formatting::format(bytes, options, work, text);
     match answer {
-        Answer::Accepted(length) => {
+        Ok(length) => {
             write_head(out, answer, flag_with(work, flag_of(text, length)))?;
             if length <= text.len() {
                 out.write_all(&text[..length])?;
             }
         }
-        Answer::Refused(_) => write_head(out, answer, flag_with(work, flag_of(text, 0)))?,
+        Err(_) => write_head(out, answer, flag_with(work, flag_of(text, 0)))?,
     }
     Ok(())
 }
@@ -301,11 +301,11 @@ fn answer_lost(out: &mut impl Write, bytes: &[u8], text: &mut [u8]) -> io::Resul
                 from = at + 1;
             }
             Loss::Unused => {
-                write_head(out, Answer::Accepted(32), flag_of(text, 0))?;
+                write_head(out, Ok(32), flag_of(text, 0))?;
                 return write_noted(out, all);
             }
             Loss::Refused(refusal) => {
-                return write_head(out, Answer::Refused(refusal), flag_of(text, 0));
+                return write_head(out, Err(refusal), flag_of(text, 0));
             }
         }
     }

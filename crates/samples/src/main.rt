@@ -1,8 +1,7 @@
 // Runs the samples of document 01 and writes what comes of each; the file stdout beside src/ has what is expected.
 #![tactic(auto)]
 
-use answers::Answer;
-use options::OptionsRead;
+use answers::{Answer, Numbered};
 use std::io;
 use text::stores;
 
@@ -20,7 +19,7 @@ fn show_options(rt: &impl Print, name: &[u8], stored: &[u8]) -> io::Result<()> {
     rt.write_all(name)?;
     let read = options::read_options(stored);
     match read {
-        OptionsRead::Options(options) => {
+        Ok(options) => {
             let whitespace = options.whitespace;
             let listing = options.listing;
             rt.write_all(b" 0: indent")?;
@@ -31,7 +30,7 @@ fn show_options(rt: &impl Print, name: &[u8], stored: &[u8]) -> io::Result<()> {
             rt.write_all(b", listing")?;
             show_number(rt, listing.num_bytes_per_line)?;
         }
-        OptionsRead::Refused(refusal) => {
+        Err(refusal) => {
             let reason = refusal.reason;
             show_number(rt, reason.number())?;
             show_number(rt, refusal.place)?;
@@ -46,7 +45,7 @@ fn show_answer(rt: &impl Print, name: &[u8], answer: Answer, text: &[u8]) -> io:
     show_number(rt, answer.number())?;
     show_number(rt, answer.value())?;
     show_line(rt)?;
-    if let Answer::Accepted(length) = answer {
+    if let Ok(length) = answer {
         if length <= text.len() {
             rt.write_all(&text[..length])?;
             show_line(rt)?;

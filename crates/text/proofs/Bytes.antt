@@ -1,6 +1,7 @@
 -- Which bytes are blank, accepted and newlines, and two-byte numbers at their ends, by computing.
 --   blanks_held, accepted_held, newlines_held : all bytes that are
 --   numbers_stored, numbers_read_lem, ends_held : the stored form, reading it, and where it fits
+use Rattle.std.specs.Prelude.{Err, Ok, Some, None}
 use Prim.Native.Nat.{ℕ, zero, suc, ◌+◌}
 use mathlib.Core.Path.{◌≡◌, refl}
 use mathlib.Core.List.{List, [], ◌∷◌, map}
@@ -11,8 +12,7 @@ use Rattle.text.specs.Lines.{is_newline}
 use Rattle.text.specs.Accepted.{accepted_byte}
 use Rattle.text.specs.Numbers.{two_bytes, read_number}
 use Rattle.text.specs.Stores.{number_end}
-use Rattle.text.specs.declared.numbers.Number.TheVariants.{Read, Missing}
-use Rattle.text.specs.declared.numbers.StoredNumber.TheVariants.{NumberEnd, NoNumberRoom, TooLarge}
+use Rattle.text.specs.declared.numbers.Unstored.TheVariants.{NoRoom, TooLarge}
 
 -- those of so many numbers from one on that pass a test
 abbrev those : (ℕ → Bool) → ℕ → ℕ → List ℕ
@@ -39,11 +39,11 @@ pub numbers_stored : map two_bytes (0 ∷ 1 ∷ 255 ∷ 256 ∷ 4097 ∷ 65535 �
 numbers_stored = refl
 
 pub numbers_read_lem : map (read_number (1 ∷ 16 ∷ 255 ∷ 255 ∷ [])) (0 ∷ 1 ∷ 2 ∷ 3 ∷ 4 ∷ [])
-    ≡ Read 4097 ∷ Read 65296 ∷ Read 65535 ∷ Missing ∷ Missing ∷ []
+    ≡ Some 4097 ∷ Some 65296 ∷ Some 65535 ∷ None ∷ None ∷ []
 numbers_read_lem = refl
 
 -- of 65,535 and of 65,536, with room and without
 pub ends_held :
     let ended = number_end (0 ∷ 0 ∷ 0 ∷ []) in
-    ended 1 65535 ∷ ended 2 65535 ∷ ended 1 65536 ∷ [] ≡ NumberEnd 3 ∷ NoNumberRoom ∷ TooLarge ∷ []
+    ended 1 65535 ∷ ended 2 65535 ∷ ended 1 65536 ∷ [] ≡ Ok 3 ∷ Err NoRoom ∷ Err TooLarge ∷ []
 ends_held = refl

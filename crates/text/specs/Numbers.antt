@@ -1,7 +1,5 @@
 -- Two-byte numbers, by document 01: "All two-byte numbers are low byte first."
-use Rattle.std.specs.Prelude.{ℕ, ◌+◌, ◌*◌, ◌/◌, ◌%◌, List, [], ◌∷◌, cond, length, get_or, leb}
-use Rattle.text.specs.declared.numbers.Number.{Number}
-use Rattle.text.specs.declared.numbers.Number.TheVariants.{Read, Missing}
+use Rattle.std.specs.Prelude.{ℕ, ◌+◌, ◌*◌, ◌/◌, ◌%◌, List, [], ◌∷◌, cond, length, get_or, leb, Option, Some, None}
 
 -- the stored form of a number
 abbrev pub two_bytes : ℕ → List ℕ
@@ -12,5 +10,5 @@ abbrev pub number_at : List ℕ → ℕ → ℕ
 number_at bytes at = get_or bytes at 0 + 256 * get_or bytes (at + 1) 0
 
 -- reading a number, which is missing where the list ends before its second byte
-abbrev pub read_number : List ℕ → ℕ → Number
-read_number bytes at = cond (leb (at + 2) (length bytes)) (Read (number_at bytes at)) Missing
+abbrev pub read_number : List ℕ → ℕ → Option ℕ
+read_number bytes at = cond (leb (at + 2) (length bytes)) (Some (number_at bytes at)) None

@@ -3,20 +3,10 @@ ghost use Rattle.std.specs.Prelude.{◌≡◌, ◌<◌, get_or};
 ghost use Rattle.text.specs.Numbers.{read_number};
 ghost use Rattle.text.specs.Stores.{number_end, number_buffer};
 
-// What reading a number finds.
-#[derive(Clone, Copy)]
-pub enum Number {
-    Read(usize),
-    // The slice ends before the number's second byte.
-    Missing,
-}
-
-// What storing a number gives.
-#[derive(Clone, Copy)]
-pub enum StoredNumber {
-    // The place behind the number.
-    NumberEnd(usize),
-    NoNumberRoom,
+// Why a number is not stored.
+#[derive(Clone, Copy, Debug, PartialEq, Eq)]
+pub enum Unstored {
+    NoRoom,
     // The number is above 65,535.
     TooLarge,
 }
@@ -39,37 +29,37 @@ pub fn byte_at(bytes: &[u8], at: usize) -> usize
 }
 
 // The number at a place.
-pub fn read_number(bytes: &[u8], at: usize) -> Number
+pub fn read_number(bytes: &[u8], at: usize) -> Option<usize>
     ensures { result ≡ read_number bytes.now at }
 {
     let length = bytes.len();
     if length < 2 {
-        return Number::Missing;
+        return None;
     }
     if length - 2 < at {
-        return Number::Missing;
+        return None;
     }
     let low = wide(bytes[at]);
     let high = wide(bytes[at + 1]);
-    Number::Read(low + 256 * high)
+    Some(low + 256 * high)
 }
 
 // The number n, stored at a place.
-pub fn store_number(buffer: &mut [u8], at: usize, n: usize) -> StoredNumber
+pub fn store_number(buffer: &mut [u8], at: usize, n: usize) -> Result<usize, Unstored>
     ensures answer { result ≡ number_end buffer.old at n }
     ensures buffer { buffer.new ≡ number_buffer buffer.old at n }
 {
     if 65535 < n {
-        return StoredNumber::TooLarge;
+        return Err(Unstored::TooLarge);
     }
     let length = buffer.len();
     if length < 2 {
-        return StoredNumber::NoNumberRoom;
+        return Err(Unstored::NoRoom);
     }
     if length - 2 < at {
-        return StoredNumber::NoNumberRoom;
+        return Err(Unstored::NoRoom);
     }
     buffer[at] = (n % 256) as u8;
     buffer[at + 1] = (n / 256) as u8;
-    StoredNumber::NumberEnd(at + 2)
+    Ok(at + 2)
 }

@@ -1,5 +1,6 @@
 -- Laws of the tokens' printers: what is shown of a token is what stands before the part inside it and that part; what is shown of a token list item by item;
 -- and what the own bytes of a token say of it.
+use Rattle.std.specs.Prelude.{Some, None, Ok}
 use mathlib.Core.Path.{◌≡◌, refl, sym, ap, ◌∙◌}
 use mathlib.Core.List.{List, []}
 use mathlib.Core.Bool.{Bool, true, false, cond, ◌&&◌}
@@ -18,12 +19,9 @@ use Rattle.tree.specs.Own.{read_own}
 use Rattle.tree.specs.Reading.{Reader, due, fields_due, parts_due, read_parts, read}
 use Rattle.tree.specs.declared.grammar.Class.{Class}
 use Rattle.tree.specs.declared.grammar.Class.TheVariants.{Word, BareToken, BlockRecord, LocatedExpression, Tokens}
-use Rattle.tree.specs.declared.grammar.Items.TheVariants.{NoList}
 use Rattle.tree.specs.declared.grammar.Kind.{Kind}
 use Rattle.tree.specs.declared.grammar.Kind.TheVariants as variant
-use Rattle.tree.specs.declared.grammar.KindRead.TheVariants.{Known}
 use Rattle.tree.specs.declared.own.Own.{Own}
-use Rattle.tree.specs.declared.own.OwnRead.TheVariants as own_is
 use Rattle.tree.proofs.KindLayout.{kind_number_lem}
 use Rattle.tree.proofs.OwnBytes.{leaf_number}
 use Rattle.printing.specs.Events.{Events, nothing, ◌▹◌}
@@ -161,14 +159,14 @@ module _ (context : Context) (levels : ℕ) (bytes : List ℕ) (bits at : ℕ) (
       (λ off. rw off (alike (λ x. refl) (rw off at shown))))
 
   -- a token of a number is of its kind
-  by_kind : (number n : ℕ) (kind own : Kind) {inside : Inner} → kind_of number ≡ Known kind → number ≡ n → kind_of n ≡ Known own → inner_of number bits ≡ inside
+  by_kind : (number n : ℕ) (kind own : Kind) {inside : Inner} → kind_of number ≡ Some kind → number ≡ n → kind_of n ≡ Some own → inner_of number bits ≡ inside
       → (Inside own (inner_of n bits) n → Whole own) → Inside kind inside number → Whole kind
   by_kind number n kind own known is named inner law shown =
-      let same : own ≡ kind = (let both : kind_of n ≡ Known kind = rw is at known in cc) in
+      let same : own ≡ kind = (let both : kind_of n ≡ Some kind = rw is at known in cc) in
       rw (← same) (law (rw (← inner, is, ← same) at shown))
 
   -- so it is with any token
-  pub inside_shown : (number : ℕ) (kind : Kind) {inside : Inner} → kind_of number ≡ Known kind → Ends number bits → inner_of number bits ≡ inside
+  pub inside_shown : (number : ℕ) (kind : Kind) {inside : Inner} → kind_of number ≡ Some kind → Ends number bits → inner_of number bits ≡ inside
       → Inside kind inside number → Whole kind
   unfolding one_of
   inside_shown number kind {inside} known ends inner shown =
@@ -281,7 +279,7 @@ module _ (context : Context) (levels : ℕ) (bytes : List ℕ) (at : ℕ) {answe
 -- ---- what the own bytes of a token say of it
 
 -- the rules of both classes
-pub token_rule : (located : Bool) → ((rule (token_class located)).items ≡ NoList) × ((rule (token_class located)).last ≡ 23) × ((rule (token_class located)).value ≡ LocatedExpression)
+pub token_rule : (located : Bool) → ((rule (token_class located)).items ≡ None) × ((rule (token_class located)).last ≡ 23) × ((rule (token_class located)).value ≡ LocatedExpression)
 token_rule true = (refl, refl, refl)
 token_rule false = (refl, refl, refl)
 
@@ -296,7 +294,7 @@ no_list number small = (
 -- what is known of a token that was opened at a place
 pub record TokenOpened (bytes : List ℕ) (own : Own) (at : ℕ) : Type 0 where
   pub small : get_or bytes at 0 ≤ 23
-  pub known : kind_of (get_or bytes at 0) ≡ Known own.kind
+  pub known : kind_of (get_or bytes at 0) ≡ Some own.kind
   pub fielded : bare own.kind ≡ false
   pub ends : Ends (get_or bytes at 0) (own.map / 2)
 
@@ -332,7 +330,7 @@ items_end_lem reader class zero at = refl
 items_end_lem reader class (suc count) at = rw (items_end_lem reader class count (reader class at).end)
 
 -- so does the list
-tokens_end : (bytes : List ℕ) (at levels : ℕ) (own : Own) → read_own bytes at Tokens levels ≡ own_is.Record own → own.kind ≡ variant.Vec
+tokens_end : (bytes : List ℕ) (at levels : ℕ) (own : Own) → read_own bytes at Tokens levels ≡ Ok own → own.kind ≡ variant.Vec
     → (read levels bytes Tokens at).end ≡ items_end (read (levels - 1) bytes) BareToken own.count own.end
 unfolding parts_due fields_due built
 tokens_end bytes at levels own is same =

@@ -1,4 +1,5 @@
 -- Laws of what stands before blocks: the id of a label is its text with a colon behind, and what the position of braces says.
+use Rattle.std.specs.Prelude.{Ok}
 use mathlib.Core.Path.{◌≡◌, refl}
 use mathlib.Core.List.{List, [], ◌∷◌, ◌++◌}
 use mathlib.Core.Bool.{true, false}
@@ -12,7 +13,6 @@ use Rattle.tree.specs.Own.{read_own}
 use Rattle.tree.specs.Reading.{fields_due, parts_due, read_parts, read}
 use Rattle.tree.specs.declared.grammar.Class.TheVariants as class
 use Rattle.tree.specs.declared.own.Own.{Own}
-use Rattle.tree.specs.declared.own.OwnRead.TheVariants as own_is
 use Rattle.printing.specs.Events.{Events, push, ◌▹◌}
 use Rattle.printing.specs.Running.{Run, run, Shown}
 use Rattle.printing.specs.declared.CodeFormatter.{CodeFormatter}
@@ -33,7 +33,7 @@ use Rattle.tokens.specs.Inner.{else_front}
 
 -- what is shown of its text with a colon behind is shown of the id, where its own bytes were read
 pub id_shown : (bytes : List ℕ) (levels : ℕ) (own : Own) (context : Context) (at : ℕ) {answer : Printed} {room : List ℕ} {before : Run}
-    → read_own bytes at class.Word levels ≡ own_is.Record own
+    → read_own bytes at class.Word levels ≡ Ok own
     → Shown answer room (push chunk.Label context (slice own.text own.end bytes ++ (58 ∷ []))) before own.end
     → Shown answer room (events_in context labelled false (read levels bytes class.Word at).tree) before (read levels bytes class.Word at).end
 unfolding parts_due fields_due read_parts built events_in run
@@ -43,7 +43,7 @@ id_shown bytes levels own context at is done =
 -- what is shown from its own bytes on is shown of the record that was opened
 pub id_opened : {context : Context} {levels : ℕ} {bytes left room after : List ℕ} {last answer : Printed} {opened : Opened} {own : Own} {state : CodeFormatter}
     → Opens opened left last room context false levels bytes class.Word true → opened ≡ opened_is.Record own state
-    → ((at : ℕ) → read_own bytes at class.Word levels ≡ own_is.Record own → PrintsRecord answer after (Done state at) left context labelled false levels bytes class.Word)
+    → ((at : ℕ) → read_own bytes at class.Word levels ≡ Ok own → PrintsRecord answer after (Done state at) left context labelled false levels bytes class.Word)
     → PrintsRecord answer after last room context labelled false levels bytes class.Word
 unfolding run
 id_opened {context} {levels} {bytes} {left} {room} {last = last} {own = own} {state = state} opens is shown =

@@ -1,4 +1,6 @@
 -- Laws of a token of a list: what its lead-in has read says what it is, so what is shown behind its own bytes, or from its head on, is shown of the token.
+use Rattle.std.specs.Prelude.{Result, Some, Ok, Err}
+use Rattle.answers.specs.declared.Refusal.{Refusal}
 use mathlib.Core.Path.{◌≡◌, refl, sym, ap, ◌∙◌}
 use mathlib.Core.List.{List}
 use mathlib.Core.Bool.{Bool, true, false}
@@ -16,10 +18,7 @@ use Rattle.tree.specs.Stored.{stored_with}
 use Rattle.tree.specs.declared.grammar.Class.TheVariants.{Word, BareToken, LocatedExpression, Mnemonic, DataSize}
 use Rattle.tree.specs.declared.grammar.Kind.{Kind}
 use Rattle.tree.specs.declared.grammar.Kind.TheVariants as variant
-use Rattle.tree.specs.declared.grammar.KindRead.TheVariants.{Known}
 use Rattle.tree.specs.declared.own.Own.{Own}
-use Rattle.tree.specs.declared.own.OwnRead.{OwnRead}
-use Rattle.tree.specs.declared.own.OwnRead.TheVariants as own_is
 use Rattle.tree.proofs.KindLayout.{kind_number}
 use Rattle.tree.proofs.OwnBytes.{own_fits}
 use Rattle.printing.specs.Running.{going, run, place_of, outcome, settled, Shown, Prints}
@@ -57,9 +56,9 @@ listed_number levels bytes at context drops before room state {token} {left} {ne
     went : going left next ≡ settled (run (listed_events context drops (before_of before) (read levels bytes BareToken at).tree) (going room state))
     went = sym (ap (λ (a : Printed). outcome a left) done) ∙ shown.state
 
-    go : (own : OwnRead) → read_own bytes at BareToken levels ≡ own → token_number (read levels bytes BareToken at).tree ≡ get_or bytes at 0
-    go (own_is.Record own) is = number_read levels bytes BareToken at own is
-    go (own_is.Refused why) is =
+    go : (own : Result Own Refusal) → read_own bytes at BareToken levels ≡ own → token_number (read levels bytes BareToken at).tree ≡ get_or bytes at 0
+    go (Ok own) is = number_read levels bytes BareToken at own is
+    go (Err why) is =
         by_test (eqb state.full 0)
         (λ empty. ended_going (went
         ∙ sym (lead_stopped levels bytes at context drops (before_of before) room state (token_missing levels bytes at why is) (eqb-true _ _ empty) _ 0).state))
@@ -102,7 +101,7 @@ module _ {context : Context} {drops : Bool} {before : Before} {levels : ℕ} {by
         listed_shown token = record { ran = led.ran } then token.from at refl
 
         -- so is what is shown behind its own bytes, by its number
-        listed_kind : (number : ℕ) (kind : Kind) → get_or bytes at 0 ≡ number → kind_of number ≡ Known kind → bare kind ≡ false
+        listed_kind : (number : ℕ) (kind : Kind) → get_or bytes at 0 ≡ number → kind_of number ≡ Some kind → bare kind ≡ false
             → (own.kind ≡ kind → PrintsKind answer after (Done state own.end) left context (leaf plain) kind LocatedExpression (own.map / 2) (levels - 1) bytes)
             → Shown answer after (listed_events context drops before (read levels bytes BareToken at).tree) (outcome last room) (read levels bytes BareToken at).end
         listed_kind number kind byte known fielded done =
@@ -111,8 +110,8 @@ module _ {context : Context} {drops : Bool} {before : Before} {levels : ℕ} {by
             listed_shown (opened_kind opens refl (leaf plain) kind named fielded (done named))
 
         -- and what is shown from its head on, where that is its first field
-        listed_first : (number : ℕ) (kind : Kind) → HeadFirst number → get_or bytes at 0 ≡ number → kind_of number ≡ Known kind → bare kind ≡ false
-            → ((place : ℕ) → read_own bytes place (first_class BareToken (fields kind LocatedExpression)) (levels - 1) ≡ own_is.Record head
+        listed_first : (number : ℕ) (kind : Kind) → HeadFirst number → get_or bytes at 0 ≡ number → kind_of number ≡ Some kind → bare kind ≡ false
+            → ((place : ℕ) → read_own bytes place (first_class BareToken (fields kind LocatedExpression)) (levels - 1) ≡ Ok head
             → PrintsKind answer after (Done state place) left context (leaf plain) kind LocatedExpression (own.map / 2) (levels - 1) bytes)
             → Shown answer after (listed_events context drops before (read levels bytes BareToken at).tree) (outcome last room) (read levels bytes BareToken at).end
         listed_first number kind others byte known fielded shown =
@@ -122,7 +121,7 @@ module _ {context : Context} {drops : Bool} {before : Before} {levels : ℕ} {by
 
         -- that of an `Instruction` is its mnemonic
         pub listed_instruction : get_or bytes at 0 ≡ 13
-            → ((place : ℕ) → read_own bytes place Mnemonic (levels - 1) ≡ own_is.Record head
+            → ((place : ℕ) → read_own bytes place Mnemonic (levels - 1) ≡ Ok head
             → PrintsKind answer after (Done state place) left context (leaf plain) variant.Instruction LocatedExpression (own.map / 2) (levels - 1) bytes)
             → Shown answer after (listed_events context drops before (read levels bytes BareToken at).tree) (outcome last room) (read levels bytes BareToken at).end
         unfolding built kind_number stored_with
@@ -130,7 +129,7 @@ module _ {context : Context} {drops : Bool} {before : Before} {levels : ℕ} {by
 
         -- that of a `Label` is its id
         pub listed_label : get_or bytes at 0 ≡ 14
-            → ((place : ℕ) → read_own bytes place Word (levels - 1) ≡ own_is.Record head
+            → ((place : ℕ) → read_own bytes place Word (levels - 1) ≡ Ok head
             → PrintsKind answer after (Done state place) left context (leaf plain) variant.Label LocatedExpression (own.map / 2) (levels - 1) bytes)
             → Shown answer after (listed_events context drops before (read levels bytes BareToken at).tree) (outcome last room) (read levels bytes BareToken at).end
         unfolding built kind_number stored_with
@@ -138,7 +137,7 @@ module _ {context : Context} {drops : Bool} {before : Before} {levels : ℕ} {by
 
         -- of a `Data` what is shown from its size on
         pub listed_data : get_or bytes at 0 ≡ 5
-            → ((place : ℕ) → read_own bytes place DataSize (levels - 1) ≡ own_is.Record head
+            → ((place : ℕ) → read_own bytes place DataSize (levels - 1) ≡ Ok head
             → Prints answer after (Done state place) left (λ at. sized_events context (read (levels - 1) bytes) own.end at) (λ at. (read (levels - 1) bytes DataSize at).end))
             → Shown answer after (listed_events context drops before (read levels bytes BareToken at).tree) (outcome last room) (read levels bytes BareToken at).end
         unfolding built kind_number stored_with

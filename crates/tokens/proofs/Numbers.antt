@@ -1,7 +1,6 @@
 -- The answer of the walk has the number and the value of document 01's table.
 use mathlib.Core.Path.{◌≡◌, refl, ap, ◌∙◌}
-use Rattle.answers.specs.Numbers.{numbers}
-use Rattle.answers.specs.declared.Answer.{Answer}
+use Rattle.answers.specs.Numbers.{numbers, Answer}
 use Rattle.printing.specs.Holding.{Held, held, refused}
 use Rattle.tokens.specs.Chunks.{chunks_answer, numbers_held}
 

@@ -1,5 +1,7 @@
 -- Laws of tokens without a block or a token inside: the kind a number stands for, the number that is left, an instruction without an operand, and values that
 -- are printed behind their size.
+use Rattle.std.specs.Prelude.{Result, Some, Ok, Err}
+use Rattle.answers.specs.declared.Refusal.{Refusal}
 use mathlib.Core.Path.{◌≡◌, refl, sym, ap, ◌∙◌}
 use mathlib.Core.List.{List, []}
 use mathlib.Core.Bool.{true, false, ◌||◌}
@@ -18,13 +20,8 @@ use Rattle.tree.specs.declared.grammar.Class.{Class}
 use Rattle.tree.specs.declared.grammar.Class.TheVariants.{BareToken, LocatedExpression, ExpressionArguments, DataSize}
 use Rattle.tree.specs.declared.grammar.Kind.{Kind}
 use Rattle.tree.specs.declared.grammar.Kind.TheVariants as variant
-use Rattle.tree.specs.declared.grammar.KindRead.TheVariants.{Known}
 use Rattle.tree.specs.declared.own.Own.{Own}
-use Rattle.tree.specs.declared.own.OwnRead.TheVariants.{Record}
 use Rattle.tree.specs.declared.parts.Head.{Head}
-use Rattle.tree.specs.declared.parts.HeadRead.TheVariants.{Found}
-use Rattle.tree.specs.declared.parts.Skipped.{Skipped}
-use Rattle.tree.specs.declared.parts.Skipped.TheVariants.{Next, NotSkipped}
 use Rattle.printing.specs.Events.{nothing, space, clear, ◌▹◌}
 use Rattle.printing.specs.Running.{Run, going, ended, run, Shown}
 use Rattle.printing.specs.declared.Context.{Context}
@@ -41,9 +38,9 @@ use Rattle.tokens.specs.Inner.{value_events, sized_events, operand_events, opera
 -- ---- by the number of the kind
 
 -- a kind that was read is the one of its number
-pub kind_named : {number literal : ℕ} {kind named : Kind} → number ≡ literal → kind_of literal ≡ Known named → kind_of number ≡ Known kind → kind ≡ named
+pub kind_named : {number literal : ℕ} {kind named : Kind} → number ≡ literal → kind_of literal ≡ Some named → kind_of number ≡ Some kind → kind ≡ named
 kind_named {kind = kind} {named = named} is names known =
-    let same : Known kind ≡ Known named = sym known ∙ ap kind_of is ∙ names in
+    let same : Some kind ≡ Some named = sym known ∙ ap kind_of is ∙ names in
     cc
 
 -- of the kinds without a block or a token inside, an end is the one that no other number stands for
@@ -96,7 +93,7 @@ values_shown context levels bytes values done = alike (λ x. refl) done
 
 -- where skipping found a place the values hold no refusal, so what is shown from the size on is shown of both
 pub data_shown : (context : Context) (levels : ℕ) (bytes : List ℕ) (bits at size : ℕ) {answer : Printed} {room : List ℕ} {before : Run}
-    → skipped levels bytes ExpressionArguments at ≡ Next size
+    → skipped levels bytes ExpressionArguments at ≡ Ok size
     → Shown answer room (sized_events context (read levels bytes) at size) before (read levels bytes DataSize size).end
     → Shown answer room (events_in context (leaf plain) true (built variant.Data [] (field_trees (read levels bytes) (fields variant.Data LocatedExpression) bits at))) before
     (fields_end (read levels bytes) (fields variant.Data LocatedExpression) bits at)
@@ -108,22 +105,22 @@ data_shown context levels bytes bits at size skips done =
 -- ---- heads
 
 -- a second field was found behind the first
-second_behind : (levels : ℕ) (class : Class) (head : Head) (first : Skipped) → second_field levels class first ≡ Found head
-    → (first ≡ Next head.place) × (head.class ≡ class) × (head.levels ≡ levels)
-second_behind levels class head (Next place) e =
+second_behind : (levels : ℕ) (class : Class) (head : Head) (first : Result ℕ Refusal) → second_field levels class first ≡ Ok head
+    → (first ≡ Ok head.place) × (head.class ≡ class) × (head.levels ≡ levels)
+second_behind levels class head (Ok place) e =
     let same : record { place = place; class = class; levels = levels } ≡ head = cc in rw (← same) (refl, refl, refl)
-second_behind levels class head (NotSkipped why) e = let z : ◌≡◌ {A = ℕ} 0 1 = cc in absurd (omega arith)
+second_behind levels class head (Err why) e = let z : ◌≡◌ {A = ℕ} 0 1 = cc in absurd (omega arith)
 
 -- a token of none of the numbers whose head lies elsewhere
 abbrev pub HeadFirst : ℕ → Type 0
 HeadFirst number = ((eqb number 2 || eqb number 3) ≡ false) × (eqb number 9 ≡ false) × (eqb number 5 ≡ false) × (eqb number 28 ≡ false)
 
-module _ (levels : ℕ) (bytes : List ℕ) (at : ℕ) (own : Own) (is : read_own bytes at BareToken levels ≡ Record own) (head : Head)
-    (found : head_at levels bytes BareToken at ≡ Found head)
+module _ (levels : ℕ) (bytes : List ℕ) (at : ℕ) (own : Own) (is : read_own bytes at BareToken levels ≡ Ok own) (head : Head)
+    (found : head_at levels bytes BareToken at ≡ Ok head)
   where
     -- so where the head of a `Data` was found its values were skipped, and it is the size
     pub data_headed : get_or bytes at 0 ≡ 5
-        → (skipped (levels - 1) bytes ExpressionArguments own.end ≡ Next head.place) × (head.class ≡ DataSize) × (head.levels ≡ levels - 1)
+        → (skipped (levels - 1) bytes ExpressionArguments own.end ≡ Ok head.place) × (head.class ≡ DataSize) × (head.levels ≡ levels - 1)
     unfolding head_at field_head
     data_headed five = second_behind (levels - 1) DataSize head _ (rw (is, five) at found)
 
@@ -132,6 +129,6 @@ module _ (levels : ℕ) (bytes : List ℕ) (at : ℕ) (own : Own) (is : read_own
         → record { place = own.end; class = first_class BareToken (fields kind LocatedExpression); levels = levels - 1 } ≡ head
     unfolding head_at field_head
     first_headed number kind others is_number is-kind =
-        let same : Found (record { place = own.end; class = first_class BareToken (fields kind LocatedExpression); levels = levels - 1 }) ≡ Found head =
+        let same : Ok (record { place = own.end; class = first_class BareToken (fields kind LocatedExpression); levels = levels - 1 }) ≡ Ok head =
         rw (is, is_number, is-kind, others.0, others.1, others.2, others.3) at found in
         cc

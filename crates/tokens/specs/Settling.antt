@@ -1,7 +1,6 @@
 -- Not part of any promise of this crate: what a walk says by itself, before a check.
-use Rattle.std.specs.Prelude.{List, Bool, false, ◌&&◌, ℕ, length, eqb}
-use Rattle.answers.specs.declared.Answer.{Answer}
-use Rattle.answers.specs.declared.Answer.TheVariants as answer
+use Rattle.answers.specs.Numbers.{Answer}
+use Rattle.std.specs.Prelude.{List, Bool, false, ◌&&◌, ℕ, length, eqb, Ok, Err}
 use Rattle.options.specs.declared.FormattingOptions.{FormattingOptions}
 use Rattle.tree.specs.Checking.{read_file, plain_tree}
 use Rattle.printing.specs.Running.{going, at_start, Shown}
@@ -15,8 +14,8 @@ Walks printed left options tree room = Shown printed left (file_events options t
 
 -- its answer
 abbrev pub printed_answer : Printed → Answer
-printed_answer (Done state end) = answer.Accepted state.used
-printed_answer (Refused why) = answer.Refused why
+printed_answer (Done state end) = Ok state.used
+printed_answer (Refused why) = Err why
 
 -- it went on to the tree's last byte, and no text can hold a byte above 127: the tree is accepted
 unfoldable pub settles : List ℕ → Printed → Bool

@@ -1,7 +1,6 @@
 // What tokens print before the block or the token inside them.
-ghost use Rattle.std.specs.Prelude.{◌≡◌, false, ℕ, ◌≤◌, length};
+ghost use Rattle.std.specs.Prelude.{◌≡◌, false, ℕ, ◌≤◌, length, Ok};
 ghost use Rattle.tree.specs.declared.grammar.Class.TheVariants as class;
-ghost use Rattle.tree.specs.declared.own.OwnRead.TheVariants.{Record};
 ghost use Rattle.tree.specs.Kinds as kinds;
 ghost use Rattle.tree.specs.Own.{read_own};
 ghost use Rattle.tree.specs.Reading.{read};
@@ -85,7 +84,7 @@ fn push_label(
 ) -> Printed
     requires { (id.text ≤ id.end) × (id.end ≤ length tree.now) }
     ensures { let bytes = tree.now in
-        ((levels at : ℕ) → read_own bytes at class.Word levels ≡ Record id
+        ((levels at : ℕ) → read_own bytes at class.Word levels ≡ Ok id
         → PrintsRecord result room.new (Done state at) room.old context Trees.labelled false
         levels bytes class.Word) }
 {
@@ -138,7 +137,7 @@ pub(crate) fn format_listed_label(
 ) -> Printed
     requires { (id.text ≤ id.end) × (id.end ≤ length tree.now) }
     ensures { let bytes = tree.now in
-        ((at : ℕ) → read_own bytes at class.Word levels ≡ Record id
+        ((at : ℕ) → read_own bytes at class.Word levels ≡ Ok id
         → PrintsFront result room.new (Done state at) room.old context kinds.label levels bytes) }
 {
     let label = push_label(tree, room, context, id, state);

@@ -1,16 +1,15 @@
 // The printers of tokens and blocks, and the walk over a whole tree.
 #![tactic(auto)]
 
-ghost use Rattle.std.specs.Prelude.{◌≡◌, length};
+ghost use Rattle.std.specs.Prelude.{◌≡◌, length, Ok};
 ghost use Rattle.answers.specs.Numbers.{numbers};
 ghost use Rattle.options.specs.Types.{Narrow};
-ghost use Rattle.options.specs.declared.OptionsRead.TheVariants as options_are;
 ghost use Rattle.tokens.specs.Chunks.{held_with, room_with, one_pass_with, chunks_held, chunks_answer, RoomHolds, chunks_room, one_pass_room};
 ghost use Rattle.tokens.specs.Chunks.{numbers_held};
 ghost use Rattle.tokens.specs.Settling.{Walks, printed_answer, settles};
 
 use answers::{Answer, Checked};
-use options::{FormattingOptions, OptionsRead};
+use options::FormattingOptions;
 use printing::{CodeFormatter, Context, Printed};
 use tree::check;
 
@@ -36,23 +35,23 @@ fn printed_answer(printed: Printed) -> Answer
     ensures { result ≡ printed_answer printed }
 {
     match printed {
-        Printed::Done(state, _) => Answer::Accepted(state.used),
-        Printed::Refused(refusal) => Answer::Refused(refusal),
+        Printed::Done(state, _) => Ok(state.used),
+        Printed::Refused(refusal) => Err(refusal),
     }
 }
 
 // The walk under given options: refusals 3, 4, 5, 7 and 8.
 fn chunks_with(tree: &[u8], options: FormattingOptions, room: &mut [u8]) -> Answer
     requires { Narrow options }
-    ensures answer { let held = held_with (options_are.Options options) tree.now (length room.old) in
+    ensures answer { let held = held_with (Ok options) tree.now (length room.old) in
         result ≡ chunks_answer held }
-    ensures stored { let held = held_with (options_are.Options options) tree.now (length room.old) in
+    ensures stored { let held = held_with (Ok options) tree.now (length room.old) in
         RoomHolds held room.new }
-    ensures room { room.new ≡ room_with (options_are.Options options) tree.now room.old }
+    ensures room { room.new ≡ room_with (Ok options) tree.now room.old }
 {
     let checked = tree::check_tree(tree);
-    if let Checked::Failed(refusal) = checked {
-        return Answer::Refused(refusal);
+    if let Err(refusal) = checked {
+        return Err(refusal);
     }
     let printed = walk_file(tree, options, room);
     printed_answer(printed)
@@ -70,8 +69,8 @@ pub fn chunks(tree: &[u8], options: &[u8], room: &mut [u8]) -> Answer
 {
     let read = options::read_options(options);
     match read {
-        OptionsRead::Options(options) => chunks_with(tree, options, room),
-        OptionsRead::Refused(refusal) => Answer::Refused(refusal),
+        Ok(options) => chunks_with(tree, options, room),
+        Err(refusal) => Err(refusal),
     }
 }
 
@@ -92,16 +91,16 @@ fn settles(tree: &[u8], printed: Printed) -> bool
 // The walk under given options before the check: refusals 3, 4, 5, 7 and 8.
 fn one_pass_with(tree: &[u8], options: FormattingOptions, room: &mut [u8]) -> Answer
     requires { Narrow options }
-    ensures answer { let held = held_with (options_are.Options options) tree.now (length room.old) in
+    ensures answer { let held = held_with (Ok options) tree.now (length room.old) in
         result ≡ chunks_answer held }
-    ensures stored { let held = held_with (options_are.Options options) tree.now (length room.old) in
+    ensures stored { let held = held_with (Ok options) tree.now (length room.old) in
         RoomHolds held room.new }
-    ensures room { room.new ≡ one_pass_with (options_are.Options options) tree.now room.old }
+    ensures room { room.new ≡ one_pass_with (Ok options) tree.now room.old }
 {
     // a tree of a wrong length, however long, is refused without a look at its bytes
     let sized = check::check_length(tree, 65535);
-    if let Checked::Failed(refusal) = sized {
-        return Answer::Refused(refusal);
+    if let Err(refusal) = sized {
+        return Err(refusal);
     }
     let printed = walk_file(tree, options, room);
     let answer = printed_answer(printed);
@@ -109,8 +108,8 @@ fn one_pass_with(tree: &[u8], options: FormattingOptions, room: &mut [u8]) -> An
         return answer;
     }
     let checked = tree::check_tree(tree);
-    if let Checked::Failed(refusal) = checked {
-        return Answer::Refused(refusal);
+    if let Err(refusal) = checked {
+        return Err(refusal);
     }
     answer
 }
@@ -128,7 +127,7 @@ pub fn chunks_in_one_pass(tree: &[u8], options: &[u8], room: &mut [u8]) -> Answe
 {
     let read = options::read_options(options);
     match read {
-        OptionsRead::Options(options) => one_pass_with(tree, options, room),
-        OptionsRead::Refused(refusal) => Answer::Refused(refusal),
+        Ok(options) => one_pass_with(tree, options, room),
+        Err(refusal) => Err(refusal),
     }
 }

@@ -1,13 +1,11 @@
 // Tokens without a block or a token inside: the arms of `format_token`.
-ghost use Rattle.std.specs.Prelude.{◌≡◌, true, false, ℕ, ◌≤◌, length};
+ghost use Rattle.std.specs.Prelude.{◌≡◌, true, false, ℕ, ◌≤◌, length, Some, Ok};
 ghost use Rattle.tree.specs.Grammar.{kind_of};
 ghost use Rattle.tree.specs.Own.{read_own};
 ghost use Rattle.tree.specs.Reading.{read};
 ghost use Rattle.tree.specs.declared.grammar.Class.TheVariants as class;
 ghost use Rattle.tree.specs.declared.grammar.Kind.{Kind};
-ghost use Rattle.tree.specs.declared.grammar.KindRead.TheVariants.{Known};
 ghost use Rattle.tree.specs.declared.grammar.Kind.TheVariants as kind;
-ghost use Rattle.tree.specs.declared.own.OwnRead.TheVariants.{Record};
 ghost use Rattle.printing.specs.Running.{Prints};
 ghost use Rattle.printing.specs.declared.Printed.TheVariants.{Done};
 ghost use Rattle.leaves.specs.Records.{PrintsNode};
@@ -88,7 +86,7 @@ pub(crate) fn format_sized(
 ) -> Printed
     requires { (size.text ≤ size.end) × (size.end ≤ length tree.now) }
     ensures { let reader = read levels tree.now in
-        ((at : ℕ) → read_own tree.now at class.DataSize levels ≡ Record size
+        ((at : ℕ) → read_own tree.now at class.DataSize levels ≡ Ok size
         → Prints result room.new (Done state at) room.old
         (λ place. sized_events context reader values place)
         (λ place. (reader class.DataSize place).end)) }
@@ -166,7 +164,7 @@ pub(crate) fn format_listed_instruction(
 ) -> Printed
     requires { (mnemonic.text ≤ mnemonic.end) × (mnemonic.end ≤ length tree.now) }
     ensures { let bytes = tree.now in
-        ((at : ℕ) → read_own bytes at class.Mnemonic levels ≡ Record mnemonic
+        ((at : ℕ) → read_own bytes at class.Mnemonic levels ≡ Ok mnemonic
         → PrintsNode result room.new (Done state at) room.old context kind.Instruction bits
         levels bytes) }
 {
@@ -298,7 +296,7 @@ pub(crate) fn format_plain_token(
     bits: usize,
     last: Printed,
 ) -> Printed
-    ensures { is_plain number ≡ true → (kind : Kind) → kind_of number ≡ Known kind
+    ensures { is_plain number ≡ true → (kind : Kind) → kind_of number ≡ Some kind
         → PrintsNode result room.new last room.old context kind bits levels tree.now }
 {
     match number {

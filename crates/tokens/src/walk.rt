@@ -1,11 +1,10 @@
 // The walk: a token opens a block, a block opens a token list, and a list returns to tokens.
-ghost use Rattle.std.specs.Prelude.{◌≡◌, true, false, ◌-◌, ◌<◌, ◌≤◌};
+ghost use Rattle.std.specs.Prelude.{◌≡◌, true, false, ◌-◌, ◌<◌, ◌≤◌, Some};
 ghost use Rattle.tree.specs.Kinds as kinds;
 ghost use Rattle.tree.specs.Grammar.{kind_of};
 ghost use Rattle.tree.specs.Reading.{read};
 ghost use Rattle.tree.specs.declared.grammar.Class.TheVariants as class;
 ghost use Rattle.tree.specs.declared.grammar.Kind.{Kind};
-ghost use Rattle.tree.specs.declared.grammar.KindRead.TheVariants.{Known};
 ghost use Rattle.printing.specs.Running.{Prints};
 ghost use Rattle.events.specs.Printed.{plain};
 ghost use Rattle.events.specs.Trees as Trees;
@@ -225,7 +224,7 @@ fn format_inner(
 ) -> Printed
     requires narrow { Narrow context levels }
     requires ends { Ends number bits }
-    ensures { number ≤ kinds.variable_definition → (kind : Kind) → kind_of number ≡ Known kind
+    ensures { number ≤ kinds.variable_definition → (kind : Kind) → kind_of number ≡ Some kind
         → PrintsNode result room.new last room.old context kind bits levels tree.now }
 {
     let inner = inner_of(number, bits);

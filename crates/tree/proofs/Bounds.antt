@@ -1,6 +1,7 @@
 -- No more blocks stand in each other than there are levels, and every text lies within the bytes.
 --   read_nesting : .. nesting (read levels bytes class at .tree) ≤ levels
 --   texts_inside : .. List.Memᴰ text (read levels bytes class at .texts) → Inside bytes text
+use Rattle.std.specs.Prelude.{Some, Ok}
 use mathlib.Core.Path.{◌≡◌, refl}
 use mathlib.Core.Logic.{⊎_elim}
 use mathlib.Core.List.Memᴰ
@@ -20,8 +21,6 @@ use Rattle.tree.specs.declared.grammar.Kind.{Kind}
 use Rattle.tree.specs.declared.grammar.Kind.TheVariants as variant
 use Rattle.tree.specs.declared.grammar.Class.{Class}
 use Rattle.tree.specs.declared.own.Own.{Own}
-use Rattle.tree.specs.declared.own.Span.TheVariants.{Behind}
-use Rattle.tree.specs.declared.own.OwnRead.TheVariants.{Record}
 use Rattle.tree.specs.declared.own.TriviaSpan.{TriviaSpan}
 use Rattle.tree.proofs.OwnBytes.{ItemHeld, Headed, items_held, trivia_of_lem, trivia_cases, own_cases}
 use Rattle.tree.proofs.Readings.{every_reading}
@@ -130,7 +129,7 @@ module _ (bytes : List ℕ) where
       rw (q, length-slice (at + 3) (at + 3 + number_at bytes (at + 1)) bytes last) (λ some. (omega arith, omega arith, (at + 3 + number_at bytes (at + 1), refl))))
 
   -- those of trivia items
-  items_texts : (at count end : ℕ) → 1 ≤ at → trivia_end bytes at count ≡ Behind end
+  items_texts : (at count end : ℕ) → 1 ≤ at → trivia_end bytes at count ≡ Some end
       → (text : Placed) → Memᴰ text (trivia_texts bytes at count) → Stands bytes text
   unfolding trivia_texts
   items_texts at zero end first e text member = absurd (Memᴰ.not-nil member)
@@ -158,7 +157,7 @@ module _ (bytes : List ℕ) where
       (Memᴰ.append_cases (trivia_texts bytes trivia.first trivia.count) member)
 
   -- those of a record's own bytes
-  record_texts : (at : ℕ) (class : Class) (levels : ℕ) (own : Own) → read_own bytes at class levels ≡ Record own
+  record_texts : (at : ℕ) (class : Class) (levels : ℕ) (own : Own) → read_own bytes at class levels ≡ Ok own
       → (text : Placed) → Memᴰ text (texts_of bytes own) → Stands bytes text
   record_texts at class =
       own_cases bytes at class (λ (own : Own). (text : Placed) → Memᴰ text (texts_of bytes own) → Stands bytes text)

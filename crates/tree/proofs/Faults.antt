@@ -1,4 +1,5 @@
 -- Laws of the first byte that no text may hold, while the tree is read: how the place found so far goes on from text to text.
+use Rattle.std.specs.Prelude.{Some}
 use mathlib.Core.Path.{◌≡◌, refl, sym, ◌∙◌}
 use mathlib.Core.List.{List, [], ◌∷◌, ◌++◌, Memᴰ}
 use mathlib.Core.Bool.{true}
@@ -17,7 +18,6 @@ use Rattle.tree.specs.Own.{trivia_end}
 use Rattle.tree.specs.Reading.{Placed, trivium_behind, trivium_text, trivia_texts, text_of, texts_of}
 use Rattle.tree.specs.Walk.{fault_with, fault_from}
 use Rattle.tree.specs.declared.own.Own.{Own}
-use Rattle.tree.specs.declared.own.Span.TheVariants.{Behind}
 use Rattle.tree.proofs.OwnBytes.{ItemHeld, items_held}
 
 -- ---- one text
@@ -75,13 +75,13 @@ own_texts bytes own fault first last e f =
 -- items that keep the layout are left, and give the place that all of them give
 pub record ItemsLeft (bytes : List ℕ) (at count fault place left found : ℕ) : Type 0 where
   pub end : ℕ
-  pub items : trivia_end bytes place left ≡ Behind end
+  pub items : trivia_end bytes place left ≡ Some end
   pub same : fault_from bytes fault (trivia_texts bytes at count) ≡ fault_from bytes found (trivia_texts bytes place left)
 
 -- an item is left: it lies within the bytes, and those behind it are left after its text
-trivium_first : (bytes : List ℕ) (place left end found : ℕ) → 0 < left → trivia_end bytes place left ≡ Behind end
+trivium_first : (bytes : List ℕ) (place left end found : ℕ) → 0 < left → trivia_end bytes place left ≡ Some end
     → ItemHeld bytes place
-    × (trivia_end bytes (trivium_behind bytes place) (left - 1) ≡ Behind end)
+    × (trivia_end bytes (trivium_behind bytes place) (left - 1) ≡ Some end)
     × (fault_from bytes found (trivia_texts bytes place left)
     ≡ fault_from bytes (fault_with bytes found (record { place = place + 3; bytes = trivium_text bytes place })) (trivia_texts bytes (trivium_behind bytes place) (left - 1)))
 unfolding fault_from trivia_texts

@@ -1,4 +1,7 @@
 -- Laws of what the walk reads beside own bytes: the place behind a record, a trivia item as `trivia_from` has it, and a token's head.
+use Rattle.std.specs.Prelude.{Option, Result, Some, None, Ok, Err}
+use Rattle.tree.specs.declared.parts.Head.{Head}
+use Rattle.answers.specs.Numbers.{Checked}
 use mathlib.Core.Path.{◌≡◌, refl, sym, ap, ◌∙◌}
 use mathlib.Core.List.{List, ◌∷◌}
 use mathlib.Core.Bool.{true, false, ◌||◌}
@@ -9,8 +12,6 @@ use lib.ListN.{length, get_or}
 use lib.Seq.{slice, slice_empty}
 use borrow.Author.Tests.{eq-eqb, ne_eqb, le-leb, lt-leb}
 use Rattle.answers.specs.declared.Refusal.{Refusal}
-use Rattle.answers.specs.declared.Checked.{Checked}
-use Rattle.answers.specs.declared.Checked.TheVariants.{Passed, Failed}
 use Rattle.text.specs.Numbers.{number_at}
 use Rattle.text.proofs.Choices.{by_test}
 use Rattle.tree.specs.Grammar.{Slot}
@@ -22,18 +23,7 @@ use Rattle.tree.specs.Parts.{skipped_on, skipped, item_to, trivium_on, trivium_a
 use Rattle.tree.specs.declared.grammar.Class.{Class}
 use Rattle.tree.specs.declared.grammar.Class.TheVariants.{BareExpression, BlockRecord}
 use Rattle.tree.specs.declared.own.Own.{Own}
-use Rattle.tree.specs.declared.own.OwnRead.{OwnRead}
-use Rattle.tree.specs.declared.own.OwnRead.TheVariants.{Record, Refused}
-use Rattle.tree.specs.declared.own.Span.{Span}
-use Rattle.tree.specs.declared.own.Span.TheVariants.{Behind, Broken}
-use Rattle.tree.specs.declared.check.RecordRead.{RecordRead}
-use Rattle.tree.specs.declared.check.RecordRead.TheVariants as record_read_here
-use Rattle.tree.specs.declared.parts.Skipped.{Skipped}
-use Rattle.tree.specs.declared.parts.Skipped.TheVariants.{Next, NotSkipped}
 use Rattle.tree.specs.declared.parts.TriviumSpan.{TriviumSpan}
-use Rattle.tree.specs.declared.parts.TriviumRead.TheVariants.{Item, BrokenItem}
-use Rattle.tree.specs.declared.parts.HeadRead.{HeadRead}
-use Rattle.tree.specs.declared.parts.HeadRead.TheVariants.{NoHead}
 use Rattle.tree.proofs.Rows.{row_first, row_none}
 use Rattle.tree.proofs.OwnBytes.{item_held, own_fits}
 use Rattle.tree.proofs.Records.{level_left}
@@ -41,17 +31,17 @@ use Rattle.tree.proofs.Records.{level_left}
 -- ---- the place behind a record
 
 -- what a record that was read says of it
-abbrev pub skipped_of : RecordRead → Skipped
-skipped_of (record_read_here.Whole end fault) = Next end
-skipped_of (record_read_here.Refused refusal) = NotSkipped refusal
+abbrev pub skipped_of : Result (ℕ × ℕ) Refusal → Result ℕ Refusal
+skipped_of (Ok (end, fault)) = Ok end
+skipped_of (Err refusal) = Err refusal
 
 -- it is the end of what was read, or the refusal met
 skip_on : (bytes : List ℕ) (fault end : ℕ) (texts : List Placed) (checked : Checked) → skipped_of (record_on bytes fault end texts checked) ≡ skipped_on end checked
-skip_on bytes fault end texts Passed = refl
-skip_on bytes fault end texts (Failed refusal) = refl
+skip_on bytes fault end texts (Ok tt) = refl
+skip_on bytes fault end texts (Err refusal) = refl
 
 -- so it is for every record
-pub skip_read : (levels : ℕ) (bytes : List ℕ) (class : Class) (at fault : ℕ) (read_record found : RecordRead)
+pub skip_read : (levels : ℕ) (bytes : List ℕ) (class : Class) (at fault : ℕ) (read_record found : Result (ℕ × ℕ) Refusal)
     → read_record ≡ record_read bytes fault (read levels bytes class at) → read_record ≡ found → skipped_of found ≡ skipped levels bytes class at
 unfolding skipped record_read
 skip_read levels bytes class at fault read_record found same is =
@@ -61,22 +51,22 @@ skip_read levels bytes class at fault read_record found same is =
 -- ---- a trivia item
 
 -- an item that breaks the layout
-pub item_broken : (bytes : List ℕ) (at : ℕ) (span : Span) → span ≡ trivium_end bytes at → span ≡ Broken → BrokenItem ≡ trivium_at bytes at
+pub item_broken : (bytes : List ℕ) (at : ℕ) (span : Option ℕ) → span ≡ trivium_end bytes at → span ≡ None → None ≡ trivium_at bytes at
 unfolding trivium_at
 item_broken bytes at span same is = ap (trivium_on bytes at) (sym is ∙ same)
 
-module _ (bytes : List ℕ) (at : ℕ) (span : Span) (same : span ≡ trivium_end bytes at) (end : ℕ) (is : span ≡ Behind end) where
+module _ (bytes : List ℕ) (at : ℕ) (span : Option ℕ) (same : span ≡ trivium_end bytes at) (end : ℕ) (is : span ≡ Some end) where
   -- an item that keeps it has a first byte
   pub item_inside : at + 1 ≤ length bytes
   item_inside = let held = (item_held bytes at end (sym same ∙ is)).0 in omega arith
 
   -- a newline
-  pub item_newline : get_or bytes at 0 ≡ 1 → Item (record { code = get_or bytes at 0; start = end; end = end }) ≡ trivium_at bytes at
+  pub item_newline : get_or bytes at 0 ≡ 1 → Some (record { code = get_or bytes at 0; start = end; end = end }) ≡ trivium_at bytes at
   unfolding trivium_at
   item_newline newline = sym (ap (trivium_on bytes at) (sym same ∙ is) ∙ simp (eq-eqb _ _ newline))
 
   -- an item with a text
-  pub item_text : (get_or bytes at 0 ≡ 1 → ⊥) → Item (record { code = get_or bytes at 0; start = at + 3; end = end }) ≡ trivium_at bytes at
+  pub item_text : (get_or bytes at 0 ≡ 1 → ⊥) → Some (record { code = get_or bytes at 0; start = at + 3; end = end }) ≡ trivium_at bytes at
   unfolding trivium_at
   item_text other = sym (ap (trivium_on bytes at) (sym same ∙ is) ∙ simp (ne_eqb _ _ other))
 
@@ -89,7 +79,7 @@ pub record ItemRead (bytes : List ℕ) (at : ℕ) (item : TriviumSpan) : Type 0 
   pub behind : item.end ≡ trivium_behind bytes at
 
 -- the item up to the place that `trivium_end` gives is one
-item_here : (bytes : List ℕ) (at end : ℕ) → trivium_end bytes at ≡ Behind end
+item_here : (bytes : List ℕ) (at end : ℕ) → trivium_end bytes at ≡ Some end
     → ItemRead bytes at (item_to bytes at end)
 item_here bytes at end is =
     let held = item_held bytes at end is in
@@ -113,17 +103,17 @@ item_here bytes at end is =
     })
 
 -- by what `trivium_end` gives
-item_on : (bytes : List ℕ) (at : ℕ) (item : TriviumSpan) (span : Span) → trivium_end bytes at ≡ span → trivium_on bytes at span ≡ Item item → ItemRead bytes at item
-item_on bytes at item (Behind end) is e = let same : item_to bytes at end ≡ item = cc in rw (← same) (item_here bytes at end is)
-item_on bytes at item Broken is e = let z : ◌≡◌ {A = ℕ} 0 1 = cc in absurd (omega arith)
+item_on : (bytes : List ℕ) (at : ℕ) (item : TriviumSpan) (span : Option ℕ) → trivium_end bytes at ≡ span → trivium_on bytes at span ≡ Some item → ItemRead bytes at item
+item_on bytes at item (Some end) is e = let same : item_to bytes at end ≡ item = cc in rw (← same) (item_here bytes at end is)
+item_on bytes at item None is e = let z : ◌≡◌ {A = ℕ} 0 1 = cc in absurd (omega arith)
 
 -- what `trivium_at` finds is one
-pub item_read : (bytes : List ℕ) (at : ℕ) (item : TriviumSpan) → trivium_at bytes at ≡ Item item → ItemRead bytes at item
+pub item_read : (bytes : List ℕ) (at : ℕ) (item : TriviumSpan) → trivium_at bytes at ≡ Some item → ItemRead bytes at item
 unfolding trivium_at
 item_read bytes at item e = item_on bytes at item (trivium_end bytes at) refl e
 
 -- it is the first of the items that stand there
-pub items_first : (bytes : List ℕ) (at count : ℕ) (item : TriviumSpan) → trivium_at bytes at ≡ Item item
+pub items_first : (bytes : List ℕ) (at count : ℕ) (item : TriviumSpan) → trivium_at bytes at ≡ Some item
     → trivia_from bytes at (suc count) ≡ record { code = item.code; text = slice item.start item.end bytes } ∷ trivia_from bytes item.end count
 unfolding trivia_from
 items_first bytes at count item e = let this = item_read bytes at item e in rw (this.code, this.text, this.behind)
@@ -143,51 +133,51 @@ module _ (class : Class) (slots : List Slot) (row : ℕ) (same : row ≡ row_of 
       known first.slot first.code ∙ sym (ap (first_class class) first.same)
 
 -- own bytes that were read stand within the bytes
-pub own_inside : (bytes : List ℕ) (at : ℕ) (read-own : OwnRead) (own : Own) → Fits bytes at read-own → read-own ≡ Record own → at + 2 ≤ length bytes
+pub own_inside : (bytes : List ℕ) (at : ℕ) (read-own : Result Own Refusal) (own : Own) → Fits bytes at read-own → read-own ≡ Ok own → at + 2 ≤ length bytes
 own_inside bytes at read-own own fits is = let held : OwnFits bytes at own = rw is at fits in omega (arith, held.behind, held.part, held.inside)
 
-module _ (levels : ℕ) (bytes : List ℕ) (class : Class) (at : ℕ) (read-own : OwnRead) (same : read-own ≡ read_own bytes at class levels) where
+module _ (levels : ℕ) (bytes : List ℕ) (class : Class) (at : ℕ) (read-own : Result Own Refusal) (same : read-own ≡ read_own bytes at class levels) where
   -- the own bytes of a record within a token are refused
-  pub inner_refused : (refusal : Refusal) → read-own ≡ Refused refusal → NoHead refusal ≡ inner_head levels bytes class at
+  pub inner_refused : (refusal : Refusal) → read-own ≡ Err refusal → Err refusal ≡ inner_head levels bytes class at
   unfolding inner_head
   inner_refused refusal is = ap (inner_on levels bytes class at) (sym is ∙ same)
 
   -- those of a token
-  pub head_refused : (refusal : Refusal) → read-own ≡ Refused refusal → NoHead refusal ≡ head_at levels bytes class at
+  pub head_refused : (refusal : Refusal) → read-own ≡ Err refusal → Err refusal ≡ head_at levels bytes class at
   unfolding head_at
   head_refused refusal is = ap (head_on levels bytes class at) (sym is ∙ same)
 
   -- a record within a token that was read
-  pub inner_field : (own : Own) → read-own ≡ Record own → (number : ℕ) → number ≡ get_or bytes at 0 → (found : HeadRead)
+  pub inner_field : (own : Own) → read-own ≡ Ok own → (number : ℕ) → number ≡ get_or bytes at 0 → (found : Result Head Refusal)
       → found ≡ field_head levels bytes class number own → found ≡ inner_head levels bytes class at
   unfolding inner_head
   inner_field own is number first found e = e ∙ rw first (ap (inner_on levels bytes class at) (sym is ∙ same))
 
   -- behind the own bytes of a token that were read stands its head
-  pub head_behind_read : (own : Own) → read-own ≡ Record own → head_behind levels bytes class at own ≡ head_at levels bytes class at
+  pub head_behind_read : (own : Own) → read-own ≡ Ok own → head_behind levels bytes class at own ≡ head_at levels bytes class at
   unfolding head_behind head_at
   head_behind_read own is =
       let held = own_fits bytes at class levels own (sym same ∙ is) in
       let level = level_left levels bytes class at read-own same own is in
-      let here : head_behind levels bytes class at own ≡ head_on levels bytes class at (Record own) =
+      let here : head_behind levels bytes class at own ≡ head_on levels bytes class at (Ok own) =
       simp (ne_eqb levels 0 (λ none. omega (arith, level, none)), lt-leb (length bytes) at (omega (arith, held.behind, held.part, held.inside))) in
       here ∙ ap (head_on levels bytes class at) (sym is ∙ same)
 
 -- ---- behind own bytes, by the number of the kind
 
 -- none where no level is left
-pub head_low : (levels : ℕ) (bytes : List ℕ) (class : Class) (at : ℕ) (own : Own) → levels ≡ 0 → NoHead (layout at) ≡ head_behind levels bytes class at own
+pub head_low : (levels : ℕ) (bytes : List ℕ) (class : Class) (at : ℕ) (own : Own) → levels ≡ 0 → Err (layout at) ≡ head_behind levels bytes class at own
 unfolding head_behind
 head_low levels bytes class at own none = sym (simp (eq-eqb _ _ none))
 
 module _ (levels : ℕ) (bytes : List ℕ) (class : Class) (at : ℕ) (own : Own) (some : levels ≡ 0 → ⊥) where
   -- or at the end
-  pub head_past : length bytes ≤ at → NoHead (layout at) ≡ head_behind levels bytes class at own
+  pub head_past : length bytes ≤ at → Err (layout at) ≡ head_behind levels bytes class at own
   unfolding head_behind
   head_past past = sym (simp (ne_eqb _ _ some, le-leb _ _ past))
 
-  module _ (inside : at < length bytes) (number : ℕ) (first : number ≡ get_or bytes at 0) (found : HeadRead) where
-    head_here : head_behind levels bytes class at own ≡ head_on levels bytes class at (Record own)
+  module _ (inside : at < length bytes) (number : ℕ) (first : number ≡ get_or bytes at 0) (found : Result Head Refusal) where
+    head_here : head_behind levels bytes class at own ≡ head_on levels bytes class at (Ok own)
     unfolding head_behind
     head_here = simp (ne_eqb _ _ some, lt-leb _ _ inside)
 

@@ -1,4 +1,5 @@
 -- The layout of a tree of each kind, from the stored forms of its parts.
+use Rattle.std.specs.Prelude.{Some, None}
 use mathlib.Core.Path.{◌≡◌, refl}
 use mathlib.Core.List.{List, [], ◌∷◌, map}
 use mathlib.Core.Bool.{Bool, true, false, ◌&&◌}
@@ -14,7 +15,6 @@ use Rattle.tree.specs.Tree.{Tree, Trivium, absent, chain, built}
 use Rattle.tree.specs.Stored.{stored_node, stored_leaf, item_count, stored_with, stored}
 use Rattle.tree.specs.declared.grammar.Kind.{Kind}
 use Rattle.tree.specs.declared.grammar.Kind.TheVariants as variant
-use Rattle.tree.specs.declared.grammar.KindRead.TheVariants.{Known, Unknown}
 use Rattle.tree.specs.declared.grammar.Class.{Class}
 use Rattle.tree.proofs.OwnBytes.{leaf_number}
 
@@ -83,7 +83,7 @@ in_order first (kind ∷ others) = eqb (kind_number kind) first && in_order (suc
 
 -- the number of a kind that stands in order is its place
 number_in_order : (first : ℕ) (those : List Kind) (number : ℕ) (kind : Kind) → in_order first those ≡ true
-    → get_or (map Known those) number Unknown ≡ Known kind → kind_number kind ≡ first + number
+    → get_or (map Some those) number None ≡ Some kind → kind_number kind ≡ first + number
 number_in_order first [] number kind order e = let z : ◌≡◌ {A = ℕ} 0 1 = cc in absurd (omega arith)
 number_in_order first (here ∷ others) zero kind order e =
     let same : kind_number kind ≡ kind_number here = cc in
@@ -92,7 +92,7 @@ number_in_order first (here ∷ others) (suc number) kind order e =
     omega (arith, number_in_order (suc first) others number kind (and_true_right (eqb (kind_number here) first) (in_order (suc first) others) order) e)
 
 -- the byte of a kind is its number
-pub kind_number_lem : (number : ℕ) (kind : Kind) → kind_of number ≡ Known kind → kind_number kind ≡ number
+pub kind_number_lem : (number : ℕ) (kind : Kind) → kind_of number ≡ Some kind → kind_number kind ≡ number
 unfolding kind_number stored_with built
 kind_number_lem number kind e = omega (arith, number_in_order 0 all_kinds number kind refl e)
 
@@ -119,18 +119,18 @@ items_stored [] = refl
 items_stored (tree ∷ trees) = rw (items_stored trees)
 
 -- a leaf of either kind has no fields, and is stored as a leaf
-pub leaf_stored : (number : ℕ) (kind : Kind) (value : Class) (trivia : List Trivium) (text : List ℕ) (trees : List Tree) → leaf_number number ≡ true → kind_of number ≡ Known kind
+pub leaf_stored : (number : ℕ) (kind : Kind) (value : Class) (trivia : List Trivium) (text : List ℕ) (trees : List Tree) → leaf_number number ≡ true → kind_of number ≡ Some kind
     → (stored_with trivia (built kind text trees) ≡ stored_leaf number trivia text) × (fields kind value ≡ [])
 unfolding stored_with built
 leaf_stored number kind value trivia text trees leaf e =
     by_test (eqb number 25)
     (λ q.
     let is : number ≡ 25 = eqb-true number 25 q in
-    let known : kind_of 25 ≡ Known kind = rw is at e in
+    let known : kind_of 25 ≡ Some kind = rw is at e in
     let same : kind ≡ variant.Leaf = cc in
     rw (is, same) (refl, refl))
     (λ q.
     let is : number ≡ 26 = eqb-true number 26 (rw q at leaf) in
-    let known : kind_of 26 ≡ Known kind = rw is at e in
+    let known : kind_of 26 ≡ Some kind = rw is at e in
     let same : kind ≡ variant.PathItem = cc in
     rw (is, same) (refl, refl))

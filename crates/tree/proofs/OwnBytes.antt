@@ -1,4 +1,6 @@
 -- What the own bytes of a record hold that were read: a list's, a leaf's with its text, or others.
+use Rattle.std.specs.Prelude.{Option, Some, None, Ok, Result}
+use Rattle.answers.specs.declared.Refusal.{Refusal}
 use mathlib.Core.Path.{◌≡◌, refl}
 use mathlib.Core.List.{List}
 use mathlib.Core.Bool.{Bool, true, false, ◌&&◌, ◌||◌}
@@ -14,18 +16,11 @@ use Rattle.tree.specs.Own.{may_stand, map_fits, sized_end, trivium_end, trivia_e
 use Rattle.tree.specs.Own.{rest_of, trivia_of_record, map_of_record, own_at, read_own, OwnFits}
 use Rattle.tree.specs.Reading.{trivium_behind}
 use Rattle.tree.specs.declared.grammar.Kind.{Kind}
-use Rattle.tree.specs.declared.grammar.KindRead.{KindRead}
-use Rattle.tree.specs.declared.grammar.KindRead.TheVariants.{Known, Unknown}
 use Rattle.tree.specs.declared.grammar.Class.{Class}
 use Rattle.tree.specs.declared.grammar.TextRule.{TextRule}
 use Rattle.tree.specs.declared.grammar.TextRule.TheVariants.{NoText, Free, Byte}
 use Rattle.tree.specs.declared.own.Own.{Own}
-use Rattle.tree.specs.declared.own.OwnRead.TheVariants.{Record}
-use Rattle.tree.specs.declared.own.Span.{Span}
-use Rattle.tree.specs.declared.own.Span.TheVariants.{Behind, Broken}
 use Rattle.tree.specs.declared.own.TriviaSpan.{TriviaSpan}
-use Rattle.tree.specs.declared.own.TriviaRead.{TriviaRead}
-use Rattle.tree.specs.declared.own.TriviaRead.TheVariants.{Trivia, BrokenTrivia}
 use Rattle.tree.proofs.Cases.{by_choice, refused_record_lem, broken_behind, broken_trivia}
 
 -- ---- a leaf's text
@@ -38,11 +33,11 @@ pub record TextHeld (bytes : List ℕ) (at end : ℕ) : Type 0 where
 
 -- its bytes, by what may stand
 text_on_lem : (bytes : List ℕ) (at end : ℕ) (rule : TextRule) → at + 2 ≤ length bytes → (number_at bytes at ≡ 0 → ⊥)
-    → text_on bytes at rule (number_at bytes at) ≡ Behind end → TextHeld bytes at end
+    → text_on bytes at rule (number_at bytes at) ≡ Some end → TextHeld bytes at end
 text_on_lem bytes at end NoText room some e = broken_behind e
 text_on_lem bytes at end Free room some e =
     let count : ℕ = number_at bytes at in
-    by_choice (ltb (length bytes) (at + 2 + count)) Broken (Behind (at + 2 + count)) (Behind end) e
+    by_choice (ltb (length bytes) (at + 2 + count)) None (Some (at + 2 + count)) (Some end) e
     (λ q f. broken_behind f)
     (λ q f.
     let last : end ≡ at + 2 + count = cc in
@@ -50,7 +45,7 @@ text_on_lem bytes at end Free room some e =
 text_on_lem bytes at end (Byte low high) room some e =
     let count : ℕ = number_at bytes at in
     let range : Bool = leb low (get_or bytes (at + 2) 0) && leb (get_or bytes (at + 2) 0) high in
-    by_choice (eqb count 1 && (ltb (at + 2) (length bytes) && range)) (Behind (at + 3)) Broken (Behind end) e
+    by_choice (eqb count 1 && (ltb (at + 2) (length bytes) && range)) (Some (at + 3)) None (Some end) e
     (λ q f.
     let last : end ≡ at + 3 = cc in
     let one : count ≡ 1 = eqb-true count 1 (and_true_left (eqb count 1) (ltb (at + 2) (length bytes) && range) q) in
@@ -60,11 +55,11 @@ text_on_lem bytes at end (Byte low high) room some e =
     (λ q f. broken_behind f)
 
 -- and its length
-pub text_held : (bytes : List ℕ) (at end : ℕ) (rule : TextRule) → text_end bytes at rule ≡ Behind end → TextHeld bytes at end
+pub text_held : (bytes : List ℕ) (at end : ℕ) (rule : TextRule) → text_end bytes at rule ≡ Some end → TextHeld bytes at end
 unfolding text_end
 text_held bytes at end rule e =
     by_test (leb (at + 2) (length bytes))
-    (λ q. by_choice (eqb (number_at bytes at) 0) Broken (text_on bytes at rule (number_at bytes at)) (Behind end) (rw q at e)
+    (λ q. by_choice (eqb (number_at bytes at) 0) None (text_on bytes at rule (number_at bytes at)) (Some end) (rw q at e)
     (λ z f. broken_behind f)
     (λ z f. text_on_lem bytes at end rule (leb-true _ _ q) (eqb-false _ _ z) f))
     (λ q. broken_behind (rw q at e))
@@ -77,23 +72,23 @@ pub record ItemHeld (bytes : List ℕ) (at : ℕ) : Type 0 where
   pub inside : trivium_behind bytes at ≤ length bytes
 
 -- and ends where reading says
-pub item_held : (bytes : List ℕ) (at end : ℕ) → trivium_end bytes at ≡ Behind end → ItemHeld bytes at × (trivium_behind bytes at ≡ end)
+pub item_held : (bytes : List ℕ) (at end : ℕ) → trivium_end bytes at ≡ Some end → ItemHeld bytes at × (trivium_behind bytes at ≡ end)
 unfolding trivium_end sized_end
 item_held bytes at end e =
-    by_choice (leb (length bytes) at) _ _ (Behind end) e
+    by_choice (leb (length bytes) at) _ _ (Some end) e
     (λ q f. broken_behind f)
     (λ q f. let here : at < length bytes = leb-false _ _ q in
-    by_choice (eqb (get_or bytes at 0) 1) _ _ (Behind end) f
+    by_choice (eqb (get_or bytes at 0) 1) _ _ (Some end) f
     (λ newline g.
     let next : trivium_behind bytes at ≡ at + 1 = rw newline in
     let last : at + 1 ≡ end = cc in
     (record { onward = omega arith; inside = omega arith }, omega arith))
-    (λ newline g. by_choice (ltb 3 (get_or bytes at 0)) _ _ (Behind end) g
+    (λ newline g. by_choice (ltb 3 (get_or bytes at 0)) _ _ (Some end) g
     (λ code h. broken_behind h)
     (λ code h. by_test (leb (at + 1 + 2) (length bytes))
     (λ room.
     let count : ℕ = number_at bytes (at + 1) in
-    by_choice (ltb (length bytes) (at + 1 + 2 + count)) _ _ (Behind end) (rw room at h)
+    by_choice (ltb (length bytes) (at + 1 + 2 + count)) _ _ (Some end) (rw room at h)
     (λ long i. broken_behind i)
     (λ long i.
     let last : at + 1 + 2 + count ≡ end = cc in
@@ -103,18 +98,18 @@ item_held bytes at end e =
     (λ room. broken_behind (rw room at h)))))
 
 -- items that were read are one that was and those behind it
-pub items_held : (bytes : List ℕ) (at count end : ℕ) → trivia_end bytes at (suc count) ≡ Behind end
-    → ItemHeld bytes at × (trivia_end bytes (trivium_behind bytes at) count ≡ Behind end)
+pub items_held : (bytes : List ℕ) (at count end : ℕ) → trivia_end bytes at (suc count) ≡ Some end
+    → ItemHeld bytes at × (trivia_end bytes (trivium_behind bytes at) count ≡ Some end)
 unfolding trivia_end
 items_held bytes at count end e = go (trivium_end bytes at) refl e
   where
-    go : (span : Span) → trivium_end bytes at ≡ span → behind span (λ place. trivia_end bytes place count) ≡ Behind end
-        → ItemHeld bytes at × (trivia_end bytes (trivium_behind bytes at) count ≡ Behind end)
-    go (Behind place) is f = let held = item_held bytes at place is in (held.0, rw held.1 f)
-    go Broken is f = broken_behind f
+    go : (span : Option ℕ) → trivium_end bytes at ≡ span → behind span (λ place. trivia_end bytes place count) ≡ Some end
+        → ItemHeld bytes at × (trivia_end bytes (trivium_behind bytes at) count ≡ Some end)
+    go (Some place) is f = let held = item_held bytes at place is in (held.0, rw held.1 f)
+    go None is f = broken_behind f
 
 -- items that were read lie within the bytes
-items_inside : (bytes : List ℕ) (at count end : ℕ) → at ≤ length bytes → trivia_end bytes at count ≡ Behind end → (at ≤ end) × (end ≤ length bytes)
+items_inside : (bytes : List ℕ) (at count end : ℕ) → at ≤ length bytes → trivia_end bytes at count ≡ Some end → (at ≤ end) × (end ≤ length bytes)
 unfolding trivia_end
 items_inside bytes at zero end here e = let same : at ≡ end = cc in (omega arith, omega arith)
 items_inside bytes at (suc count) end here e =
@@ -125,27 +120,27 @@ items_inside bytes at (suc count) end here e =
 -- what holds of no trivia, and of trivia that have a count and items, holds of trivia that were read
 module _ (bytes : List ℕ) (at bit : ℕ) (P : TriviaSpan → Type 0)
     (without : bit ≡ 0 → P (record { first = at; count = 0; end = at }))
-    (some : (end : ℕ) → (bit ≡ 0 → ⊥) → at + 2 ≤ length bytes → (number_at bytes at ≡ 0 → ⊥) → trivia_end bytes (at + 2) (number_at bytes at) ≡ Behind end
+    (some : (end : ℕ) → (bit ≡ 0 → ⊥) → at + 2 ≤ length bytes → (number_at bytes at ≡ 0 → ⊥) → trivia_end bytes (at + 2) (number_at bytes at) ≡ Some end
     → P (record { first = at + 2; count = number_at bytes at; end = end }))
   where
     -- the same trivia
-    span_is : (span span' : TriviaSpan) → P span → Trivia span ≡ Trivia span' → P span'
+    span_is : (span span' : TriviaSpan) → P span → Some span ≡ Some span' → P span'
     span_is span span' p e = let same : span ≡ span' = cc in rw (← same) p
 
     -- where the items end
     span_cases : (trivia : TriviaSpan) → (bit ≡ 0 → ⊥) → at + 2 ≤ length bytes → (number_at bytes at ≡ 0 → ⊥)
-        → (span : Span) → trivia_end bytes (at + 2) (number_at bytes at) ≡ span → trivia_span (at + 2) (number_at bytes at) span ≡ Trivia trivia → P trivia
-    span_cases trivia stands room count (Behind end) is e = span_is _ trivia (some end stands room count is) e
-    span_cases trivia stands room count Broken is e = broken_trivia e
+        → (span : Option ℕ) → trivia_end bytes (at + 2) (number_at bytes at) ≡ span → trivia_span (at + 2) (number_at bytes at) span ≡ Some trivia → P trivia
+    span_cases trivia stands room count (Some end) is e = span_is _ trivia (some end stands room count is) e
+    span_cases trivia stands room count None is e = broken_trivia e
 
     -- whether the bit stands
-    pub trivia_cases : (trivia : TriviaSpan) → trivia_read bytes at bit ≡ Trivia trivia → P trivia
+    pub trivia_cases : (trivia : TriviaSpan) → trivia_read bytes at bit ≡ Some trivia → P trivia
     unfolding trivia_read
     trivia_cases trivia e =
-        by_choice (eqb bit 0) _ _ (Trivia trivia) e
+        by_choice (eqb bit 0) _ _ (Some trivia) e
         (λ q f. span_is _ trivia (without (eqb-true _ _ q)) f)
         (λ q f. by_test (leb (at + 2) (length bytes))
-        (λ room. by_choice (eqb (number_at bytes at) 0) _ _ (Trivia trivia) (rw room at f)
+        (λ room. by_choice (eqb (number_at bytes at) 0) _ _ (Some trivia) (rw room at f)
         (λ count g. broken_trivia g)
         (λ count g. span_cases trivia (eqb-false _ _ q) (leb-true _ _ room) (eqb-false _ _ count) _ refl g))
         (λ room. broken_trivia (rw room at f)))
@@ -153,12 +148,12 @@ module _ (bytes : List ℕ) (at bit : ℕ) (P : TriviaSpan → Type 0)
 -- trivia that were read are items that were, and lie within the bytes
 pub record TriviaHeld (bytes : List ℕ) (at : ℕ) (trivia : TriviaSpan) : Type 0 where
   pub first : at ≤ trivia.first
-  pub items : trivia_end bytes trivia.first trivia.count ≡ Behind trivia.end
+  pub items : trivia_end bytes trivia.first trivia.count ≡ Some trivia.end
   pub onward : at ≤ trivia.end
   pub inside : trivia.end ≤ length bytes
 
 -- by their bit
-pub trivia_held : (bytes : List ℕ) (at bit : ℕ) → at ≤ length bytes → (trivia : TriviaSpan) → trivia_read bytes at bit ≡ Trivia trivia → TriviaHeld bytes at trivia
+pub trivia_held : (bytes : List ℕ) (at bit : ℕ) → at ≤ length bytes → (trivia : TriviaSpan) → trivia_read bytes at bit ≡ Some trivia → TriviaHeld bytes at trivia
 unfolding trivia_end
 trivia_held bytes at bit here =
     trivia_cases bytes at bit (TriviaHeld bytes at)
@@ -172,10 +167,10 @@ trivia_held bytes at bit here =
 -- what every record that was read holds before its text or count
 pub record Headed (bytes : List ℕ) (at : ℕ) (class : Class) (kind : Kind) (trivia : TriviaSpan) : Type 0 where
   pub room : at + 2 ≤ length bytes
-  pub kind_is : kind_of (get_or bytes at 0) ≡ Known kind
+  pub kind_is : kind_of (get_or bytes at 0) ≡ Some kind
   pub standing : may_stand (rule class) (get_or bytes at 0) ≡ true
   pub fits : map_fits (rule class) (get_or bytes at 0) kind (get_or bytes (at + 1) 0) ≡ true
-  pub trivia_is : trivia_read bytes (at + 2) (get_or bytes (at + 1) 0 % 2) ≡ Trivia trivia
+  pub trivia_is : trivia_read bytes (at + 2) (get_or bytes (at + 1) 0 % 2) ≡ Some trivia
 
 -- its trivia
 pub trivia_of_lem : {bytes : List ℕ} {at : ℕ} {class : Class} {kind : Kind} {trivia : TriviaSpan} → Headed bytes at class kind trivia → TriviaHeld bytes (at + 2) trivia
@@ -204,66 +199,66 @@ module _ (bytes : List ℕ) (at : ℕ) (class : Class) (P : Own → Type 0)
     → P (own_of kind (get_or bytes (at + 1) 0) trivia trivia.end trivia.end 0))
   where
     -- the same own bytes
-    record_is : (own own' : Own) → P own → Record own ≡ Record own' → P own'
+    record_is : (own own' : Own) → P own → ◌≡◌ {A = Result Own Refusal} (Ok own) (Ok own') → P own'
     record_is own own' p e = let same : own ≡ own' = cc in rw (← same) p
 
     -- where the text ends
     text_cases : (kind : Kind) (trivia : TriviaSpan) → Headed bytes at class kind trivia → leaf_number (get_or bytes at 0) ≡ true → 2 ≤ get_or bytes (at + 1) 0
-        → (own : Own) (span : Span) → text_end bytes trivia.end (rule class).text ≡ span
-        → leaf_on at kind (get_or bytes (at + 1) 0) trivia span ≡ Record own → P own
-    text_cases kind trivia headed leaf stands own (Behind end) is e =
+        → (own : Own) (span : Option ℕ) → text_end bytes trivia.end (rule class).text ≡ span
+        → leaf_on at kind (get_or bytes (at + 1) 0) trivia span ≡ Ok own → P own
+    text_cases kind trivia headed leaf stands own (Some end) is e =
         record_is _ own (text kind trivia end headed leaf stands (text_held bytes trivia.end end (rule class).text is)) e
-    text_cases kind trivia headed leaf stands own Broken is e = refused_record_lem e
+    text_cases kind trivia headed leaf stands own None is e = refused_record_lem e
 
     -- what stands behind the trivia
     rest_cases : (kind : Kind) (trivia : TriviaSpan) → Headed bytes at class kind trivia → (own : Own)
-        → rest_of bytes at (rule class).text (get_or bytes at 0) kind (get_or bytes (at + 1) 0) trivia ≡ Record own → P own
+        → rest_of bytes at (rule class).text (get_or bytes at 0) kind (get_or bytes (at + 1) 0) trivia ≡ Ok own → P own
     unfolding rest_of
     rest_cases kind trivia headed own e =
         let number : ℕ = get_or bytes at 0 in
         let map : ℕ = get_or bytes (at + 1) 0 in
-        by_choice (eqb number 24) _ _ (Record own) e
+        by_choice (eqb number 24) _ _ (Ok own) e
         (λ q f. by_test (leb (trivia.end + 2) (length bytes))
         (λ room. record_is _ own (list kind trivia headed (eqb-true _ _ q) (leb-true _ _ room)) (rw room at f))
         (λ room. refused_record_lem (rw room at f)))
-        (λ q f. by_choice (leaf_number number && leb 2 map) _ _ (Record own) f
+        (λ q f. by_choice (leaf_number number && leb 2 map) _ _ (Ok own) f
         (λ leaf g. text_cases kind trivia headed (and_true_left (leaf_number number) (leb 2 map) leaf)
         (leb-true _ _ (and_true_right (leaf_number number) (leb 2 map) leaf)) own _ refl g)
         (λ leaf g. record_is _ own (other kind trivia headed q leaf) g))
 
     -- the trivia
-    trivia_of_record_lem : (kind : Kind) → ((trivia : TriviaSpan) → trivia_read bytes (at + 2) (get_or bytes (at + 1) 0 % 2) ≡ Trivia trivia → Headed bytes at class kind trivia)
-        → (own : Own) (trivia : TriviaRead) → trivia_read bytes (at + 2) (get_or bytes (at + 1) 0 % 2) ≡ trivia
-        → trivia_of_record bytes at (rule class) (get_or bytes at 0) kind (get_or bytes (at + 1) 0) trivia ≡ Record own → P own
-    trivia_of_record_lem kind headed own (Trivia trivia) is e = rest_cases kind trivia (headed trivia is) own e
-    trivia_of_record_lem kind headed own BrokenTrivia is e = refused_record_lem e
+    trivia_of_record_lem : (kind : Kind) → ((trivia : TriviaSpan) → trivia_read bytes (at + 2) (get_or bytes (at + 1) 0 % 2) ≡ Some trivia → Headed bytes at class kind trivia)
+        → (own : Own) (trivia : Option TriviaSpan) → trivia_read bytes (at + 2) (get_or bytes (at + 1) 0 % 2) ≡ trivia
+        → trivia_of_record bytes at (rule class) (get_or bytes at 0) kind (get_or bytes (at + 1) 0) trivia ≡ Ok own → P own
+    trivia_of_record_lem kind headed own (Some trivia) is e = rest_cases kind trivia (headed trivia is) own e
+    trivia_of_record_lem kind headed own None is e = refused_record_lem e
 
     -- the kind and the map
-    kind_cases : may_stand (rule class) (get_or bytes at 0) ≡ true → (own : Own) (kind : KindRead) → kind_of (get_or bytes at 0) ≡ kind
-        → map_of_record bytes at (rule class) (get_or bytes at 0) kind ≡ Record own → P own
-    kind_cases standing own Unknown is e = refused_record_lem e
-    kind_cases standing own (Known kind) is e =
-        by_choice (ltb (length bytes) (at + 2)) _ _ (Record own) e
+    kind_cases : may_stand (rule class) (get_or bytes at 0) ≡ true → (own : Own) (kind : Option Kind) → kind_of (get_or bytes at 0) ≡ kind
+        → map_of_record bytes at (rule class) (get_or bytes at 0) kind ≡ Ok own → P own
+    kind_cases standing own None is e = refused_record_lem e
+    kind_cases standing own (Some kind) is e =
+        by_choice (ltb (length bytes) (at + 2)) _ _ (Ok own) e
         (λ q f. refused_record_lem f)
-        (λ q f. by_choice (map_fits (rule class) (get_or bytes at 0) kind (get_or bytes (at + 1) 0)) _ _ (Record own) f
+        (λ q f. by_choice (map_fits (rule class) (get_or bytes at 0) kind (get_or bytes (at + 1) 0)) _ _ (Ok own) f
         (λ fits g. trivia_of_record_lem kind
         (λ trivia read. record { room = ltb-false _ _ q; kind_is = is; standing = standing; fits = fits; trivia_is = read }) own _ refl g)
         (λ fits g. refused_record_lem g))
 
     -- the record
-    pub own_cases : (levels : ℕ) (own : Own) → read_own bytes at class levels ≡ Record own → P own
+    pub own_cases : (levels : ℕ) (own : Own) → read_own bytes at class levels ≡ Ok own → P own
     unfolding read_own own_at
     own_cases levels own e =
-        by_choice (leb (length bytes) at) _ _ (Record own) e
+        by_choice (leb (length bytes) at) _ _ (Ok own) e
         (λ q f. refused_record_lem f)
-        (λ q f. by_choice (eqb levels 0) _ _ (Record own) f
+        (λ q f. by_choice (eqb levels 0) _ _ (Ok own) f
         (λ deep g. refused_record_lem g)
-        (λ deep g. by_choice (may_stand (rule class) (get_or bytes at 0)) _ _ (Record own) g
+        (λ deep g. by_choice (may_stand (rule class) (get_or bytes at 0)) _ _ (Ok own) g
         (λ standing h. kind_cases standing own _ refl h)
         (λ standing h. refused_record_lem h)))
 
 -- own bytes that were read stand behind the record's place and within the bytes
-pub own_fits : (bytes : List ℕ) (at : ℕ) (class : Class) (levels : ℕ) (own : Own) → read_own bytes at class levels ≡ Record own → OwnFits bytes at own
+pub own_fits : (bytes : List ℕ) (at : ℕ) (class : Class) (levels : ℕ) (own : Own) → read_own bytes at class levels ≡ Ok own → OwnFits bytes at own
 own_fits bytes at class =
     own_cases bytes at class (OwnFits bytes at)
     (λ kind trivia headed number room.

@@ -1,4 +1,7 @@
 -- A tree without bytes above 127 behind the count of the file's list: every text is accepted, so reading finds no byte that none may hold.
+use Rattle.std.specs.Prelude.{Result, Ok, Err}
+use Rattle.answers.specs.declared.Refusal.{Refusal}
+use Rattle.answers.specs.Numbers.{no_refusal, Checked}
 use mathlib.Core.Path.{◌≡◌, refl, sym, ap, ◌∙◌}
 use mathlib.Core.List.{List, [], ◌∷◌, Memᴰ}
 use mathlib.Core.Bool.{true}
@@ -6,8 +9,6 @@ use Prim.Native.Nat.{ℕ, zero, suc, ◌≤◌, ◌<◌}
 use native.Mathlib.Omega.{arith}
 use lib.ListN.{length}
 use lib.Seq.{slice, take-length}
-use Rattle.answers.specs.declared.Checked.{Checked}
-use Rattle.answers.specs.declared.Checked.TheVariants.{Passed, Failed}
 use Rattle.text.specs.Accepted.{accepted_text}
 use Rattle.text.proofs.Accepted.{fault_some, accepted_part}
 use Rattle.text.proofs.Choices.{by_test}
@@ -15,8 +16,6 @@ use Rattle.tree.specs.Reading.{Placed}
 use Rattle.tree.specs.Checking.{read_file, texts_checked, plain_tree}
 use Rattle.tree.specs.Walk.{fault_from, record_on, record_read}
 use Rattle.tree.specs.declared.grammar.Class.TheVariants.{Tokens}
-use Rattle.tree.specs.declared.check.RecordRead.{RecordRead}
-use Rattle.tree.specs.declared.check.RecordRead.TheVariants.{Whole, Refused}
 use Rattle.tree.proofs.Bounds.{Stands, texts_stand}
 use Rattle.tree.proofs.Faults.{faults_accepted}
 
@@ -39,7 +38,7 @@ short_plain (a ∷ b ∷ c ∷ []) h = refl
 short_plain (a ∷ b ∷ c ∷ d ∷ bytes) h = absurd (omega arith)
 
 -- texts that are accepted one by one are accepted
-texts_accepted : (texts : List Placed) → ((text : Placed) → Memᴰ text texts → accepted_text text.bytes ≡ true) → texts_checked texts ≡ Passed
+texts_accepted : (texts : List Placed) → ((text : Placed) → Memᴰ text texts → accepted_text text.bytes ≡ true) → texts_checked texts ≡ no_refusal
 unfolding texts_checked
 texts_accepted [] accepted = refl
 texts_accepted (text ∷ texts) accepted =
@@ -60,22 +59,22 @@ module _ (bytes : List ℕ) (plain : plain_tree bytes ≡ true) where
   file_texts levels text member = text_plain text (texts_stand bytes levels Tokens 0 text member)
 
   -- so there is no refusal 7
-  pub plain_passed : (levels : ℕ) → texts_checked (read_file levels bytes).texts ≡ Passed
+  pub plain_passed : (levels : ℕ) → texts_checked (read_file levels bytes).texts ≡ no_refusal
   plain_passed levels = texts_accepted (read_file levels bytes).texts (file_texts levels)
 
   -- a record, with no byte found
-  abbrev pub unfound : RecordRead → RecordRead
-  unfound (Whole end fault) = Whole end (length bytes)
-  unfound (Refused refusal) = Refused refusal
+  abbrev pub unfound : Result (ℕ × ℕ) Refusal → Result (ℕ × ℕ) Refusal
+  unfound (Ok (end, fault)) = Ok (end, length bytes)
+  unfound (Err refusal) = Err refusal
 
   -- so is a record that was read with one found, where texts change nothing
   on_plain : (fault end : ℕ) (texts : List Placed) → fault_from bytes (length bytes) texts ≡ length bytes → (checked : Checked)
       → unfound (record_on bytes fault end texts checked) ≡ record_on bytes (length bytes) end texts checked
-  on_plain fault end texts same Passed = ap (Whole end) (sym same)
-  on_plain fault end texts same (Failed refusal) = refl
+  on_plain fault end texts same (Ok tt) = ap (λ found. Ok (end, found)) (sym same)
+  on_plain fault end texts same (Err refusal) = refl
 
   -- the file's record
-  pub file_plain : (levels fault : ℕ) (read : RecordRead) → read ≡ record_read bytes fault (read_file levels bytes) → (told : RecordRead) → read ≡ told
+  pub file_plain : (levels fault : ℕ) (read : Result (ℕ × ℕ) Refusal) → read ≡ record_read bytes fault (read_file levels bytes) → (told : Result (ℕ × ℕ) Refusal) → read ≡ told
       → unfound told ≡ record_read bytes (length bytes) (read_file levels bytes)
   unfolding record_read
   file_plain levels fault read same told is =

@@ -1,4 +1,5 @@
 -- Laws of plans: a row's number tells its fields, and the next part of a plan is the first that stands.
+use Rattle.std.specs.Prelude.{Option, Some, None}
 use mathlib.Core.Path.{◌≡◌, refl, sym, ap, ◌∙◌}
 use mathlib.Core.List.{List, [], ◌∷◌, ◌++◌}
 use mathlib.Core.Bool.{cond}
@@ -15,13 +16,9 @@ use Rattle.tree.specs.Plans.{plan_with, plan_of, behind_field, next_item, next_i
 use Rattle.tree.specs.Rows.{class_number, class_of, slot_code, row_of}
 use Rattle.tree.specs.Walk.{Plans, standing, NextOf, plan_size, size_with}
 use Rattle.tree.specs.declared.grammar.Class.{Class}
-use Rattle.tree.specs.declared.grammar.Items.{Items}
-use Rattle.tree.specs.declared.grammar.Items.TheVariants.{NoList, ListOf}
 use Rattle.tree.specs.declared.grammar.Kind.TheVariants.{Leaf}
 use Rattle.tree.specs.declared.own.Own.{Own}
 use Rattle.tree.specs.declared.check.Plan.{Plan}
-use Rattle.tree.specs.declared.check.Part.{Part}
-use Rattle.tree.specs.declared.check.Part.TheVariants.{Next, NoPart}
 use Rattle.tree.proofs.Rows.{class_back, class_bounds, row_first, row_none}
 
 -- ---- the first field of a plan
@@ -63,7 +60,7 @@ module _ (plan : Plan) where
 
   -- else the first field stands, or is passed over
   in_field : (fields : ℕ) → 0 < plan.row
-      → next_in (suc fields) plan ≡ cond (eqb (plan.bits % 2) 1) (Next (class_of (plan.row % 128 % 64)) (behind_field plan)) (next_in fields (behind_field plan))
+      → next_in (suc fields) plan ≡ cond (eqb (plan.bits % 2) 1) (Some ((class_of (plan.row % 128 % 64)), (behind_field plan))) (next_in fields (behind_field plan))
   unfolding next_in
   in_field fields some = simp (lt-ltb 0 plan.row some)
 
@@ -76,17 +73,17 @@ in_same (suc some) (suc others) plan h g =
     (λ t.
     let left = ltb-true 0 plan.row t in
     in_field plan some left
-    ∙ ap (cond (eqb (plan.bits % 2) 1) (Next (class_of (plan.row % 128 % 64)) (behind_field plan))) (in_same some others (behind_field plan) (omega arith) (omega arith))
+    ∙ ap (cond (eqb (plan.bits % 2) 1) (Some ((class_of (plan.row % 128 % 64)), (behind_field plan)))) (in_same some others (behind_field plan) (omega arith) (omega arith))
     ∙ sym (in_field plan others left))
     (λ t. let none = ltb-false 0 plan.row t in in_items plan (suc some) none ∙ sym (in_items plan (suc others) none))
 
 module _ (plan : Plan) where
   -- the first field of a row
   next_first : 0 < plan.row
-      → next_part plan ≡ cond (eqb (plan.bits % 2) 1) (Next (class_of (plan.row % 128 % 64)) (behind_field plan)) (next_part (behind_field plan))
+      → next_part plan ≡ cond (eqb (plan.bits % 2) 1) (Some ((class_of (plan.row % 128 % 64)), (behind_field plan))) (next_part (behind_field plan))
   next_first left =
       in_same plan.row (suc plan.row) plan (omega arith) (omega arith) ∙ in_field plan plan.row left
-      ∙ ap (cond (eqb (plan.bits % 2) 1) (Next (class_of (plan.row % 128 % 64)) (behind_field plan)))
+      ∙ ap (cond (eqb (plan.bits % 2) 1) (Some ((class_of (plan.row % 128 % 64)), (behind_field plan))))
       (in_same plan.row (plan.row / 128) (behind_field plan) (omega arith) (omega arith))
 
   -- one whose bit does not stand is passed over
@@ -94,21 +91,21 @@ module _ (plan : Plan) where
   next_absent left bit = next_first left ∙ simp (ne_eqb _ _ bit)
 
   -- one whose bit stands is the next part
-  pub next_field : 0 < plan.row → plan.bits % 2 ≡ 1 → next_part plan ≡ Next (class_of (plan.row % 128 % 64)) (behind_field plan)
+  pub next_field : 0 < plan.row → plan.bits % 2 ≡ 1 → next_part plan ≡ Some ((class_of (plan.row % 128 % 64)), (behind_field plan))
   next_field left bit = next_first left ∙ simp (eq-eqb _ _ bit)
 
   -- no field is left, and no item
-  pub next_none : plan.row ≤ 0 → plan.count ≡ 0 → next_part plan ≡ NoPart
+  pub next_none : plan.row ≤ 0 → plan.count ≡ 0 → next_part plan ≡ None
   next_none none e = in_items plan plan.row none ∙ simp (eq-eqb _ _ e)
 
   -- no field is left, but an item
   pub next_item_lem : plan.row ≤ 0 → (plan.count ≡ 0 → ⊥)
-      → next_part plan ≡ Next plan.item (record { row = 0; bits = 0; item = plan.item; count = plan.count - 1 })
+      → next_part plan ≡ Some (plan.item, (record { row = 0; bits = 0; item = plan.item; count = plan.count - 1 }))
   next_item_lem none e = in_items plan plan.row none ∙ simp (ne_eqb _ _ e)
 
 -- the plan of what stands behind a part is less
 items_less : (plan : Plan) → size_with (next_item plan) ≤ plan_size plan
-items_less plan = cond_both (λ (part : Part). size_with part ≤ plan_size plan) (eqb plan.count 0) _ _ (λ t. omega arith) (λ t. some plan.count (eqb-false _ _ t))
+items_less plan = cond_both (λ (part : Option (Class × Plan)). size_with part ≤ plan_size plan) (eqb plan.count 0) _ _ (λ t. omega arith) (λ t. some plan.count (eqb-false _ _ t))
   where
     some : (count : ℕ) → (count ≡ 0 → ⊥) → 1 + (0 + (count - 1)) ≤ plan.row + count
     some zero h = absurd (h refl)
@@ -117,12 +114,12 @@ items_less plan = cond_both (λ (part : Part). size_with part ≤ plan_size plan
 in_less : (fields : ℕ) (plan : Plan) → size_with (next_in fields plan) ≤ plan_size plan
 unfolding next_in
 in_less zero plan = items_less plan
-in_less (suc fields) plan = cond_both (λ (part : Part). size_with part ≤ plan_size plan) (ltb 0 plan.row) _ _
+in_less (suc fields) plan = cond_both (λ (part : Option (Class × Plan)). size_with part ≤ plan_size plan) (ltb 0 plan.row) _ _
     (λ t. let left = ltb-true 0 plan.row t in
-    cond_both (λ (part : Part). size_with part ≤ plan_size plan) (eqb (plan.bits % 2) 1) _ _ (λ b. omega arith) (λ b. omega (arith, in_less fields (behind_field plan))))
+    cond_both (λ (part : Option (Class × Plan)). size_with part ≤ plan_size plan) (eqb (plan.bits % 2) 1) _ _ (λ b. omega arith) (λ b. omega (arith, in_less fields (behind_field plan))))
     (λ t. items_less plan)
 
-pub rest_less : (plan rest : Plan) (class : Class) (part : Part) → part ≡ Next class rest → part ≡ next_part plan → plan_size rest < plan_size plan
+pub rest_less : (plan rest : Plan) (class : Class) (part : Option (Class × Plan)) → part ≡ Some (class, rest) → part ≡ next_part plan → plan_size rest < plan_size plan
 rest_less plan rest class part e is =
     let less : size_with part ≤ plan_size plan = rw is (in_less plan.row plan) in
     let rest : 1 + plan_size rest ≤ plan_size plan = rw e at less in
@@ -131,9 +128,9 @@ rest_less plan rest class part e is =
 -- ---- the parts that a plan stands for
 
 -- parts of which the same stand have the same next
-same_next : (part : Part) (parts others : List Due) → standing parts ≡ standing others → NextOf part others → NextOf part parts
-same_next (Next class rest) parts others same next = (next.0, same ∙ next.1, next.2)
-same_next NoPart parts others same next = same ∙ next
+same_next : (part : Option (Class × Plan)) (parts others : List Due) → standing parts ≡ standing others → NextOf part others → NextOf part parts
+same_next (Some (class, rest)) parts others same next = (next.0, same ∙ next.1, next.2)
+same_next None parts others same next = same ∙ next
 
 -- of items that are left the first is next
 items_first : (count : ℕ) (item : Class) → (count ≡ 0 → ⊥)
@@ -150,7 +147,7 @@ items_left plan none parts plans =
 
 item_next : (plan : Plan) → plan.row ≤ 0 → (parts : List Due) → Plans plan parts → NextOf (next_item plan) parts
 unfolding standing fields_due
-item_next plan none parts plans = cond_both (λ (part : Part). NextOf part parts) (eqb plan.count 0) _ _
+item_next plan none parts plans = cond_both (λ (part : Option (Class × Plan)). NextOf part parts) (eqb plan.count 0) _ _
     (λ t. ap standing (items_left plan none parts plans) ∙ rw (eqb-true plan.count 0 t))
     (λ t. (
       replicate (plan.count - 1) (due plan.item),
@@ -162,23 +159,23 @@ item_next plan none parts plans = cond_both (λ (part : Part). NextOf part parts
 in_next : (fields : ℕ) (plan : Plan) → plan.row ≤ fields → (parts : List Due) → Plans plan parts → NextOf (next_in fields plan) parts
 unfolding next_in standing
 in_next zero plan h parts plans = item_next plan h parts plans
-in_next (suc fields) plan h parts plans = cond_both (λ (part : Part). NextOf part parts) (ltb 0 plan.row) _ _
+in_next (suc fields) plan h parts plans = cond_both (λ (part : Option (Class × Plan)). NextOf part parts) (ltb 0 plan.row) _ _
     (λ t.
     let left = ltb-true 0 plan.row t in
     let first = field_first plan parts plans left in
-    cond_both (λ (part : Part). NextOf part parts) (eqb (plan.bits % 2) 1) _ _
+    cond_both (λ (part : Option (Class × Plan)). NextOf part parts) (eqb (plan.bits % 2) 1) _ _
     (λ b. (first.others, rw (slot_known (plan.row % 128) first.slot first.code) (ap standing first.same ∙ rw b), first.plans))
     (λ b. same_next (next_in fields (behind_field plan)) parts first.others (ap standing first.same ∙ rw b) (in_next fields (behind_field plan) (omega arith) first.others first.plans)))
     (λ t. item_next plan (ltb-false 0 plan.row t) parts plans)
 
-pub next_of : (plan : Plan) {part : Part} → part ≡ next_part plan → (parts : List Due) → Plans plan parts → NextOf part parts
+pub next_of : (plan : Plan) {part : Option (Class × Plan)} → part ≡ next_part plan → (parts : List Due) → Plans plan parts → NextOf part parts
 next_of plan is parts plans = rw is (in_next plan.row plan (omega arith) parts plans)
 
 -- the plan of a record is one of its parts
-with_due : (items : Items) (class : Class) (own : Own) (slots : List Slot)
+with_due : (items : Option Class) (class : Class) (own : Own) (slots : List Slot)
     → Plans (plan_with items class (row_of slots) own) (fields_due slots (own.map / 2) ++ items_due items own.count)
-with_due (ListOf item) class own slots = record { slots = slots; row = refl; same = refl }
-with_due NoList class own slots = record { slots = slots; row = refl; same = refl }
+with_due (Some item) class own slots = record { slots = slots; row = refl; same = refl }
+with_due None class own slots = record { slots = slots; row = refl; same = refl }
 
 pub plan_due : (class : Class) (own : Own) {plan : Plan} → plan ≡ plan_of class own → Plans plan (parts_due class own)
 unfolding parts_due
@@ -187,10 +184,10 @@ plan_due class own is = rw is (with_due (rule class).items class own (fields own
 -- ---- a record without parts
 
 -- no items
-no_items : (items : Items) → standing (items_due items 0) ≡ []
+no_items : (items : Option Class) → standing (items_due items 0) ≡ []
 unfolding standing
-no_items NoList = refl
-no_items (ListOf class) = refl
+no_items None = refl
+no_items (Some class) = refl
 
 -- a leaf
 pub leaf_parts : (own : Own) → own.kind ≡ Leaf → own.count ≡ 0 → (class : Class) → standing (parts_due class own) ≡ []

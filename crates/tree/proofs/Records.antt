@@ -1,4 +1,5 @@
 -- Laws of reading a record as the code does it: its own bytes, and then its parts one behind the other while the first byte that no text may hold goes along.
+use Rattle.std.specs.Prelude.{Option, Result, Some, None, Ok, Err}
 use mathlib.Core.Path.{◌≡◌, refl, sym, ap, ◌∙◌}
 use mathlib.Core.List.{List, [], ◌∷◌, ◌++◌}
 use mathlib.Core.Bool.{Bool, true, false, not}
@@ -7,21 +8,13 @@ use native.Mathlib.Numerals.{sub-one}
 use native.Mathlib.Omega.{arith}
 use borrow.Author.Tests.{not-true}
 use Rattle.answers.specs.declared.Refusal.{Refusal}
-use Rattle.answers.specs.declared.Checked.{Checked}
-use Rattle.answers.specs.declared.Checked.TheVariants.{Passed, Failed}
-use Rattle.answers.specs.Numbers.{and_then}
+use Rattle.answers.specs.Numbers.{and_then, Checked}
 use Rattle.tree.specs.Own.{read_own}
 use Rattle.tree.specs.Reading.{Placed, Readings, Reader, Due, nothing, due, parts_due, texts_of, read_parts, read}
 use Rattle.tree.specs.Walk.{Plans, standing, NextOf, fault_from, record_on, record_read, onward, Walker, walked, walker_of}
 use Rattle.tree.specs.declared.grammar.Class.{Class}
 use Rattle.tree.specs.declared.own.Own.{Own}
-use Rattle.tree.specs.declared.own.OwnRead.{OwnRead}
-use Rattle.tree.specs.declared.own.OwnRead.TheVariants as own_read
 use Rattle.tree.specs.declared.check.Plan.{Plan}
-use Rattle.tree.specs.declared.check.Part.{Part}
-use Rattle.tree.specs.declared.check.Part.TheVariants.{Next, NoPart}
-use Rattle.tree.specs.declared.check.RecordRead.{RecordRead}
-use Rattle.tree.specs.declared.check.RecordRead.TheVariants.{Whole, Refused}
 use Rattle.tree.proofs.Readings.{no_record}
 use Rattle.tree.proofs.Faults.{faults_append}
 
@@ -30,16 +23,16 @@ use Rattle.tree.proofs.Faults.{faults_append}
 -- texts that are read before the others
 on_append : (bytes : List ℕ) (fault end : ℕ) (first rest : List Placed) (checked : Checked)
     → record_on bytes fault end (first ++ rest) checked ≡ record_on bytes (fault_from bytes fault first) end rest checked
-on_append bytes fault end first rest Passed = ap (Whole end) (faults_append bytes fault first rest)
-on_append bytes fault end first rest (Failed refusal) = refl
+on_append bytes fault end first rest (Ok tt) = ap (λ found. Ok (end, found)) (faults_append bytes fault first rest)
+on_append bytes fault end first rest (Err refusal) = refl
 
 -- a reading, and a walk over what is read behind it
-on_onward : (bytes : List ℕ) (fault end : ℕ) (rest : Readings) (texts : List Placed) (next : ℕ → ℕ → RecordRead)
+on_onward : (bytes : List ℕ) (fault end : ℕ) (rest : Readings) (texts : List Placed) (next : ℕ → ℕ → Result (ℕ × ℕ) Refusal)
     → record_on bytes (fault_from bytes fault texts) rest.end rest.texts rest.checked ≡ next end (fault_from bytes fault texts)
     → (checked : Checked)
     → record_on bytes fault rest.end (texts ++ rest.texts) (and_then checked rest.checked) ≡ onward (record_on bytes fault end texts checked) next
-on_onward bytes fault end rest texts next e Passed = on_append bytes fault rest.end texts rest.texts rest.checked ∙ e
-on_onward bytes fault end rest texts next e (Failed refusal) = refl
+on_onward bytes fault end rest texts next e (Ok tt) = on_append bytes fault rest.end texts rest.texts rest.checked ∙ e
+on_onward bytes fault end rest texts next e (Err refusal) = refl
 
 -- reading parts is a walk over those that stand
 parts_walked : (reader : Reader) (bytes : List ℕ) (parts : List Due) (place fault : ℕ)
@@ -58,19 +51,19 @@ parts_walked reader bytes (due class ∷ parts) place fault =
 
 -- a record whose own bytes are refused
 refused_on : (levels : ℕ) (bytes : List ℕ) (class : Class) (at fault : ℕ) (refusal : Refusal)
-    → read_own bytes at class levels ≡ own_read.Refused refusal → Refused refusal ≡ record_read bytes fault (read levels bytes class at)
+    → read_own bytes at class levels ≡ Err refusal → Err refusal ≡ record_read bytes fault (read levels bytes class at)
 unfolding read record_read
 refused_on zero bytes class at fault refusal e = rw e
 refused_on (suc levels) bytes class at fault refusal e = rw e
 
 -- a record that is read has a level left
-some_level : (levels : ℕ) (bytes : List ℕ) (class : Class) (at : ℕ) (own : Own) → read_own bytes at class levels ≡ own_read.Record own → 0 < levels
+some_level : (levels : ℕ) (bytes : List ℕ) (class : Class) (at : ℕ) (own : Own) → read_own bytes at class levels ≡ Ok own → 0 < levels
 some_level zero bytes class at own e = no_record bytes at class own e
 some_level (suc levels) bytes class at own e = omega arith
 
 -- it is its texts and a walk over its parts that stand
 walked_on : (levels : ℕ) (bytes : List ℕ) (class : Class) (at fault : ℕ) (own : Own) (seen : ℕ)
-    → read_own bytes at class levels ≡ own_read.Record own → seen ≡ fault_from bytes fault (texts_of bytes own)
+    → read_own bytes at class levels ≡ Ok own → seen ≡ fault_from bytes fault (texts_of bytes own)
     → record_read bytes fault (read levels bytes class at) ≡ walked (walker_of (read (levels - 1) bytes) bytes) (standing (parts_due class own)) own.end seen
 unfolding read record_read
 walked_on zero bytes class at fault own seen e f = no_record bytes at class own e
@@ -80,23 +73,23 @@ walked_on (suc levels) bytes class at fault own seen e f =
     (on_append bytes fault parts.end (texts_of bytes own) parts.texts parts.checked
     ∙ parts_walked (read levels bytes) bytes (parts_due class own) own.end (fault_from bytes fault (texts_of bytes own)))
 
-module _ (levels : ℕ) (bytes : List ℕ) (class : Class) (at : ℕ) (read-own : OwnRead) (same : read-own ≡ read_own bytes at class levels) where
+module _ (levels : ℕ) (bytes : List ℕ) (class : Class) (at : ℕ) (read-own : Result Own Refusal) (same : read-own ≡ read_own bytes at class levels) where
   -- where its own bytes are refused
-  pub read_refused : (fault : ℕ) (refusal : Refusal) → read-own ≡ own_read.Refused refusal → Refused refusal ≡ record_read bytes fault (read levels bytes class at)
+  pub read_refused : (fault : ℕ) (refusal : Refusal) → read-own ≡ Err refusal → Err refusal ≡ record_read bytes fault (read levels bytes class at)
   read_refused fault refusal is = refused_on levels bytes class at fault refusal (sym same ∙ is)
 
   -- where they are read there is a level left
-  pub level_left : (own : Own) → read-own ≡ own_read.Record own → 0 < levels
+  pub level_left : (own : Own) → read-own ≡ Ok own → 0 < levels
   level_left own is = some_level levels bytes class at own (sym same ∙ is)
 
   -- and the record is a walk over its parts that stand
-  pub read_walked : (fault : ℕ) (own : Own) (seen : ℕ) → read-own ≡ own_read.Record own → seen ≡ fault_from bytes fault (texts_of bytes own)
+  pub read_walked : (fault : ℕ) (own : Own) (seen : ℕ) → read-own ≡ Ok own → seen ≡ fault_from bytes fault (texts_of bytes own)
       → record_read bytes fault (read levels bytes class at) ≡ walked (walker_of (read (levels - 1) bytes) bytes) (standing (parts_due class own)) own.end seen
   read_walked fault own seen is found = walked_on levels bytes class at fault own seen (sym same ∙ is) found
 
 -- a record of which no part stands is read
 pub walk_none : (walker : Walker) (class : Class) (own : Own) (place fault : ℕ) {has : Bool} → (has ≡ false → ((class : Class) → standing (parts_due class own) ≡ []))
-    → not has ≡ true → Whole place fault ≡ walked walker (standing (parts_due class own)) place fault
+    → not has ≡ true → Ok (place, fault) ≡ walked walker (standing (parts_due class own)) place fault
 unfolding walked
 walk_none walker class own place fault {has} none t = sym (ap (λ (classes : List Class). walked walker classes place fault) (none (not-true has t) class))
 
@@ -113,9 +106,9 @@ parts_start walker plan place fault = record { walk = λ parts plans. (parts, pl
 
 module _ (walker : Walker) (plan : Plan) (place fault : ℕ) (later : Plan) (behind found : ℕ)
     (left : PartsLeft walker plan place fault later behind found)
-    (part : Part) (next : (parts : List Due) → Plans later parts → NextOf part parts) where
+    (part : Option (Class × Plan)) (next : (parts : List Due) → Plans later parts → NextOf part parts) where
   -- no part is left
-  pub walk_done : part ≡ NoPart → (parts : List Due) → Plans plan parts → Whole behind found ≡ walked walker (standing parts) place fault
+  pub walk_done : part ≡ None → (parts : List Due) → Plans plan parts → Ok (behind, found) ≡ walked walker (standing parts) place fault
   unfolding walked
   walk_done e parts plans =
       let rest = left.walk parts plans in
@@ -123,7 +116,7 @@ module _ (walker : Walker) (plan : Plan) (place fault : ℕ) (later : Plan) (beh
       sym (rest.2 ∙ ap (λ (classes : List Class). walked walker classes behind found) none)
 
   -- a part is left, and the others behind it
-  module _ (class : Class) (rest : Plan) (e : part ≡ Next class rest) where
+  module _ (class : Class) (rest : Plan) (e : part ≡ Some (class, rest)) where
     -- the parts behind it
     others : (parts : List Due) → Plans later parts → (others : List Due) × (standing parts ≡ class ∷ standing others) × Plans rest others
     others parts plans = rw e at (next parts plans)
@@ -138,17 +131,17 @@ module _ (walker : Walker) (plan : Plan) (place fault : ℕ) (later : Plan) (beh
         (behind_part.0, behind_part.2, now.2 ∙ ap (λ (classes : List Class). walked walker classes behind found) behind_part.1)
 
     -- it is refused
-    pub walk_refused : (refusal : Refusal) (read : RecordRead) → read ≡ walker class behind found → read ≡ Refused refusal
+    pub walk_refused : (refusal : Refusal) (read : Result (ℕ × ℕ) Refusal) → read ≡ walker class behind found → read ≡ Err refusal
         → (parts : List Due) → Plans plan parts → read ≡ walked walker (standing parts) place fault
     walk_refused refusal read same is parts plans =
         let now = walk_next parts plans in
-        is ∙ sym (now.2 ∙ ap (λ (read : RecordRead). onward read (walked walker (standing now.0))) (sym same ∙ is))
+        is ∙ sym (now.2 ∙ ap (λ (read : Result (ℕ × ℕ) Refusal). onward read (walked walker (standing now.0))) (sym same ∙ is))
 
     -- it is read whole
-    pub walk_on : (end seen : ℕ) (read : RecordRead) → read ≡ walker class behind found → read ≡ Whole end seen
+    pub walk_on : (end seen : ℕ) (read : Result (ℕ × ℕ) Refusal) → read ≡ walker class behind found → read ≡ Ok (end, seen)
         → PartsLeft walker plan place fault rest end seen
     walk_on end seen read same is = record {
       walk = λ parts plans.
           let now = walk_next parts plans in
-          (now.0, now.1, now.2 ∙ ap (λ (read : RecordRead). onward read (walked walker (standing now.0))) (sym same ∙ is));
+          (now.0, now.1, now.2 ∙ ap (λ (read : Result (ℕ × ℕ) Refusal). onward read (walked walker (standing now.0))) (sym same ∙ is));
     }

@@ -1,6 +1,8 @@
 -- Reading and layout speak of the same bytes: what is read without refusal is stored as the bytes that were read.
 --   round_trip : .. read levels bytes class at .checked ≡ Passed → stored (read levels bytes class at .tree) ≡ slice at (read levels bytes class at .end) bytes, ..
 --   file_round_trip : .. tree_checked limit levels bytes ≡ Passed → stored (read_file levels bytes).tree ≡ bytes
+use Rattle.std.specs.Prelude.{Option, Some, None, Ok}
+use Rattle.answers.specs.Numbers.{no_refusal}
 use mathlib.Core.Path.{◌≡◌, refl, sym, ◌∙◌}
 use mathlib.Core.List.{List, [], ◌∷◌, ◌++◌, map, append-nil}
 use mathlib.Core.Bool.{true, false, ◌&&◌}
@@ -10,7 +12,6 @@ use lib.ListN.{length, get_or, length-replicate}
 use lib.Dec.{eqb, ltb, leb}
 use lib.Seq.{slice, slice_empty, length-slice, take-length}
 use borrow.Author.Tests.{ltb-true, ltb-false, leb-false, eqb-true, eqb-false}
-use Rattle.answers.specs.declared.Checked.TheVariants.{Passed}
 use Rattle.answers.proofs.Cases.{failed_passed}
 use Rattle.text.specs.Numbers.{two_bytes, number_at}
 use Rattle.text.specs.Ink.{flat}
@@ -23,19 +24,13 @@ use Rattle.tree.specs.Stored.{stored_trivium, stored_items, stored_trivia, trivi
 use Rattle.tree.specs.Checking.{read_file, tree_checked}
 use Rattle.tree.specs.declared.grammar.Kind.{Kind}
 use Rattle.tree.specs.declared.grammar.Kind.TheVariants as variant
-use Rattle.tree.specs.declared.grammar.KindRead.TheVariants.{Known}
 use Rattle.tree.specs.declared.grammar.Class.{Class}
 use Rattle.tree.specs.declared.grammar.Class.TheVariants.{Tokens}
 use Rattle.tree.specs.declared.grammar.Rule.{Rule}
 use Rattle.tree.specs.declared.grammar.TextRule.{TextRule}
 use Rattle.tree.specs.declared.grammar.TextRule.TheVariants.{NoText, Free, Byte}
-use Rattle.tree.specs.declared.grammar.Items.{Items}
-use Rattle.tree.specs.declared.grammar.Items.TheVariants.{NoList, ListOf}
 use Rattle.tree.specs.declared.own.Own.{Own}
-use Rattle.tree.specs.declared.own.OwnRead.TheVariants.{Record}
-use Rattle.tree.specs.declared.own.Span.TheVariants.{Behind}
 use Rattle.tree.specs.declared.own.TriviaSpan.{TriviaSpan}
-use Rattle.tree.specs.declared.own.TriviaRead.TheVariants.{Trivia}
 use Rattle.tree.proofs.Cases.{by_choice, both_passed}
 use Rattle.tree.proofs.KindLayout.{kind_number, node_stored, kind_number_lem, forms_all, items_counted, items_stored, leaf_stored}
 use Rattle.tree.proofs.Places.{Stands, none_stands, both_stand, part_stands, byte_stands, number_stands}
@@ -97,7 +92,7 @@ module _ (bytes : List ℕ) (small : (i : ℕ) → get_or bytes i 0 < 256) where
       rw q (both_stand (byte_stands bytes at (omega arith)) (rw (last, first) at (sized_stands (at + 1) room))))
 
   -- trivia items, one behind the other
-  items_stand : (at count end : ℕ) → at ≤ length bytes → trivia_end bytes at count ≡ Behind end → Stands bytes at (stored_items (trivia_from bytes at count)) end
+  items_stand : (at count end : ℕ) → at ≤ length bytes → trivia_end bytes at count ≡ Some end → Stands bytes at (stored_items (trivia_from bytes at count)) end
   unfolding trivia_end trivia_from stored_items
   items_stand at zero end inside e =
       let same : at ≡ end = cc in
@@ -107,7 +102,7 @@ module _ (bytes : List ℕ) (small : (i : ℕ) → get_or bytes i 0 < 256) where
       both_stand (item_stands at held.0) (items_stand (trivium_behind bytes at) count end held.0.inside held.1)
 
   -- trivia that were read stand, and their bit
-  trivia_stand : (at bit : ℕ) → bit < 2 → at ≤ length bytes → (trivia : TriviaSpan) → trivia_read bytes at bit ≡ Trivia trivia
+  trivia_stand : (at bit : ℕ) → bit < 2 → at ≤ length bytes → (trivia : TriviaSpan) → trivia_read bytes at bit ≡ Some trivia
       → Stands bytes at (stored_trivia (trivia_from bytes trivia.first trivia.count)) trivia.end
       × (trivia_bit (trivia_from bytes trivia.first trivia.count) ≡ bit)
   unfolding trivia_from
@@ -167,11 +162,11 @@ fields_counted (slot ∷ slots) bits = rw (fields_counted slots (bits / 2))
 
 -- a record that was read without refusal has its stored form at its place
 abbrev Laid : List ℕ → ℕ → Reading → Type 0
-Laid bytes at reading = reading.checked ≡ Passed → Stands bytes at (stored reading.tree) reading.end × (at < reading.end)
+Laid bytes at reading = reading.checked ≡ no_refusal → Stands bytes at (stored reading.tree) reading.end × (at < reading.end)
 
 module _ (bytes : List ℕ) (reader : Reader) (below : (class : Class) (at : ℕ) → Laid bytes at (reader class at)) where
   -- parts that were read stand one behind the other
-  parts_stand : (parts : List Due) (at : ℕ) → at ≤ length bytes → (read_parts reader parts at).checked ≡ Passed
+  parts_stand : (parts : List Due) (at : ℕ) → at ≤ length bytes → (read_parts reader parts at).checked ≡ no_refusal
       → Stands bytes at (flat (map stored (read_parts reader parts at).trees)) (read_parts reader parts at).end
   unfolding read_parts flat stored_with
   parts_stand [] at inside e = none_stands bytes at inside
@@ -183,7 +178,7 @@ module _ (bytes : List ℕ) (reader : Reader) (below : (class : Class) (at : ℕ
       both_stand first (parts_stand parts next first.inside passed.1)
 
   -- the bits of the parts are those of the map
-  fields_bits : (slots : List Slot) (bits at : ℕ) → fields_fit slots bits ≡ true → (read_parts reader (fields_due slots bits) at).checked ≡ Passed
+  fields_bits : (slots : List Slot) (bits at : ℕ) → fields_fit slots bits ≡ true → (read_parts reader (fields_due slots bits) at).checked ≡ no_refusal
       → part_bits (map stored (read_parts reader (fields_due slots bits) at).trees) ≡ bits
   unfolding fields_due read_parts part_bits stored_with
   fields_bits [] bits at fits e = sym (eqb-true bits 0 (unfold fields_fit in fits))
@@ -206,14 +201,14 @@ module _ (bytes : List ℕ) (reader : Reader) (below : (class : Class) (at : ℕ
 -- ---- a record
 
 -- without items a node or leaf has only its fields
-pub no_items : (items : Items) → items_due items 0 ≡ []
-no_items NoList = refl
-no_items (ListOf class) = refl
+pub no_items : (items : Option Class) → items_due items 0 ≡ []
+no_items None = refl
+no_items (Some class) = refl
 
 -- a list's items are as many as its count
-items_due_lem : (items : Items) (count : ℕ) → is_list items ≡ true → length (items_due items count) ≡ count
-items_due_lem NoList count e = true_false (sym e)
-items_due_lem (ListOf class) count e = length-replicate count (due class)
+items_due_lem : (items : Option Class) (count : ℕ) → is_list items ≡ true → length (items_due items count) ≡ count
+items_due_lem None count e = true_false (sym e)
+items_due_lem (Some class) count e = length-replicate count (due class)
 
 -- a leaf's text has one bit at the most
 text_bits : (rule : TextRule) (bits : ℕ) → text_fits rule bits ≡ true → bits < 2
@@ -249,7 +244,7 @@ module _ (bytes : List ℕ) (small : (i : ℕ) → get_or bytes i 0 < 256) (read
       → LaidOwn (own_of kind (get_or bytes (at + 1) 0) trivia (trivia.end + 2) (trivia.end + 2) (number_at bytes trivia.end))
   unfolding stored_with built parts_due fields_due map_fits
   list_laid kind trivia headed is room =
-      let known : kind_of 24 ≡ Known kind = rw is at headed.kind_is in
+      let known : kind_of 24 ≡ Some kind = rw is at headed.kind_is in
       let same : kind ≡ variant.Vec = cc in
       let empty : get_or bytes (at + 1) 0 ≡ 0 = eqb-true _ _ (rw is at headed.fits) in
       let listed : is_list (rule class).items ≡ true = rw is at headed.standing in
@@ -334,13 +329,13 @@ module _ (bytes : List ℕ) (small : (i : ℕ) → get_or bytes i 0 < 256) (read
       (λ leaf. node_laid kind trivia headed list leaf)
 
   -- a record whose own bytes were read
-  record_laid : (levels : ℕ) (own : Own) → read_own bytes at class levels ≡ Record own → LaidOwn own
+  record_laid : (levels : ℕ) (own : Own) → read_own bytes at class levels ≡ Ok own → LaidOwn own
   record_laid levels own e = own_cases bytes at class LaidOwn list_laid text_laid other_laid levels own e
 
 -- ---- every reading
 
 -- a record that was read without refusal is stored as the bytes from its place to its end, which lie within the bytes
-pub round_trip : (levels : ℕ) (bytes : List ℕ) → ((i : ℕ) → get_or bytes i 0 < 256) → (class : Class) (at : ℕ) → (read levels bytes class at).checked ≡ Passed
+pub round_trip : (levels : ℕ) (bytes : List ℕ) → ((i : ℕ) → get_or bytes i 0 < 256) → (class : Class) (at : ℕ) → (read levels bytes class at).checked ≡ no_refusal
     → (stored (read levels bytes class at).tree ≡ slice at (read levels bytes class at).end bytes)
     × (at < (read levels bytes class at).end)
     × ((read levels bytes class at).end ≤ length bytes)
@@ -353,13 +348,13 @@ round_trip levels bytes small class at passed =
     (laid.0.same, laid.1, laid.0.inside)
 
 -- a tree that passed is stored as its bytes
-pub file_round_trip : (limit levels : ℕ) (bytes : List ℕ) → ((i : ℕ) → get_or bytes i 0 < 256) → tree_checked limit levels bytes ≡ Passed
+pub file_round_trip : (limit levels : ℕ) (bytes : List ℕ) → ((i : ℕ) → get_or bytes i 0 < 256) → tree_checked limit levels bytes ≡ no_refusal
     → stored (read_file levels bytes).tree ≡ bytes
 file_round_trip limit levels bytes small e =
     let passed = file_passed limit levels bytes e in
     let laid = round_trip levels bytes small Tokens 0 passed.layout in
     let end : ℕ = (read_file levels bytes).end in
-    by_choice (ltb end (length bytes)) _ _ Passed passed.end
+    by_choice (ltb end (length bytes)) _ _ no_refusal passed.end
     (λ q f. failed_passed f)
     (λ q f.
     let last : end ≡ length bytes = omega (arith, laid.2, ltb-false end (length bytes) q) in

@@ -1,11 +1,11 @@
 -- A tree that was read without refusal holds none.
 --   read_whole : read levels bytes class at .checked ≡ Passed → whole (read levels bytes class at .tree) ≡ true
+use Rattle.answers.specs.Numbers.{no_refusal}
 use mathlib.Core.Path.{◌≡◌, refl}
 use mathlib.Core.List.{List, [], ◌∷◌}
 use mathlib.Core.Bool.{true}
 use Prim.Native.Nat.{ℕ, zero, suc}
 use lib.ListN.{get_or}
-use Rattle.answers.specs.declared.Checked.TheVariants.{Passed}
 use Rattle.answers.proofs.Cases.{failed_passed}
 use Rattle.tree.specs.Tree.{Tree, absent, chain, built}
 use Rattle.tree.specs.Reading.{Due, nothing, due, Reader, parts_due, read_parts, read}
@@ -70,8 +70,8 @@ built_whole variant.SpecificImportArg text trees parts = rw (parts 0, parts 1)
 built_whole variant.ArgItem text trees parts = rw (parts 0, parts 1)
 
 -- the trees of parts that were read without refusal are whole
-parts_whole : (reader : Reader) → ((class : Class) (at : ℕ) → (reader class at).checked ≡ Passed → whole (reader class at).tree ≡ true)
-    → (parts : List Due) (at : ℕ) → (read_parts reader parts at).checked ≡ Passed → (place : ℕ) → whole (get_or (read_parts reader parts at).trees place absent) ≡ true
+parts_whole : (reader : Reader) → ((class : Class) (at : ℕ) → (reader class at).checked ≡ no_refusal → whole (reader class at).tree ≡ true)
+    → (parts : List Due) (at : ℕ) → (read_parts reader parts at).checked ≡ no_refusal → (place : ℕ) → whole (get_or (read_parts reader parts at).trees place absent) ≡ true
 unfolding whole read_parts
 parts_whole reader below [] at e place = refl
 parts_whole reader below (nothing ∷ parts) at e zero = refl
@@ -82,10 +82,10 @@ parts_whole reader below (due class ∷ parts) at e (suc place) =
     parts_whole reader below parts (reader class at).end (both_passed (reader class at).checked (read_parts reader parts (reader class at).end).checked e).1 place
 
 -- a tree that was read without refusal is whole
-pub read_whole : (levels : ℕ) (bytes : List ℕ) (class : Class) (at : ℕ) → (read levels bytes class at).checked ≡ Passed → whole (read levels bytes class at).tree ≡ true
+pub read_whole : (levels : ℕ) (bytes : List ℕ) (class : Class) (at : ℕ) → (read levels bytes class at).checked ≡ no_refusal → whole (read levels bytes class at).tree ≡ true
 unfolding whole
 read_whole levels bytes =
-    every_reading bytes (λ levels class at reading. reading.checked ≡ Passed → whole reading.tree ≡ true)
+    every_reading bytes (λ levels class at reading. reading.checked ≡ no_refusal → whole reading.tree ≡ true)
     (λ levels class at reader why e. failed_passed e)
     (λ levels class at own is below e.
     built_whole own.kind _ _ (parts_whole (read levels bytes) below (parts_due class own) own.end e))

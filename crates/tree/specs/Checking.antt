@@ -1,11 +1,9 @@
 -- The check of a tree: refusals 3, 4, 5 and 7 of document 01, with the limits on length and depth as arguments.
-use Rattle.std.specs.Prelude.{ℕ, ◌+◌, List, [], ◌∷◌, Bool, cond, length, eqb, ltb}
+use Rattle.std.specs.Prelude.{ℕ, ◌+◌, List, [], ◌∷◌, Bool, cond, length, eqb, ltb, Err}
 use Rattle.std.proofs.Math.Seq.{slice}
-use Rattle.answers.specs.declared.Checked.{Checked}
-use Rattle.answers.specs.declared.Checked.TheVariants.{Passed, Failed}
 use Rattle.answers.specs.declared.Reason.TheVariants.{TreeLength, TreeLayout, NotAscii}
 use Rattle.text.specs.Accepted.{accepted_text, fault_at}
-use Rattle.answers.specs.Numbers.{and_then, numbers_checked, unless_refused}
+use Rattle.answers.specs.Numbers.{no_refusal, and_then, numbers_checked, unless_refused, Checked}
 use Rattle.tree.specs.Reading.{Placed, Reading, read}
 use Rattle.tree.specs.declared.grammar.Class.TheVariants.{Tokens}
 
@@ -16,19 +14,19 @@ read_file levels bytes = read levels bytes Tokens 0
 -- "The tree has 0 bytes or more than 65,535; place 0."
 abbrev pub length_checked : ℕ → List ℕ → Checked
 length_checked limit bytes =
-    cond (eqb (length bytes) 0) (Failed (record { reason = TreeLength; place = 0 }))
-    (cond (ltb limit (length bytes)) (Failed (record { reason = TreeLength; place = 0 })) Passed)
+    cond (eqb (length bytes) 0) (Err (record { reason = TreeLength; place = 0 }))
+    (cond (ltb limit (length bytes)) (Err (record { reason = TreeLength; place = 0 })) no_refusal)
 
 -- "or bytes follow the list (the first of them)"
 abbrev pub end_checked : List ℕ → ℕ → Checked
-end_checked bytes end = cond (ltb end (length bytes)) (Failed (record { reason = TreeLayout; place = end })) Passed
+end_checked bytes end = cond (ltb end (length bytes)) (Err (record { reason = TreeLayout; place = end })) no_refusal
 
 -- "A text or trivia byte is above 127; the place of the first."
 unfoldable pub texts_checked : List Placed → Checked
-texts_checked [] = Passed
+texts_checked [] = no_refusal
 texts_checked (text ∷ texts) =
     cond (accepted_text text.bytes) (texts_checked texts)
-    (Failed (record { reason = NotAscii; place = text.place + fault_at text.bytes }))
+    (Err (record { reason = NotAscii; place = text.place + fault_at text.bytes }))
 
 -- no byte behind the count of the file's list is above 127, so none of a text is
 abbrev pub plain_tree : List ℕ → Bool

@@ -1,12 +1,10 @@
 -- The grammar of a stored tree: document 01, "Tree", held against ast.rs. A line for each class says what may stand in a field of that Rust type; a line for
 -- each kind says which fields a record of it has, in declared order.
-use Rattle.std.specs.Prelude.{ℕ, List, [], ◌∷◌, map, Bool, true, false, get_or}
+use Rattle.std.specs.Prelude.{ℕ, List, [], ◌∷◌, map, Bool, true, false, get_or, Option, Some, None}
 use Rattle.text.specs.Characters as characters
 use Rattle.tree.specs.Kinds as kinds
 use Rattle.tree.specs.declared.grammar.Kind.{Kind}
 use Rattle.tree.specs.declared.grammar.Kind.TheVariants as kind
-use Rattle.tree.specs.declared.grammar.KindRead.{KindRead}
-use Rattle.tree.specs.declared.grammar.KindRead.TheVariants.{Known, Unknown}
 use Rattle.tree.specs.declared.grammar.Class.{Class}
 use Rattle.tree.specs.declared.grammar.Class.TheVariants.{Word, Char, OpenBrace, CloseBrace, Colon, Unit, Mnemonic, IndexRegister}
 use Rattle.tree.specs.declared.grammar.Class.TheVariants.{AddressModifier, VariableType, NumberType, DataSize, BinaryOp, TextEncoding}
@@ -16,7 +14,6 @@ use Rattle.tree.specs.declared.grammar.Class.TheVariants.{AsRecord, ImportArgume
 use Rattle.tree.specs.declared.grammar.Class.TheVariants.{ImportArgument, Tokens, ExpressionArguments, IdentifierArguments, StringItems}
 use Rattle.tree.specs.declared.grammar.TextRule.{TextRule}
 use Rattle.tree.specs.declared.grammar.TextRule.TheVariants.{NoText, Free, Byte}
-use Rattle.tree.specs.declared.grammar.Items.TheVariants.{NoList, ListOf}
 use Rattle.tree.specs.declared.grammar.Rule.{Rule}
 
 -- ---- the kinds by their numbers
@@ -33,8 +30,8 @@ all_kinds =
     kind.InterpolatedString ∷ kind.Operand ∷ kind.RegisterSuffix ∷ kind.ImportAs ∷ kind.ImportAll ∷ kind.SpecificImportArg ∷
     kind.ArgItem ∷ []
 
-abbrev pub kind_of : ℕ → KindRead
-kind_of byte = get_or (map Known all_kinds) byte Unknown
+abbrev pub kind_of : ℕ → Option Kind
+kind_of byte = get_or (map Some all_kinds) byte None
 
 -- ---- the classes
 
@@ -46,16 +43,16 @@ abbrev pub bare : Bool
 bare = false
 
 abbrev pub leaf : Bool → TextRule → Rule
-leaf trivia text = record { first = kinds.leaf; last = kinds.leaf; located = trivia; text = text; items = NoList; value = LocatedExpression }
+leaf trivia text = record { first = kinds.leaf; last = kinds.leaf; located = trivia; text = text; items = None; value = LocatedExpression }
 
 abbrev pub nodes : ℕ → ℕ → Bool → Rule
-nodes first last trivia = record { first = first; last = last; located = trivia; text = NoText; items = NoList; value = LocatedExpression }
+nodes first last trivia = record { first = first; last = last; located = trivia; text = NoText; items = None; value = LocatedExpression }
 
 abbrev pub list_of : Class → Rule
-list_of class = record { first = kinds.vec; last = kinds.vec; located = bare; text = NoText; items = ListOf class; value = LocatedExpression }
+list_of class = record { first = kinds.vec; last = kinds.vec; located = bare; text = NoText; items = Some class; value = LocatedExpression }
 
 abbrev pub argument : Class → Rule
-argument value = record { first = kinds.arg_item; last = kinds.arg_item; located = bare; text = NoText; items = NoList; value = value }
+argument value = record { first = kinds.arg_item; last = kinds.arg_item; located = bare; text = NoText; items = None; value = value }
 
 -- what may stand in a class: kinds, trivia, text ("Where the Rust type is an enum, the text is one byte, its index in declared order, within range. A `char` is
 -- one byte; both must stand. `Eof`'s leaf has no text. Braces of a block are `{` and `}`, a label's colon `:`.")
@@ -75,7 +72,7 @@ rule DataSize = leaf located (Byte 0 2)  -- Located DataSize
 rule BinaryOp = leaf located (Byte 0 15)  -- Located BinaryOp
 rule TextEncoding = leaf located (Byte 0 3)  -- Located TextEncoding
 rule AddressingMode = leaf bare (Byte 0 4)  -- AddressingMode
-rule StringItem = record { first = kinds.leaf; last = kinds.path_item; located = bare; text = Free; items = NoList; value = LocatedExpression }  -- InterpolatedStringItem
+rule StringItem = record { first = kinds.leaf; last = kinds.path_item; located = bare; text = Free; items = None; value = LocatedExpression }  -- InterpolatedStringItem
 rule LocatedExpression = nodes kinds.binary_expression kinds.factor located  -- Located Expression
 rule BareExpression = nodes kinds.binary_expression kinds.factor bare  -- Expression
 rule LocatedFactor = nodes kinds.current_program_counter kinds.string_factor located  -- Located ExpressionFactor
@@ -86,7 +83,7 @@ rule StringRecord = nodes kinds.interpolated_string kinds.interpolated_string ba
 rule OperandRecord = nodes kinds.operand kinds.operand bare  -- Operand
 rule SuffixRecord = nodes kinds.register_suffix kinds.register_suffix bare  -- RegisterSuffix
 rule AsRecord = nodes kinds.import_as kinds.import_as bare  -- ImportAs
-rule ImportArguments = record { first = kinds.import_all; last = kinds.import_all; located = bare; text = NoText; items = ListOf ImportArgument; value = LocatedExpression }  -- ImportArgs
+rule ImportArguments = record { first = kinds.import_all; last = kinds.import_all; located = bare; text = NoText; items = Some ImportArgument; value = LocatedExpression }  -- ImportArgs
 rule ImportPath = nodes kinds.specific_import_arg kinds.specific_import_arg located  -- Located SpecificImportArg
 rule ExpressionArgument = argument LocatedExpression  -- ArgItem of a Located Expression
 rule IdentifierArgument = argument Word  -- ArgItem of a Located Identifier

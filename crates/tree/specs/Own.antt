@@ -1,38 +1,26 @@
 -- A record's own bytes: document 01, "Tree", and refusals 4 and 5. "A record's own bytes are judged before its fields": kind, map, trivia, and a
 -- list's count or a leaf's text, in the order in which they are read.
-use Rattle.std.specs.Prelude.{ℕ, zero, suc, ◌+◌, ◌/◌, ◌%◌, ◌≤◌, ◌≡◌, List, [], ◌∷◌, Bool, true, false, cond, not, ◌&&◌, ◌||◌, length, get_or, eqb, ltb, leb}
+use Rattle.std.specs.Prelude.{ℕ, zero, suc, ◌+◌, ◌/◌, ◌%◌, ◌≤◌, ◌≡◌, List, [], ◌∷◌, Bool, true, false, cond, not, ◌&&◌, ◌||◌, length, get_or, eqb, ltb, leb, Option, Result, Some, None, Ok, Err}
 use Rattle.answers.specs.Numbers.{numbers_of}
 use Rattle.answers.specs.declared.Refusal.{Refusal}
 use Rattle.answers.specs.declared.Reason.TheVariants.{TreeDepth, TreeLayout}
 use Rattle.text.specs.Numbers.{read_number}
-use Rattle.text.specs.declared.numbers.Number.{Number}
-use Rattle.text.specs.declared.numbers.Number.TheVariants.{Read, Missing}
 use Rattle.tree.specs.Kinds as kinds
 use Rattle.tree.specs.Codes as codes
 use Rattle.tree.specs.Grammar.{Slot, must, may, kind_of, rule, fields}
 use Rattle.tree.specs.declared.grammar.Kind.{Kind}
-use Rattle.tree.specs.declared.grammar.KindRead.{KindRead}
-use Rattle.tree.specs.declared.grammar.KindRead.TheVariants.{Known, Unknown}
 use Rattle.tree.specs.declared.grammar.Class.{Class}
 use Rattle.tree.specs.declared.grammar.TextRule.{TextRule}
 use Rattle.tree.specs.declared.grammar.TextRule.TheVariants.{NoText, Free, Byte}
-use Rattle.tree.specs.declared.grammar.Items.{Items}
-use Rattle.tree.specs.declared.grammar.Items.TheVariants.{NoList, ListOf}
 use Rattle.tree.specs.declared.grammar.Rule.{Rule}
 use Rattle.tree.specs.declared.own.Own.{Own}
-use Rattle.tree.specs.declared.own.OwnRead.{OwnRead}
-use Rattle.tree.specs.declared.own.OwnRead.TheVariants.{Record, Refused}
-use Rattle.tree.specs.declared.own.Span.{Span}
-use Rattle.tree.specs.declared.own.Span.TheVariants.{Behind, Broken}
 use Rattle.tree.specs.declared.own.TriviaSpan.{TriviaSpan}
-use Rattle.tree.specs.declared.own.TriviaRead.{TriviaRead}
-use Rattle.tree.specs.declared.own.TriviaRead.TheVariants.{Trivia, BrokenTrivia}
 
 -- ---- the kind
 
-abbrev pub is_list : Items → Bool
-is_list NoList = false
-is_list (ListOf class) = true
+abbrev pub is_list : Option Class → Bool
+is_list None = false
+is_list (Some class) = true
 
 -- "Which kind may stand in a field follows its Rust type."
 abbrev pub may_stand : Rule → ℕ → Bool
@@ -71,57 +59,57 @@ map_fits rule number kind map =
 -- ---- trivia
 
 -- a two-byte length and as many bytes
-abbrev pub sized_on : List ℕ → ℕ → Number → Span
-sized_on bytes at Missing = Broken
-sized_on bytes at (Read count) = cond (ltb (length bytes) (at + 2 + count)) Broken (Behind (at + 2 + count))
+abbrev pub sized_on : List ℕ → ℕ → Option ℕ → Option ℕ
+sized_on bytes at None = None
+sized_on bytes at (Some count) = cond (ltb (length bytes) (at + 2 + count)) None (Some (at + 2 + count))
 
-unfoldable pub sized_end : List ℕ → ℕ → Span
+unfoldable pub sized_end : List ℕ → ℕ → Option ℕ
 sized_end bytes at = sized_on bytes at (read_number bytes at)
 
 -- "each a code (0 whitespace, 1 newline, 2 C style, 3 C++ style) and, but for newline, a two-byte length and bytes"
-unfoldable pub trivium_end : List ℕ → ℕ → Span
+unfoldable pub trivium_end : List ℕ → ℕ → Option ℕ
 trivium_end bytes at =
-    cond (leb (length bytes) at) Broken
-    (cond (eqb (get_or bytes at 0) codes.newline) (Behind (at + 1))
-    (cond (ltb codes.cpp_style (get_or bytes at 0)) Broken (sized_end bytes (at + 1))))
+    cond (leb (length bytes) at) None
+    (cond (eqb (get_or bytes at 0) codes.newline) (Some (at + 1))
+    (cond (ltb codes.cpp_style (get_or bytes at 0)) None (sized_end bytes (at + 1))))
 
 -- what stands behind a part
-abbrev pub behind : Span → (ℕ → Span) → Span
-behind (Behind place) next = next place
-behind Broken next = Broken
+abbrev pub behind : Option ℕ → (ℕ → Option ℕ) → Option ℕ
+behind (Some place) next = next place
+behind None next = None
 
-unfoldable pub trivia_end : List ℕ → ℕ → ℕ → Span
-trivia_end bytes at zero = Behind at
+unfoldable pub trivia_end : List ℕ → ℕ → ℕ → Option ℕ
+trivia_end bytes at zero = Some at
 trivia_end bytes at (suc count) = behind (trivium_end bytes at) (λ place. trivia_end bytes place count)
 
-abbrev pub trivia_span : ℕ → ℕ → Span → TriviaRead
-trivia_span first count (Behind end) = Trivia (record { first = first; count = count; end = end })
-trivia_span first count Broken = BrokenTrivia
+abbrev pub trivia_span : ℕ → ℕ → Option ℕ → Option TriviaSpan
+trivia_span first count (Some end) = Some (record { first = first; count = count; end = end })
+trivia_span first count None = None
 
 -- "Trivia: two-byte count (at least 1)"
-abbrev pub trivia_on : List ℕ → ℕ → Number → TriviaRead
-trivia_on bytes at Missing = BrokenTrivia
-trivia_on bytes at (Read count) = cond (eqb count 0) BrokenTrivia (trivia_span (at + 2) count (trivia_end bytes (at + 2) count))
+abbrev pub trivia_on : List ℕ → ℕ → Option ℕ → Option TriviaSpan
+trivia_on bytes at None = None
+trivia_on bytes at (Some count) = cond (eqb count 0) None (trivia_span (at + 2) count (trivia_end bytes (at + 2) count))
 
 -- "trivia if bit 0 stands"
-unfoldable pub trivia_read : List ℕ → ℕ → ℕ → TriviaRead
-trivia_read bytes at bit = cond (eqb bit 0) (Trivia (record { first = at; count = 0; end = at })) (trivia_on bytes at (read_number bytes at))
+unfoldable pub trivia_read : List ℕ → ℕ → ℕ → Option TriviaSpan
+trivia_read bytes at bit = cond (eqb bit 0) (Some (record { first = at; count = 0; end = at })) (trivia_on bytes at (read_number bytes at))
 
 -- ---- a leaf's text, and a list's count
 
 -- "two-byte length, at least 1, bytes"; of a `char` or an enum one byte within its range
-abbrev pub text_on : List ℕ → ℕ → TextRule → ℕ → Span
-text_on bytes at NoText count = Broken
-text_on bytes at Free count = cond (ltb (length bytes) (at + 2 + count)) Broken (Behind (at + 2 + count))
+abbrev pub text_on : List ℕ → ℕ → TextRule → ℕ → Option ℕ
+text_on bytes at NoText count = None
+text_on bytes at Free count = cond (ltb (length bytes) (at + 2 + count)) None (Some (at + 2 + count))
 text_on bytes at (Byte low high) count =
     cond (eqb count 1 && (ltb (at + 2) (length bytes) && (leb low (get_or bytes (at + 2) 0) && leb (get_or bytes (at + 2) 0) high)))
-    (Behind (at + 3)) Broken
+    (Some (at + 3)) None
 
-abbrev pub text_of_count : List ℕ → ℕ → TextRule → Number → Span
-text_of_count bytes at rule Missing = Broken
-text_of_count bytes at rule (Read count) = cond (eqb count 0) Broken (text_on bytes at rule count)
+abbrev pub text_of_count : List ℕ → ℕ → TextRule → Option ℕ → Option ℕ
+text_of_count bytes at rule None = None
+text_of_count bytes at rule (Some count) = cond (eqb count 0) None (text_on bytes at rule count)
 
-unfoldable pub text_end : List ℕ → ℕ → TextRule → Span
+unfoldable pub text_end : List ℕ → ℕ → TextRule → Option ℕ
 text_end bytes at rule = text_of_count bytes at rule (read_number bytes at)
 
 -- ---- the record
@@ -140,50 +128,50 @@ own_of kind map trivia text end count = record {
   count = count;
 }
 
-abbrev pub leaf_on : ℕ → Kind → ℕ → TriviaSpan → Span → OwnRead
-leaf_on at kind map trivia (Behind end) = Record (own_of kind map trivia (trivia.end + 2) end 0)
-leaf_on at kind map trivia Broken = Refused (layout at)
+abbrev pub leaf_on : ℕ → Kind → ℕ → TriviaSpan → Option ℕ → Result Own Refusal
+leaf_on at kind map trivia (Some end) = Ok (own_of kind map trivia (trivia.end + 2) end 0)
+leaf_on at kind map trivia None = Err (layout at)
 
-abbrev pub list_on : ℕ → Kind → ℕ → TriviaSpan → Number → OwnRead
-list_on at kind map trivia (Read count) = Record (own_of kind map trivia (trivia.end + 2) (trivia.end + 2) count)
-list_on at kind map trivia Missing = Refused (layout at)
+abbrev pub list_on : ℕ → Kind → ℕ → TriviaSpan → Option ℕ → Result Own Refusal
+list_on at kind map trivia (Some count) = Ok (own_of kind map trivia (trivia.end + 2) (trivia.end + 2) count)
+list_on at kind map trivia None = Err (layout at)
 
 -- behind the trivia: a list's count, a leaf's text where its bit stands, or nothing more
-unfoldable pub rest_of : List ℕ → ℕ → TextRule → ℕ → Kind → ℕ → TriviaSpan → OwnRead
+unfoldable pub rest_of : List ℕ → ℕ → TextRule → ℕ → Kind → ℕ → TriviaSpan → Result Own Refusal
 rest_of bytes at text number kind map trivia =
     cond (eqb number kinds.vec) (list_on at kind map trivia (read_number bytes trivia.end))
     (cond ((eqb number kinds.leaf || eqb number kinds.path_item) && leb 2 map) (leaf_on at kind map trivia (text_end bytes trivia.end text))
-    (Record (own_of kind map trivia trivia.end trivia.end 0)))
+    (Ok (own_of kind map trivia trivia.end trivia.end 0)))
 
-abbrev pub trivia_of_record : List ℕ → ℕ → Rule → ℕ → Kind → ℕ → TriviaRead → OwnRead
-trivia_of_record bytes at rule number kind map (Trivia trivia) = rest_of bytes at rule.text number kind map trivia
-trivia_of_record bytes at rule number kind map BrokenTrivia = Refused (layout at)
+abbrev pub trivia_of_record : List ℕ → ℕ → Rule → ℕ → Kind → ℕ → Option TriviaSpan → Result Own Refusal
+trivia_of_record bytes at rule number kind map (Some trivia) = rest_of bytes at rule.text number kind map trivia
+trivia_of_record bytes at rule number kind map None = Err (layout at)
 
-abbrev pub map_of_record : List ℕ → ℕ → Rule → ℕ → KindRead → OwnRead
-map_of_record bytes at rule number Unknown = Refused (layout at)
-map_of_record bytes at rule number (Known kind) =
-    cond (ltb (length bytes) (at + 2)) (Refused (layout at))
+abbrev pub map_of_record : List ℕ → ℕ → Rule → ℕ → Option Kind → Result Own Refusal
+map_of_record bytes at rule number None = Err (layout at)
+map_of_record bytes at rule number (Some kind) =
+    cond (ltb (length bytes) (at + 2)) (Err (layout at))
     (cond (map_fits rule number kind (get_or bytes (at + 1) 0))
     (trivia_of_record bytes at rule number kind (get_or bytes (at + 1) 0) (trivia_read bytes (at + 2) (get_or bytes (at + 1) 0 % 2)))
-    (Refused (layout at)))
+    (Err (layout at)))
 
 -- the own bytes of a record of a class whose first byte stands at a place: "A record breaks the layout (its place)"
-unfoldable pub own_at : List ℕ → ℕ → Class → OwnRead
+unfoldable pub own_at : List ℕ → ℕ → Class → Result Own Refusal
 own_at bytes at class =
     cond (may_stand (rule class) (get_or bytes at 0))
     (map_of_record bytes at (rule class) (get_or bytes at 0) (kind_of (get_or bytes at 0)))
-    (Refused (layout at))
+    (Err (layout at))
 
 -- "a record is due at the end (the tree's length)"; "A record's first byte stands at depth above 64 (tested before its kind); its place."
-unfoldable pub read_own : List ℕ → ℕ → Class → ℕ → OwnRead
+unfoldable pub read_own : List ℕ → ℕ → Class → ℕ → Result Own Refusal
 read_own bytes at class levels =
-    cond (leb (length bytes) at) (Refused (layout (length bytes)))
-    (cond (eqb levels 0) (Refused (record { reason = TreeDepth; place = at })) (own_at bytes at class))
+    cond (leb (length bytes) at) (Err (layout (length bytes)))
+    (cond (eqb levels 0) (Err (record { reason = TreeDepth; place = at })) (own_at bytes at class))
 
 -- the refusal that reading met; a record that was read has none, and the place behind it stands for one
-abbrev pub refusal_of : OwnRead → Refusal
-refusal_of (Refused refusal) = refusal
-refusal_of (Record own) = layout own.end
+abbrev pub refusal_of : Result Own Refusal → Refusal
+refusal_of (Err refusal) = refusal
+refusal_of (Ok own) = layout own.end
 
 -- what holds of own bytes that were read: they stand behind the record's place and within the bytes, and their trivia items keep the layout
 pub record OwnFits (bytes : List ℕ) (at : ℕ) (own : Own) : Type 0 where
@@ -191,26 +179,26 @@ pub record OwnFits (bytes : List ℕ) (at : ℕ) (own : Own) : Type 0 where
   pub part : own.text ≤ own.end
   pub inside : own.end ≤ length bytes
   pub trivia : at + 2 ≤ own.trivia
-  pub items : (end : ℕ) × (trivia_end bytes own.trivia own.trivia_count ≡ Behind end) × (end ≤ own.text)
+  pub items : (end : ℕ) × (trivia_end bytes own.trivia own.trivia_count ≡ Some end) × (end ≤ own.text)
 
-abbrev pub Fits : List ℕ → ℕ → OwnRead → Type 0
-Fits bytes at (Record own) = OwnFits bytes at own
-Fits bytes at (Refused refusal) = Unit
+abbrev pub Fits : List ℕ → ℕ → Result Own Refusal → Type 0
+Fits bytes at (Ok own) = OwnFits bytes at own
+Fits bytes at (Err refusal) = Unit
 
 -- ---- in document 01's numbers: 0 with the place behind the own bytes, or a refusal's number and place
 
-abbrev pub numbers_own : OwnRead → ℕ × ℕ
-numbers_own (Record own) = (0, own.end)
-numbers_own (Refused refusal) = numbers_of refusal
+abbrev pub numbers_own : Result Own Refusal → ℕ × ℕ
+numbers_own (Ok own) = (0, own.end)
+numbers_own (Err refusal) = numbers_of refusal
 
 -- whether own bytes were read, and where they end
-abbrev pub was_read : OwnRead → Bool
-was_read (Record own) = true
-was_read (Refused refusal) = false
+abbrev pub was_read : Result Own Refusal → Bool
+was_read (Ok own) = true
+was_read (Err refusal) = false
 
-abbrev pub own_end : ℕ → OwnRead → ℕ
-own_end at (Record own) = own.end
-own_end at (Refused refusal) = at
+abbrev pub own_end : ℕ → Result Own Refusal → ℕ
+own_end at (Ok own) = own.end
+own_end at (Err refusal) = at
 
 -- 5 at the tree's length where the record is due there; 4 or 5 at its own place
 unfoldable pub own_numbers : List ℕ → ℕ → Class → ℕ → ℕ × ℕ

@@ -1,9 +1,8 @@
 -- What the walk over a tree reads beside the records' own bytes: the place behind a record, a trivia item, and a token's head.
-use Rattle.std.specs.Prelude.{ℕ, ◌+◌, ◌-◌, List, [], ◌∷◌, cond, ◌||◌, length, get_or, eqb, leb}
-use Rattle.answers.specs.Numbers.{numbers_of, numbers_checked, unless_refused}
+use Rattle.tree.specs.declared.parts.Head.{Head}
+use Rattle.std.specs.Prelude.{ℕ, ◌+◌, ◌-◌, List, [], ◌∷◌, cond, ◌||◌, length, get_or, eqb, leb, Option, Result, Some, None, Ok, Err}
+use Rattle.answers.specs.Numbers.{numbers_of, numbers_checked, unless_refused, Checked}
 use Rattle.answers.specs.declared.Refusal.{Refusal}
-use Rattle.answers.specs.declared.Checked.{Checked}
-use Rattle.answers.specs.declared.Checked.TheVariants.{Passed, Failed}
 use Rattle.tree.specs.Kinds as kinds
 use Rattle.tree.specs.Codes as codes
 use Rattle.tree.specs.Grammar.{Slot, rule, fields}
@@ -12,32 +11,22 @@ use Rattle.tree.specs.Reading.{slot_class, read}
 use Rattle.tree.specs.declared.grammar.Class.{Class}
 use Rattle.tree.specs.declared.grammar.Class.TheVariants.{DataSize, BinaryOp, LocatedExpression, BareExpression, BlockRecord, ExpressionArguments}
 use Rattle.tree.specs.declared.own.Own.{Own}
-use Rattle.tree.specs.declared.own.OwnRead.{OwnRead}
-use Rattle.tree.specs.declared.own.OwnRead.TheVariants.{Record, Refused}
-use Rattle.tree.specs.declared.own.Span.{Span}
-use Rattle.tree.specs.declared.own.Span.TheVariants.{Behind, Broken}
-use Rattle.tree.specs.declared.parts.Skipped.{Skipped}
-use Rattle.tree.specs.declared.parts.Skipped.TheVariants.{Next, NotSkipped}
 use Rattle.tree.specs.declared.parts.TriviumSpan.{TriviumSpan}
-use Rattle.tree.specs.declared.parts.TriviumRead.{TriviumRead}
-use Rattle.tree.specs.declared.parts.TriviumRead.TheVariants.{Item, BrokenItem}
-use Rattle.tree.specs.declared.parts.HeadRead.{HeadRead}
-use Rattle.tree.specs.declared.parts.HeadRead.TheVariants.{Found, NoHead}
 
 -- ---- the place behind a record
 
-abbrev pub skipped_on : ℕ → Checked → Skipped
-skipped_on end Passed = Next end
-skipped_on end (Failed refusal) = NotSkipped refusal
+abbrev pub skipped_on : ℕ → Checked → Result ℕ Refusal
+skipped_on end (Ok tt) = Ok end
+skipped_on end (Err refusal) = Err refusal
 
 -- the place behind the record of a class, or the first refusal in it
-unfoldable pub skipped : ℕ → List ℕ → Class → ℕ → Skipped
+unfoldable pub skipped : ℕ → List ℕ → Class → ℕ → Result ℕ Refusal
 skipped levels bytes class at = skipped_on (read levels bytes class at).end (read levels bytes class at).checked
 
 -- the refusal that skipping met; a record that was skipped has none, and the place behind it stands for one
-abbrev pub refused_skip : Skipped → Refusal
-refused_skip (NotSkipped refusal) = refusal
-refused_skip (Next place) = layout place
+abbrev pub refused_skip : Result ℕ Refusal → Refusal
+refused_skip (Err refusal) = refusal
+refused_skip (Ok place) = layout place
 
 -- ---- a trivia item
 
@@ -45,12 +34,12 @@ refused_skip (Next place) = layout place
 abbrev pub item_to : List ℕ → ℕ → ℕ → TriviumSpan
 item_to bytes at end = record { code = get_or bytes at 0; start = cond (eqb (get_or bytes at 0) codes.newline) end (at + 3); end = end }
 
-abbrev pub trivium_on : List ℕ → ℕ → Span → TriviumRead
-trivium_on bytes at (Behind end) = Item (item_to bytes at end)
-trivium_on bytes at Broken = BrokenItem
+abbrev pub trivium_on : List ℕ → ℕ → Option ℕ → Option TriviumSpan
+trivium_on bytes at (Some end) = Some (item_to bytes at end)
+trivium_on bytes at None = None
 
 -- "each a code (.. 1 newline ..) and, but for newline, a two-byte length and bytes"
-unfoldable pub trivium_at : List ℕ → ℕ → TriviumRead
+unfoldable pub trivium_at : List ℕ → ℕ → Option TriviumSpan
 trivium_at bytes at = trivium_on bytes at (trivium_end bytes at)
 
 -- ---- a token's head, as in `Token::trivia` of ast.rs
@@ -61,59 +50,59 @@ first_class class [] = class
 first_class class (slot ∷ slots) = slot_class slot
 
 -- the field of a class behind a first one
-abbrev pub second_field : ℕ → Class → Skipped → HeadRead
-second_field levels class (Next place) = Found (record { place = place; class = class; levels = levels })
-second_field levels class (NotSkipped refusal) = NoHead refusal
+abbrev pub second_field : ℕ → Class → Result ℕ Refusal → Result Head Refusal
+second_field levels class (Ok place) = Ok (record { place = place; class = class; levels = levels })
+second_field levels class (Err refusal) = Err refusal
 
 -- of a `Data` `size`, behind `values`; of a binary expression `lhs`, behind `op`; of any other record its first field
-unfoldable pub field_head : ℕ → List ℕ → Class → ℕ → Own → HeadRead
+unfoldable pub field_head : ℕ → List ℕ → Class → ℕ → Own → Result Head Refusal
 field_head levels bytes class number own =
     cond (eqb number kinds.«data») (second_field (levels - 1) DataSize (skipped (levels - 1) bytes ExpressionArguments own.end))
     (cond (eqb number kinds.binary_expression) (second_field (levels - 1) LocatedExpression (skipped (levels - 1) bytes BinaryOp own.end))
-    (Found (record { place = own.end; class = first_class class (fields own.kind (rule class).value); levels = levels - 1 })))
+    (Ok (record { place = own.end; class = first_class class (fields own.kind (rule class).value); levels = levels - 1 })))
 
-abbrev pub inner_on : ℕ → List ℕ → Class → ℕ → OwnRead → HeadRead
-inner_on levels bytes class at (Record own) = field_head levels bytes class (get_or bytes at 0) own
-inner_on levels bytes class at (Refused refusal) = NoHead refusal
+abbrev pub inner_on : ℕ → List ℕ → Class → ℕ → Result Own Refusal → Result Head Refusal
+inner_on levels bytes class at (Ok own) = field_head levels bytes class (get_or bytes at 0) own
+inner_on levels bytes class at (Err refusal) = Err refusal
 
-unfoldable pub inner_head : ℕ → List ℕ → Class → ℕ → HeadRead
+unfoldable pub inner_head : ℕ → List ℕ → Class → ℕ → Result Head Refusal
 inner_head levels bytes class at = inner_on levels bytes class at (read_own bytes at class levels)
 
 -- of `Braces` and `Config` that of the block, its `{`; of an `Expression` that of its expression
-abbrev pub head_on : ℕ → List ℕ → Class → ℕ → OwnRead → HeadRead
-head_on levels bytes class at (Refused refusal) = NoHead refusal
-head_on levels bytes class at (Record own) =
+abbrev pub head_on : ℕ → List ℕ → Class → ℕ → Result Own Refusal → Result Head Refusal
+head_on levels bytes class at (Err refusal) = Err refusal
+head_on levels bytes class at (Ok own) =
     cond (eqb (get_or bytes at 0) kinds.braces || eqb (get_or bytes at 0) kinds.config) (inner_head (levels - 1) bytes BlockRecord own.end)
     (cond (eqb (get_or bytes at 0) kinds.expression) (inner_head (levels - 1) bytes BareExpression own.end)
     (field_head levels bytes class (get_or bytes at 0) own))
 
 -- behind own bytes, whatever they are; there is none where no record can have been read: no level is left, or no byte stands there
-unfoldable pub head_behind : ℕ → List ℕ → Class → ℕ → Own → HeadRead
+unfoldable pub head_behind : ℕ → List ℕ → Class → ℕ → Own → Result Head Refusal
 head_behind levels bytes class at own =
-    cond (eqb levels 0) (NoHead (layout at)) (cond (leb (length bytes) at) (NoHead (layout at)) (head_on levels bytes class at (Record own)))
+    cond (eqb levels 0) (Err (layout at)) (cond (leb (length bytes) at) (Err (layout at)) (head_on levels bytes class at (Ok own)))
 
 -- the head of a token's record: its place, its class and the levels left there, or the refusal that is met before it
-unfoldable pub head_at : ℕ → List ℕ → Class → ℕ → HeadRead
+unfoldable pub head_at : ℕ → List ℕ → Class → ℕ → Result Head Refusal
 head_at levels bytes class at = head_on levels bytes class at (read_own bytes at class levels)
 
 -- the refusal on the way to a head; a head that was found has none, and its place stands for one
-abbrev pub refused_head : HeadRead → Refusal
-refused_head (NoHead refusal) = refusal
-refused_head (Found head) = layout head.place
+abbrev pub refused_head : Result Head Refusal → Refusal
+refused_head (Err refusal) = refusal
+refused_head (Ok head) = layout head.place
 
 -- ---- in document 01's numbers: 0 with the place that was found, or a refusal's number and place
 
-abbrev pub numbers_skipped : Skipped → ℕ × ℕ
-numbers_skipped (Next place) = (0, place)
-numbers_skipped (NotSkipped refusal) = numbers_of refusal
+abbrev pub numbers_skipped : Result ℕ Refusal → ℕ × ℕ
+numbers_skipped (Ok place) = (0, place)
+numbers_skipped (Err refusal) = numbers_of refusal
 
 -- of a record with all its parts
 unfoldable pub read_numbers : ℕ → List ℕ → Class → ℕ → ℕ × ℕ
 read_numbers levels bytes class at = unless_refused (numbers_checked (read levels bytes class at).checked) (0, (read levels bytes class at).end)
 
-abbrev pub numbers_head : HeadRead → ℕ × ℕ
-numbers_head (Found head) = (0, head.place)
-numbers_head (NoHead refusal) = numbers_of refusal
+abbrev pub numbers_head : Result Head Refusal → ℕ × ℕ
+numbers_head (Ok head) = (0, head.place)
+numbers_head (Err refusal) = numbers_of refusal
 
 -- of the head among a record's fields: behind the first of a `Data` and a binary expression, else the first
 abbrev pub field_numbers : ℕ → List ℕ → ℕ → Own → ℕ × ℕ
@@ -122,9 +111,9 @@ field_numbers levels bytes number own =
     (cond (eqb number kinds.binary_expression) (read_numbers (levels - 1) bytes BinaryOp own.end) (0, own.end))
 
 -- of one whose own bytes may be refused
-abbrev pub inner_numbers : ℕ → List ℕ → ℕ → OwnRead → ℕ × ℕ
-inner_numbers levels bytes number (Record own) = field_numbers levels bytes number own
-inner_numbers levels bytes number (Refused refusal) = numbers_of refusal
+abbrev pub inner_numbers : ℕ → List ℕ → ℕ → Result Own Refusal → ℕ × ℕ
+inner_numbers levels bytes number (Ok own) = field_numbers levels bytes number own
+inner_numbers levels bytes number (Err refusal) = numbers_of refusal
 
 -- of the head of a token's record behind its own bytes: that of a block, of an expression, or a field's
 abbrev pub token_numbers : ℕ → List ℕ → ℕ → Own → ℕ × ℕ
@@ -138,9 +127,9 @@ token_numbers levels bytes number own =
 unfoldable pub behind_numbers : ℕ → List ℕ → ℕ → Own → ℕ × ℕ
 behind_numbers levels bytes at own = cond (eqb levels 0) (5, at) (cond (leb (length bytes) at) (5, at) (token_numbers levels bytes (get_or bytes at 0) own))
 
-abbrev pub head_numbers_on : ℕ → List ℕ → ℕ → OwnRead → ℕ × ℕ
-head_numbers_on levels bytes number (Record own) = token_numbers levels bytes number own
-head_numbers_on levels bytes number (Refused refusal) = numbers_of refusal
+abbrev pub head_numbers_on : ℕ → List ℕ → ℕ → Result Own Refusal → ℕ × ℕ
+head_numbers_on levels bytes number (Ok own) = token_numbers levels bytes number own
+head_numbers_on levels bytes number (Err refusal) = numbers_of refusal
 
 unfoldable pub head_numbers : ℕ → List ℕ → Class → ℕ → ℕ × ℕ
 head_numbers levels bytes class at = head_numbers_on levels bytes (get_or bytes at 0) (read_own bytes at class levels)

@@ -1,21 +1,16 @@
 -- Reading: the tree of a class that stands at a place of the bytes, with the place behind it. It is defined on all bytes: where a record's own bytes break the
 -- layout, or the levels end, the tree has a node with the refusal there.
-use Rattle.std.specs.Prelude.{ℕ, zero, suc, ◌+◌, ◌/◌, ◌%◌, List, [], ◌∷◌, ◌++◌, cond, get_or, replicate, eqb}
+use Rattle.answers.specs.declared.Refusal.{Refusal}
+use Rattle.std.specs.Prelude.{ℕ, zero, suc, ◌+◌, ◌/◌, ◌%◌, List, [], ◌∷◌, ◌++◌, cond, get_or, replicate, eqb, Option, Result, Some, None, Ok, Err}
 use Rattle.std.proofs.Math.Seq.{slice}
-use Rattle.answers.specs.declared.Checked.{Checked}
-use Rattle.answers.specs.declared.Checked.TheVariants.{Passed, Failed}
 use Rattle.text.specs.Numbers.{number_at}
-use Rattle.answers.specs.Numbers.{and_then}
+use Rattle.answers.specs.Numbers.{no_refusal, and_then, Checked}
 use Rattle.tree.specs.Codes as codes
 use Rattle.tree.specs.Grammar.{Slot, must, may, rule, fields}
 use Rattle.tree.specs.Tree.{Tree, Trivium, absent, refused, node, built}
 use Rattle.tree.specs.Own.{read_own}
 use Rattle.tree.specs.declared.grammar.Class.{Class}
-use Rattle.tree.specs.declared.grammar.Items.{Items}
-use Rattle.tree.specs.declared.grammar.Items.TheVariants.{NoList, ListOf}
 use Rattle.tree.specs.declared.own.Own.{Own}
-use Rattle.tree.specs.declared.own.OwnRead.{OwnRead}
-use Rattle.tree.specs.declared.own.OwnRead.TheVariants.{Record, Refused}
 
 -- ---- what a record's own bytes hold
 
@@ -68,9 +63,9 @@ fields_due [] bits = []
 fields_due (slot ∷ slots) bits = cond (eqb (bits % 2) 1) (due (slot_class slot)) nothing ∷ fields_due slots (bits / 2)
 
 -- the items of a list
-abbrev pub items_due : Items → ℕ → List Due
-items_due NoList count = []
-items_due (ListOf class) count = replicate count (due class)
+abbrev pub items_due : Option Class → ℕ → List Due
+items_due None count = []
+items_due (Some class) count = replicate count (due class)
 
 -- "fields left to right", or the items of a list
 unfoldable pub parts_due : Class → Own → List Due
@@ -109,7 +104,7 @@ with_absent rest = record { trees = absent ∷ rest.trees; end = rest.end; check
 
 -- parts, one behind the other
 unfoldable pub read_parts : Reader → List Due → ℕ → Readings
-read_parts read [] at = record { trees = []; end = at; checked = Passed; texts = [] }
+read_parts read [] at = record { trees = []; end = at; checked = no_refusal; texts = [] }
 read_parts read (nothing ∷ parts) at = with_absent (read_parts read parts at)
 read_parts read (due class ∷ parts) at = joined_to (read class at) (read_parts read parts (read class at).end)
 
@@ -121,13 +116,13 @@ record_of bytes at own parts = record {
   texts = texts_of bytes own ++ parts.texts;
 }
 
-abbrev pub read_on : Reader → List ℕ → Class → ℕ → OwnRead → Reading
-read_on read bytes class at (Record own) = record_of bytes at own (read_parts read (parts_due class own) own.end)
-read_on read bytes class at (Refused refusal) = record { tree = refused refusal; end = at; checked = Failed refusal; texts = [] }
+abbrev pub read_on : Reader → List ℕ → Class → ℕ → Result Own Refusal → Reading
+read_on read bytes class at (Ok own) = record_of bytes at own (read_parts read (parts_due class own) own.end)
+read_on read bytes class at (Err refusal) = record { tree = refused refusal; end = at; checked = Err refusal; texts = [] }
 
 -- no level is left below: nothing is read there
 abbrev pub unread : Reader
-unread class at = record { tree = absent; end = at; checked = Passed; texts = [] }
+unread class at = record { tree = absent; end = at; checked = no_refusal; texts = [] }
 
 -- the record of a class at a place, where so many levels are left: "The file list has depth 1, a field or list item one more than its record."
 unfoldable pub read : ℕ → List ℕ → Class → ℕ → Reading

@@ -1,9 +1,8 @@
 -- Not part of the promises about a tree: the sets of maps as numbers, what the reading of a record's own bytes hands on, the parts that a plan is one of,
 -- and what the check's inner functions hand on.
-use Rattle.std.specs.Prelude.{ℕ, ◌+◌, ◌/◌, ◌%◌, ◌^◌, ◌≤◌, ◌<◌, ◌≡◌, List, [], ◌∷◌, ◌++◌, Bool, false, cond, length, replicate, eqb, ltb}
+use Rattle.answers.specs.Numbers.{Checked}
+use Rattle.std.specs.Prelude.{ℕ, ◌+◌, ◌/◌, ◌%◌, ◌^◌, ◌≤◌, ◌<◌, ◌≡◌, List, [], ◌∷◌, ◌++◌, Bool, false, cond, length, replicate, eqb, ltb, Option, Result, Some, None, Ok, Err}
 use Rattle.answers.specs.declared.Refusal.{Refusal}
-use Rattle.answers.specs.declared.Checked.{Checked}
-use Rattle.answers.specs.declared.Checked.TheVariants.{Passed, Failed}
 use Rattle.text.specs.Accepted.{accepted_text, fault_at}
 use Rattle.tree.specs.Grammar.{Slot, kind_of}
 use Rattle.tree.specs.Rows.{row_of}
@@ -14,20 +13,9 @@ use Rattle.tree.specs.declared.grammar.Kind.{Kind}
 use Rattle.tree.specs.declared.grammar.Kind.TheVariants.{Leaf}
 use Rattle.tree.specs.declared.grammar.Rule.{Rule}
 use Rattle.tree.specs.declared.own.Own.{Own}
-use Rattle.tree.specs.declared.own.OwnRead.{OwnRead}
-use Rattle.tree.specs.declared.own.OwnRead.TheVariants as own_read
 use Rattle.tree.specs.declared.own.TriviaSpan.{TriviaSpan}
-use Rattle.tree.specs.declared.own.Judged.{Judged}
-use Rattle.tree.specs.declared.own.Judged.TheVariants.{Fit, Unfit}
-use Rattle.tree.specs.declared.own.OwnFound.{OwnFound}
-use Rattle.tree.specs.declared.own.OwnFound.TheVariants.{Found, NotFound}
-use Rattle.tree.specs.declared.own.RestRead.{RestRead}
-use Rattle.tree.specs.declared.own.RestRead.TheVariants.{Rest, BrokenRest}
+use Rattle.tree.specs.declared.own.Rest.{Rest}
 use Rattle.tree.specs.declared.check.Plan.{Plan}
-use Rattle.tree.specs.declared.check.Part.{Part}
-use Rattle.tree.specs.declared.check.Part.TheVariants.{Next, NoPart}
-use Rattle.tree.specs.declared.check.RecordRead.{RecordRead}
-use Rattle.tree.specs.declared.check.RecordRead.TheVariants.{Whole, Refused}
 
 -- ---- sets: the maps of a kind's fields in one number
 
@@ -43,23 +31,23 @@ pub record SetOf (set : ℕ) (slots : List Slot) : Type 0 where
 -- ---- a record's own bytes
 
 -- the answer of a record whose first two bytes are judged
-abbrev pub judged_on : List ℕ → ℕ → Rule → ℕ → Judged → OwnRead
-judged_on bytes at rule number (Fit kind map) = trivia_of_record bytes at rule number kind map (trivia_read bytes (at + 2) (map % 2))
-judged_on bytes at rule number Unfit = own_read.Refused (layout at)
+abbrev pub judged_on : List ℕ → ℕ → Rule → ℕ → Option (Kind × ℕ) → Result Own Refusal
+judged_on bytes at rule number (Some (kind, map)) = trivia_of_record bytes at rule number kind map (trivia_read bytes (at + 2) (map % 2))
+judged_on bytes at rule number None = Err (layout at)
 
 -- the same by the definition
-unfoldable pub first_bytes : List ℕ → ℕ → Rule → ℕ → OwnRead
-first_bytes bytes at rule number = cond (may_stand rule number) (map_of_record bytes at rule number (kind_of number)) (own_read.Refused (layout at))
+unfoldable pub first_bytes : List ℕ → ℕ → Rule → ℕ → Result Own Refusal
+first_bytes bytes at rule number = cond (may_stand rule number) (map_of_record bytes at rule number (kind_of number)) (Err (layout at))
 
 -- the answer of a record by what stands behind its trivia
-abbrev pub rest_on : ℕ → Kind → ℕ → TriviaSpan → RestRead → OwnRead
-rest_on at kind map trivia (Rest text end count) = own_read.Record (own_of kind map trivia text end count)
-rest_on at kind map trivia BrokenRest = own_read.Refused (layout at)
+abbrev pub rest_on : ℕ → Kind → ℕ → TriviaSpan → Option Rest → Result Own Refusal
+rest_on at kind map trivia (Some rest) = Ok (own_of kind map trivia rest.text rest.end rest.count)
+rest_on at kind map trivia None = Err (layout at)
 
 -- the answer of a record by what was found of it
-abbrev pub found_on : ℕ → OwnFound → OwnRead
-found_on at (Found own) = own_read.Record own
-found_on at NotFound = own_read.Refused (layout at)
+abbrev pub found_on : ℕ → Option Own → Result Own Refusal
+found_on at (Some own) = Ok own
+found_on at None = Err (layout at)
 
 -- the own bytes of a leaf with a text and no trivia
 abbrev pub bare_leaf : ℕ → ℕ → Own
@@ -79,17 +67,17 @@ standing (nothing ∷ parts) = standing parts
 standing (due class ∷ parts) = class ∷ standing parts
 
 -- the next part of some parts, and a plan of the rest
-abbrev pub NextOf : Part → List Due → Type 0
-NextOf (Next class rest) parts = (others : List Due) × (standing parts ≡ class ∷ standing others) × Plans rest others
-NextOf NoPart parts = standing parts ≡ []
+abbrev pub NextOf : Option (Class × Plan) → List Due → Type 0
+NextOf (Some (class, rest)) parts = (others : List Due) × (standing parts ≡ class ∷ standing others) × Plans rest others
+NextOf None parts = standing parts ≡ []
 
 -- a number that is less for the rest of a plan
 abbrev pub plan_size : Plan → ℕ
 plan_size plan = plan.row + plan.count
 
-abbrev pub size_with : Part → ℕ
-size_with (Next class rest) = 1 + plan_size rest
-size_with NoPart = 0
+abbrev pub size_with : Option (Class × Plan) → ℕ
+size_with (Some (class, rest)) = 1 + plan_size rest
+size_with None = 0
 
 -- ---- refusal 7 while the tree is read
 
@@ -103,32 +91,32 @@ fault_from bytes fault (text ∷ texts) = fault_from bytes (fault_with bytes fau
 
 -- ---- a record that was read
 
-abbrev pub record_on : List ℕ → ℕ → ℕ → List Placed → Checked → RecordRead
-record_on bytes fault end texts Passed = Whole end (fault_from bytes fault texts)
-record_on bytes fault end texts (Failed refusal) = Refused refusal
+abbrev pub record_on : List ℕ → ℕ → ℕ → List Placed → Checked → Result (ℕ × ℕ) Refusal
+record_on bytes fault end texts (Ok tt) = Ok (end, (fault_from bytes fault texts))
+record_on bytes fault end texts (Err refusal) = Err refusal
 
-unfoldable pub record_read : List ℕ → ℕ → Reading → RecordRead
+unfoldable pub record_read : List ℕ → ℕ → Reading → Result (ℕ × ℕ) Refusal
 record_read bytes fault reading = record_on bytes fault reading.end reading.texts reading.checked
 
 -- the refusal that reading met; a record that was read whole has none, and the place behind it stands for one
-abbrev pub refused_record : RecordRead → Refusal
-refused_record (Refused refusal) = refusal
-refused_record (Whole end fault) = layout end
+abbrev pub refused_record : Result (ℕ × ℕ) Refusal → Refusal
+refused_record (Err refusal) = refusal
+refused_record (Ok (end, fault)) = layout end
 
 -- ---- records one behind the other
 
 -- what is read behind a record that was read whole
-abbrev pub onward : RecordRead → (ℕ → ℕ → RecordRead) → RecordRead
-onward (Whole end fault) next = next end fault
-onward (Refused refusal) next = Refused refusal
+abbrev pub onward : Result (ℕ × ℕ) Refusal → (ℕ → ℕ → Result (ℕ × ℕ) Refusal) → Result (ℕ × ℕ) Refusal
+onward (Ok (end, fault)) next = next end fault
+onward (Err refusal) next = Err refusal
 
 -- a reader of a class at a place, with the first byte that no text may hold
 abbrev pub Walker : Type 0
-Walker = Class → ℕ → ℕ → RecordRead
+Walker = Class → ℕ → ℕ → Result (ℕ × ℕ) Refusal
 
 -- records of these classes
-unfoldable pub walked : Walker → List Class → ℕ → ℕ → RecordRead
-walked walker [] place fault = Whole place fault
+unfoldable pub walked : Walker → List Class → ℕ → ℕ → Result (ℕ × ℕ) Refusal
+walked walker [] place fault = Ok (place, fault)
 walked walker (class ∷ classes) place fault = onward (walker class place fault) (walked walker classes)
 
 -- the walker of a reader

@@ -1,5 +1,5 @@
 // The check of a whole tree, in one pass.
-ghost use Rattle.std.specs.Prelude.{◌≡◌, [], true, false, ℕ, ◌<◌, ◌≤◌, ◌+◌, ◌-◌, ◌%◌, length};
+ghost use Rattle.std.specs.Prelude.{◌≡◌, [], true, false, ℕ, ◌<◌, ◌≤◌, ◌+◌, ◌-◌, ◌%◌, length, Some};
 ghost use Rattle.std.proofs.Math.Seq.{slice};
 ghost use Rattle.answers.specs.Numbers.{numbers_checked};
 ghost use Rattle.tree.specs.Own.{OwnFits, trivia_end};
@@ -9,10 +9,9 @@ ghost use Rattle.tree.specs.Checking.{length_numbers, tree_numbers};
 ghost use Rattle.tree.specs.Rows.{class_of};
 ghost use Rattle.tree.specs.Walk.{standing, fault_with, fault_from, record_read, refused_record, walked, walker_of};
 ghost use Rattle.tree.specs.Plans.{plan_of, next_part};
-ghost use Rattle.tree.specs.declared.own.Span.TheVariants.{Behind};
 
-use crate::grammar::{Class, Items, Kind};
-use crate::own::{Own, OwnRead};
+use crate::grammar::{Class, Kind};
+use crate::own::Own;
 use crate::{codes, grammar, own};
 use answers::{Checked, Reason, Refusal};
 use text::{numbers, scans};
@@ -26,19 +25,6 @@ pub struct Plan {
     pub count: usize,
 }
 
-#[derive(Clone, Copy)]
-pub enum Part {
-    Next(Class, Plan),
-    NoPart,
-}
-
-// A record that was read whole: the place behind it, and the first byte that no text may hold (a place past the tree stands for none).
-#[derive(Clone, Copy)]
-pub enum RecordRead {
-    Whole(usize, usize),
-    Refused(Refusal),
-}
-
 // The parts of a record of a class, of which its own bytes were read.
 pub fn plan_of(class: Class, own: Own) -> Plan
     ensures { result ≡ plan_of class own }
@@ -49,13 +35,13 @@ pub fn plan_of(class: Class, own: Own) -> Plan
     let value = rule.value;
     let row = grammar::row_of(kind, value);
     match items {
-        Items::ListOf(item) => Plan {
+        Some(item) => Plan {
             row: row,
             bits: own.map / 2,
             item: item,
             count: own.count,
         },
-        Items::NoList => Plan {
+        None => Plan {
             row: row,
             bits: own.map / 2,
             item: class,
@@ -71,7 +57,7 @@ pub(crate) fn slot_class(slot: u64) -> Class
 }
 
 // The next part of a plan.
-pub fn next_part(plan: Plan) -> Part
+pub fn next_part(plan: Plan) -> Option<(Class, Plan)>
     ensures { result ≡ next_part plan }
 {
     let item = plan.item;
@@ -83,7 +69,7 @@ pub fn next_part(plan: Plan) -> Part
         row = row / 128;
         bits = bits / 2;
         if bit == 1 {
-            return Part::Next(
+            return Some((
                 slot_class(slot),
                 Plan {
                     row: row,
@@ -91,13 +77,13 @@ pub fn next_part(plan: Plan) -> Part
                     item: item,
                     count: plan.count,
                 },
-            );
+            ));
         }
     }
     if plan.count == 0 {
-        return Part::NoPart;
+        return None;
     }
-    Part::Next(
+    Some((
         item,
         Plan {
             row: 0,
@@ -105,7 +91,7 @@ pub fn next_part(plan: Plan) -> Part
             item: item,
             count: plan.count - 1,
         },
-    )
+    ))
 }
 
 // The first byte of tree[start..end] that no text may hold, unless one was found before.
@@ -126,7 +112,7 @@ fn fault_in(tree: &[u8], start: usize, end: usize, fault: usize) -> usize
 
 // The same for the bytes of one trivia item and then for the items behind it.
 fn fault_in_trivia(tree: &[u8], at: usize, count: usize, fault: usize) -> usize
-    requires { (end : ℕ) × (trivia_end tree.now at count ≡ Behind end) }
+    requires { (end : ℕ) × (trivia_end tree.now at count ≡ Some end) }
     ensures { result ≡ fault_from tree.now fault (trivia_texts tree.now at count) }
 {
     let mut place = at;
@@ -172,7 +158,13 @@ fn has_parts(own: Own) -> bool
 }
 
 // The parts of a record whose own bytes were read, one behind the other. A leaf among them ends here, without a call for its parts.
-fn read_parts(tree: &[u8], class: Class, own: Own, levels: usize, fault: usize) -> RecordRead
+fn read_parts(
+    tree: &[u8],
+    class: Class,
+    own: Own,
+    levels: usize,
+    fault: usize,
+) -> Result<(usize, usize), Refusal>
     requires { 0 < levels }
     ensures { let reader = read (levels - 1) tree.now in
         result ≡ walked (walker_of reader tree.now) (standing (parts_due class own)) own.end fault }
@@ -182,12 +174,12 @@ fn read_parts(tree: &[u8], class: Class, own: Own, levels: usize, fault: usize) 
     let mut plan = plan_of(class, own);
     loop {
         let part = next_part(plan);
-        let Part::Next(field, rest) = part else {
-            return RecordRead::Whole(place, seen);
+        let Some((field, rest)) = part else {
+            return Ok((place, seen));
         };
         let read = own::read_own(tree, place, field, levels - 1);
-        let OwnRead::Record(inner) = read else {
-            return RecordRead::Refused(own::refusal_of(read));
+        let Ok(inner) = read else {
+            return Err(own::refusal_of(read));
         };
         let next = own_fault(tree, inner, seen);
         plan = rest;
@@ -197,7 +189,7 @@ fn read_parts(tree: &[u8], class: Class, own: Own, levels: usize, fault: usize) 
             continue;
         }
         let whole = read_parts(tree, field, inner, levels - 1, next);
-        let RecordRead::Whole(end, found) = whole else {
+        let Ok((end, found)) = whole else {
             return whole;
         };
         place = end;
@@ -212,27 +204,27 @@ pub(crate) fn read_record(
     class: Class,
     levels: usize,
     fault: usize,
-) -> RecordRead
+) -> Result<(usize, usize), Refusal>
     ensures { result ≡ record_read tree.now fault (read levels tree.now class at) }
 {
     let read = own::read_own(tree, at, class, levels);
-    let OwnRead::Record(own) = read else {
-        return RecordRead::Refused(own::refusal_of(read));
+    let Ok(own) = read else {
+        return Err(own::refusal_of(read));
     };
     let seen = own_fault(tree, own, fault);
     if !has_parts(own) {
-        return RecordRead::Whole(own.end, seen);
+        return Ok((own.end, seen));
     }
     read_parts(tree, class, own, levels, seen)
 }
 
 // The refusal that reading a record met; a record that was read whole has none, and the place behind it stands for one.
-pub(crate) fn refused_record(read: RecordRead) -> Refusal
+pub(crate) fn refused_record(read: Result<(usize, usize), Refusal>) -> Refusal
     ensures { result ≡ refused_record read }
 {
     match read {
-        RecordRead::Refused(refusal) => refusal,
-        RecordRead::Whole(end, _) => Refusal {
+        Err(refusal) => refusal,
+        Ok((end, _)) => Refusal {
             reason: Reason::TreeLayout,
             place: end,
         },
@@ -251,7 +243,7 @@ pub fn is_plain(tree: &[u8]) -> bool
 }
 
 // The file's record. In a plain tree the search for a byte that no text may hold is over before it begins: place 0 stands for found.
-fn read_file(tree: &[u8], levels: usize) -> RecordRead
+fn read_file(tree: &[u8], levels: usize) -> Result<(usize, usize), Refusal>
     ensures { let bytes = tree.now in
         result ≡ record_read bytes (length bytes) (read_file levels bytes) }
 {
@@ -260,16 +252,16 @@ fn read_file(tree: &[u8], levels: usize) -> RecordRead
         return read_record(tree, 0, Class::Tokens, levels, end);
     }
     let read = read_record(tree, 0, Class::Tokens, levels, 0);
-    let RecordRead::Whole(behind, _) = read else {
+    let Ok((behind, _)) = read else {
         return read;
     };
-    RecordRead::Whole(behind, end)
+    Ok((behind, end))
 }
 
 fn failed(reason: Reason, place: usize) -> Checked
-    ensures { result ≡ Checked.Failed (record { reason = reason; place = place }) }
+    ensures { result ≡ Err (record { reason = reason; place = place }) }
 {
-    Checked::Failed(Refusal {
+    Err(Refusal {
         reason: reason,
         place: place,
     })
@@ -287,7 +279,7 @@ pub fn check_length(tree: &[u8], limit: usize) -> Checked
     if limit < end {
         return failed(Reason::TreeLength, 0);
     }
-    Checked::Passed
+    Ok(())
 }
 
 // Whether bytes are a stored tree of at most `limit` bytes and `levels` levels: refusals 3, 4, 5 and 7.
@@ -297,12 +289,12 @@ pub fn check_within(tree: &[u8], limit: usize, levels: usize) -> Checked
 {
     let end = tree.len();
     let sized = check_length(tree, limit);
-    let Checked::Passed = sized else {
+    let Ok(()) = sized else {
         return sized;
     };
     let read = read_file(tree, levels);
-    let RecordRead::Whole(behind, fault) = read else {
-        return Checked::Failed(refused_record(read));
+    let Ok((behind, fault)) = read else {
+        return Err(refused_record(read));
     };
     if behind < end {
         return failed(Reason::TreeLayout, behind);
@@ -310,7 +302,7 @@ pub fn check_within(tree: &[u8], limit: usize, levels: usize) -> Checked
     if fault < end {
         return failed(Reason::NotAscii, fault);
     }
-    Checked::Passed
+    Ok(())
 }
 
 // Whether bytes are a stored tree.

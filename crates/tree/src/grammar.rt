@@ -62,13 +62,6 @@ pub enum Kind {
     ArgItem,
 }
 
-// The kind that a byte stands for.
-#[derive(Clone, Copy)]
-pub enum KindRead {
-    Known(Kind),
-    Unknown,
-}
-
 // What may stand in a field, by the field's Rust type.
 #[derive(Clone, Copy)]
 pub enum Class {
@@ -155,13 +148,6 @@ pub enum TextRule {
     Byte(usize, usize),
 }
 
-// Whether a list may stand, and of what.
-#[derive(Clone, Copy)]
-pub enum Items {
-    NoList,
-    ListOf(Class),
-}
-
 // What may stand in a class: the kinds from first to last, whether with trivia, the text of a leaf, a list, and what an argument's value is.
 #[derive(Clone, Copy)]
 pub struct Rule {
@@ -169,7 +155,7 @@ pub struct Rule {
     pub last: usize,
     pub located: bool,
     pub text: TextRule,
-    pub items: Items,
+    pub items: Option<Class>,
     pub value: Class,
 }
 
@@ -181,7 +167,7 @@ fn leaf(located: bool, text: TextRule) -> Rule
         last: kinds::LEAF,
         located: located,
         text: text,
-        items: Items::NoList,
+        items: None,
         value: Class::LocatedExpression,
     }
 }
@@ -194,7 +180,7 @@ fn nodes(first: usize, last: usize, located: bool) -> Rule
         last: last,
         located: located,
         text: TextRule::NoText,
-        items: Items::NoList,
+        items: None,
         value: Class::LocatedExpression,
     }
 }
@@ -208,7 +194,7 @@ fn argument(value: Class) -> Rule
         last: kinds::ARG_ITEM,
         located: false,
         text: TextRule::NoText,
-        items: Items::NoList,
+        items: None,
         value: value,
     }
 }
@@ -222,7 +208,7 @@ fn list_of(class: Class) -> Rule
         last: kinds::VEC,
         located: false,
         text: TextRule::NoText,
-        items: Items::ListOf(class),
+        items: Some(class),
         value: Class::LocatedExpression,
     }
 }
@@ -252,7 +238,7 @@ pub(crate) fn rule_of(class: Class) -> Rule
             last: kinds::PATH_ITEM,
             located: false,
             text: TextRule::Free,
-            items: Items::NoList,
+            items: None,
             value: Class::LocatedExpression,
         },
         Class::LocatedExpression => nodes(kinds::BINARY_EXPRESSION, kinds::FACTOR, true),
@@ -274,7 +260,7 @@ pub(crate) fn rule_of(class: Class) -> Rule
             last: kinds::IMPORT_ALL,
             located: false,
             text: TextRule::NoText,
-            items: Items::ListOf(Class::ImportArgument),
+            items: Some(Class::ImportArgument),
             value: Class::LocatedExpression,
         },
         Class::ImportPath => nodes(kinds::SPECIFIC_IMPORT_ARG, kinds::SPECIFIC_IMPORT_ARG, true),
@@ -289,54 +275,54 @@ pub(crate) fn rule_of(class: Class) -> Rule
 }
 
 // The kind that a byte stands for.
-pub(crate) fn kind_of(byte: usize) -> KindRead
+pub(crate) fn kind_of(byte: usize) -> Option<Kind>
     ensures { result ≡ Grammar.kind_of byte }
 {
     match byte {
-        kinds::ALIGN => KindRead::Known(Kind::Align),
-        kinds::ASSERT => KindRead::Known(Kind::Assert),
-        kinds::BRACES => KindRead::Known(Kind::Braces),
-        kinds::CONFIG => KindRead::Known(Kind::Config),
-        kinds::CONFIG_PAIR => KindRead::Known(Kind::ConfigPair),
-        kinds::DATA => KindRead::Known(Kind::Data),
-        kinds::DEFINITION => KindRead::Known(Kind::Definition),
-        kinds::EOF => KindRead::Known(Kind::Eof),
-        kinds::ERROR => KindRead::Known(Kind::Error),
-        kinds::EXPRESSION => KindRead::Known(Kind::Expression),
-        kinds::IF => KindRead::Known(Kind::If),
-        kinds::IMPORT => KindRead::Known(Kind::Import),
-        kinds::FILE => KindRead::Known(Kind::File),
-        kinds::INSTRUCTION => KindRead::Known(Kind::Instruction),
-        kinds::LABEL => KindRead::Known(Kind::Label),
-        kinds::LOOP => KindRead::Known(Kind::Loop),
-        kinds::MACRO_DEFINITION => KindRead::Known(Kind::MacroDefinition),
-        kinds::MACRO_INVOCATION => KindRead::Known(Kind::MacroInvocation),
-        kinds::PROGRAM_COUNTER_DEFINITION => KindRead::Known(Kind::ProgramCounterDefinition),
-        kinds::SEGMENT => KindRead::Known(Kind::Segment),
-        kinds::TEST => KindRead::Known(Kind::Test),
-        kinds::TEXT => KindRead::Known(Kind::Text),
-        kinds::TRACE => KindRead::Known(Kind::Trace),
-        kinds::VARIABLE_DEFINITION => KindRead::Known(Kind::VariableDefinition),
-        kinds::VEC => KindRead::Known(Kind::Vec),
-        kinds::LEAF => KindRead::Known(Kind::Leaf),
-        kinds::PATH_ITEM => KindRead::Known(Kind::PathItem),
-        kinds::BLOCK => KindRead::Known(Kind::Block),
-        kinds::BINARY_EXPRESSION => KindRead::Known(Kind::BinaryExpression),
-        kinds::FACTOR => KindRead::Known(Kind::Factor),
-        kinds::CURRENT_PROGRAM_COUNTER => KindRead::Known(Kind::CurrentProgramCounter),
-        kinds::EXPR_PARENS => KindRead::Known(Kind::ExprParens),
-        kinds::FUNCTION_CALL => KindRead::Known(Kind::FunctionCall),
-        kinds::IDENTIFIER_VALUE => KindRead::Known(Kind::IdentifierValue),
-        kinds::NUMBER => KindRead::Known(Kind::Number),
-        kinds::STRING_FACTOR => KindRead::Known(Kind::StringFactor),
-        kinds::INTERPOLATED_STRING => KindRead::Known(Kind::InterpolatedString),
-        kinds::OPERAND => KindRead::Known(Kind::Operand),
-        kinds::REGISTER_SUFFIX => KindRead::Known(Kind::RegisterSuffix),
-        kinds::IMPORT_AS => KindRead::Known(Kind::ImportAs),
-        kinds::IMPORT_ALL => KindRead::Known(Kind::ImportAll),
-        kinds::SPECIFIC_IMPORT_ARG => KindRead::Known(Kind::SpecificImportArg),
-        kinds::ARG_ITEM => KindRead::Known(Kind::ArgItem),
-        _ => KindRead::Unknown,
+        kinds::ALIGN => Some(Kind::Align),
+        kinds::ASSERT => Some(Kind::Assert),
+        kinds::BRACES => Some(Kind::Braces),
+        kinds::CONFIG => Some(Kind::Config),
+        kinds::CONFIG_PAIR => Some(Kind::ConfigPair),
+        kinds::DATA => Some(Kind::Data),
+        kinds::DEFINITION => Some(Kind::Definition),
+        kinds::EOF => Some(Kind::Eof),
+        kinds::ERROR => Some(Kind::Error),
+        kinds::EXPRESSION => Some(Kind::Expression),
+        kinds::IF => Some(Kind::If),
+        kinds::IMPORT => Some(Kind::Import),
+        kinds::FILE => Some(Kind::File),
+        kinds::INSTRUCTION => Some(Kind::Instruction),
+        kinds::LABEL => Some(Kind::Label),
+        kinds::LOOP => Some(Kind::Loop),
+        kinds::MACRO_DEFINITION => Some(Kind::MacroDefinition),
+        kinds::MACRO_INVOCATION => Some(Kind::MacroInvocation),
+        kinds::PROGRAM_COUNTER_DEFINITION => Some(Kind::ProgramCounterDefinition),
+        kinds::SEGMENT => Some(Kind::Segment),
+        kinds::TEST => Some(Kind::Test),
+        kinds::TEXT => Some(Kind::Text),
+        kinds::TRACE => Some(Kind::Trace),
+        kinds::VARIABLE_DEFINITION => Some(Kind::VariableDefinition),
+        kinds::VEC => Some(Kind::Vec),
+        kinds::LEAF => Some(Kind::Leaf),
+        kinds::PATH_ITEM => Some(Kind::PathItem),
+        kinds::BLOCK => Some(Kind::Block),
+        kinds::BINARY_EXPRESSION => Some(Kind::BinaryExpression),
+        kinds::FACTOR => Some(Kind::Factor),
+        kinds::CURRENT_PROGRAM_COUNTER => Some(Kind::CurrentProgramCounter),
+        kinds::EXPR_PARENS => Some(Kind::ExprParens),
+        kinds::FUNCTION_CALL => Some(Kind::FunctionCall),
+        kinds::IDENTIFIER_VALUE => Some(Kind::IdentifierValue),
+        kinds::NUMBER => Some(Kind::Number),
+        kinds::STRING_FACTOR => Some(Kind::StringFactor),
+        kinds::INTERPOLATED_STRING => Some(Kind::InterpolatedString),
+        kinds::OPERAND => Some(Kind::Operand),
+        kinds::REGISTER_SUFFIX => Some(Kind::RegisterSuffix),
+        kinds::IMPORT_AS => Some(Kind::ImportAs),
+        kinds::IMPORT_ALL => Some(Kind::ImportAll),
+        kinds::SPECIFIC_IMPORT_ARG => Some(Kind::SpecificImportArg),
+        kinds::ARG_ITEM => Some(Kind::ArgItem),
+        _ => None,
     }
 }
 

@@ -6,11 +6,10 @@ ghost use Rattle.tree.specs.Own.{sized_end, trivium_end, trivia_end, fields_fit,
 ghost use Rattle.tree.specs.Own.{numbers_own, own_numbers};
 ghost use Rattle.tree.specs.Walk.{rest_on, judged_on, first_bytes, found_on, bare_leaf};
 
-use crate::grammar::{Class, Items, Kind, KindRead, Rule, TextRule};
+use crate::grammar::{Class, Kind, Rule, TextRule};
 use crate::{codes, grammar, kinds};
 use answers::{Reason, Refusal};
 use text::numbers;
-use text::numbers::Number;
 
 // A record's own bytes, by their places: `trivia` is the place of its first trivia item, of which there are `trivia_count`; its text is
 // the bytes from `text` to `end`, behind which its fields or items begin; `count` says how many items a list has.
@@ -25,66 +24,53 @@ pub struct Own {
     pub count: usize,
 }
 
-#[derive(Clone, Copy)]
-pub enum OwnRead {
-    Record(Own),
-    Refused(Refusal),
-}
-
-// The place behind a part of a record's own bytes.
-#[derive(Clone, Copy)]
-pub enum Span {
-    Behind(usize),
-    Broken,
-}
-
 // A length of two bytes and as many bytes: the place behind them.
-pub(crate) fn sized_end(tree: &[u8], at: usize) -> Span
+pub(crate) fn sized_end(tree: &[u8], at: usize) -> Option<usize>
     ensures { result ≡ sized_end tree.now at }
 {
     let number = numbers::read_number(tree, at);
-    let Number::Read(count) = number else {
-        return Span::Broken;
+    let Some(count) = number else {
+        return None;
     };
     let start = at + 2;
     if tree.len() - start < count {
-        return Span::Broken;
+        return None;
     }
-    Span::Behind(start + count)
+    Some(start + count)
 }
 
 // A trivia item: a code, and bytes unless it is a newline.
-pub(crate) fn trivium_end(tree: &[u8], at: usize) -> Span
+pub(crate) fn trivium_end(tree: &[u8], at: usize) -> Option<usize>
     ensures { result ≡ trivium_end tree.now at }
 {
     if tree.len() <= at {
-        return Span::Broken;
+        return None;
     }
     let code = tree[at];
     if code == codes::NEWLINE {
-        return Span::Behind(at + 1);
+        return Some(at + 1);
     }
     if codes::CPP_STYLE < code {
-        return Span::Broken;
+        return None;
     }
     sized_end(tree, at + 1)
 }
 
 // `count` trivia items.
-pub(crate) fn trivia_end(tree: &[u8], at: usize, count: usize) -> Span
+pub(crate) fn trivia_end(tree: &[u8], at: usize, count: usize) -> Option<usize>
     ensures { result ≡ trivia_end tree.now at count }
 {
     let mut place = at;
     let mut left = count;
     while 0 < left {
         let item = trivium_end(tree, place);
-        let Span::Behind(behind) = item else {
-            return Span::Broken;
+        let Some(behind) = item else {
+            return None;
         };
         place = behind;
         left -= 1;
     }
-    Span::Behind(place)
+    Some(place)
 }
 
 // Whether the fields' bits stand where a kind's fields must and may, and nowhere else.
@@ -164,7 +150,7 @@ fn may_stand(rule: Rule, number: usize) -> bool
 {
     let items = rule.items;
     if number == kinds::VEC {
-        if let Items::ListOf(_) = items {
+        if let Some(_) = items {
             return true;
         }
         return false;
@@ -183,36 +169,30 @@ pub struct TriviaSpan {
     pub end: usize,
 }
 
-#[derive(Clone, Copy)]
-pub enum TriviaRead {
-    Trivia(TriviaSpan),
-    BrokenTrivia,
-}
-
 // The trivia behind a map, where its bit stands.
-fn read_trivia(tree: &[u8], at: usize, bit: usize) -> TriviaRead
+fn read_trivia(tree: &[u8], at: usize, bit: usize) -> Option<TriviaSpan>
     ensures { result ≡ trivia_read tree.now at bit }
 {
     if bit == 0 {
-        return TriviaRead::Trivia(TriviaSpan {
+        return Some(TriviaSpan {
             first: at,
             count: 0,
             end: at,
         });
     }
     let number = numbers::read_number(tree, at);
-    let Number::Read(count) = number else {
-        return TriviaRead::BrokenTrivia;
+    let Some(count) = number else {
+        return None;
     };
     if count == 0 {
-        return TriviaRead::BrokenTrivia;
+        return None;
     }
     let first = at + 2;
     let items = trivia_end(tree, first, count);
-    let Span::Behind(end) = items else {
-        return TriviaRead::BrokenTrivia;
+    let Some(end) = items else {
+        return None;
     };
-    TriviaRead::Trivia(TriviaSpan {
+    Some(TriviaSpan {
         first: first,
         count: count,
         end: end,
@@ -220,48 +200,48 @@ fn read_trivia(tree: &[u8], at: usize, bit: usize) -> TriviaRead
 }
 
 // A leaf's text that stands: its length and its bytes; the place behind them.
-fn text_end(tree: &[u8], at: usize, rule: TextRule) -> Span
+fn text_end(tree: &[u8], at: usize, rule: TextRule) -> Option<usize>
     ensures { result ≡ text_end tree.now at rule }
 {
     let number = numbers::read_number(tree, at);
-    let Number::Read(count) = number else {
-        return Span::Broken;
+    let Some(count) = number else {
+        return None;
     };
     if count == 0 {
-        return Span::Broken;
+        return None;
     }
     let start = at + 2;
     match rule {
-        TextRule::NoText => Span::Broken,
+        TextRule::NoText => None,
         TextRule::Free => {
             if tree.len() - start < count {
-                return Span::Broken;
+                return None;
             }
-            Span::Behind(start + count)
+            Some(start + count)
         }
         TextRule::Byte(low, high) => {
             if count != 1 {
-                return Span::Broken;
+                return None;
             }
             if tree.len() <= start {
-                return Span::Broken;
+                return None;
             }
             let byte = numbers::wide(tree[start]);
             if byte < low {
-                return Span::Broken;
+                return None;
             }
             if high < byte {
-                return Span::Broken;
+                return None;
             }
-            Span::Behind(at + 3)
+            Some(at + 3)
         }
     }
 }
 
-fn layout(place: usize) -> OwnRead
-    ensures { result ≡ OwnRead.Refused (layout place) }
+fn layout(place: usize) -> Result<Own, Refusal>
+    ensures { result ≡ Err (layout place) }
 {
-    OwnRead::Refused(Refusal {
+    Err(Refusal {
         reason: Reason::TreeLayout,
         place: place,
     })
@@ -297,103 +277,108 @@ fn own_of(kind: Kind, map: usize, trivia: TriviaSpan, text: usize, end: usize, c
 
 // What stands behind the trivia: the place of the text, the place behind it, and a list's count.
 #[derive(Clone, Copy)]
-pub(crate) enum RestRead {
-    Rest(usize, usize, usize),
-    BrokenRest,
+pub(crate) struct Rest {
+    pub text: usize,
+    pub end: usize,
+    pub count: usize,
 }
 
 // What stands behind the trivia: a list's count, a leaf's text, or nothing more.
-fn read_rest(tree: &[u8], text: TextRule, number: usize, map: usize, trivia: TriviaSpan) -> RestRead
+fn read_rest(
+    tree: &[u8],
+    text: TextRule,
+    number: usize,
+    map: usize,
+    trivia: TriviaSpan,
+) -> Option<Rest>
     ensures { (at : ℕ) (kind : Kind)
         → rest_on at kind map trivia result ≡ rest_of tree.now at text number kind map trivia }
 {
     let behind = trivia.end;
     if number == kinds::VEC {
         let read = numbers::read_number(tree, behind);
-        let Number::Read(count) = read else {
-            return RestRead::BrokenRest;
+        let Some(count) = read else {
+            return None;
         };
-        return RestRead::Rest(behind + 2, behind + 2, count);
+        return Some(Rest {
+            text: behind + 2,
+            end: behind + 2,
+            count,
+        });
     }
     if has_text(number, map) {
         let span = text_end(tree, behind, text);
-        let Span::Behind(end) = span else {
-            return RestRead::BrokenRest;
+        let Some(end) = span else {
+            return None;
         };
-        return RestRead::Rest(behind + 2, end, 0);
+        return Some(Rest {
+            text: behind + 2,
+            end,
+            count: 0,
+        });
     }
-    RestRead::Rest(behind, behind, 0)
-}
-
-// What a record's first two bytes say: its kind and its map, where they are right for its class.
-#[derive(Clone, Copy)]
-pub(crate) enum Judged {
-    Fit(Kind, usize),
-    Unfit,
+    Some(Rest {
+        text: behind,
+        end: behind,
+        count: 0,
+    })
 }
 
 // A record's first two bytes. They are judged in a function of their own, so that the reading behind them is compiled as one.
-fn judge(tree: &[u8], at: usize, rule: Rule, number: usize) -> Judged
+fn judge(tree: &[u8], at: usize, rule: Rule, number: usize) -> Option<(Kind, usize)>
     requires { at < length tree.now }
     ensures { judged_on tree.now at rule number result ≡ first_bytes tree.now at rule number }
 {
     if !may_stand(rule, number) {
-        return Judged::Unfit;
+        return None;
     }
     let read = grammar::kind_of(number);
-    let KindRead::Known(kind) = read else {
-        return Judged::Unfit;
+    let Some(kind) = read else {
+        return None;
     };
     if tree.len() - at < 2 {
-        return Judged::Unfit;
+        return None;
     }
     let map = numbers::wide(tree[at + 1]);
     if !map_fits(rule, number, kind, map) {
-        return Judged::Unfit;
+        return None;
     }
-    Judged::Fit(kind, map)
-}
-
-// A record that has a first byte, or that it breaks the layout: the refusal is made once, by the caller.
-#[derive(Clone, Copy)]
-pub(crate) enum OwnFound {
-    Found(Own),
-    NotFound,
+    Some((kind, map))
 }
 
 // The kind byte of a leaf.
 const LEAF: u8 = kinds::LEAF as u8;
 
 // The place behind a leaf that has a text and no trivia; broken where anything else stands, or what may not stand there.
-fn bare_leaf_end(tree: &[u8], at: usize, class: Class) -> Span
+fn bare_leaf_end(tree: &[u8], at: usize, class: Class) -> Option<usize>
     requires { at < length tree.now }
-    ensures { (end : ℕ) → result ≡ Span.Behind end → own_at tree.now at class ≡ OwnRead.Record (bare_leaf at end) }
+    ensures { (end : ℕ) → result ≡ Some end → own_at tree.now at class ≡ Ok (bare_leaf at end) }
 {
     if tree.len() - at < 2 {
-        return Span::Broken;
+        return None;
     }
     if tree[at] != LEAF {
-        return Span::Broken;
+        return None;
     }
     if tree[at + 1] != 2 {
-        return Span::Broken;
+        return None;
     }
     let rule = grammar::rule_of(class);
     let text = rule.text;
     if !may_stand(rule, kinds::LEAF) {
-        return Span::Broken;
+        return None;
     }
     text_end(tree, at + 2, text)
 }
 
 // A record that has a first byte. Most are leaves with a text and no trivia: these are told by their first two bytes.
-fn own_at(tree: &[u8], at: usize, class: Class) -> OwnFound
+fn own_at(tree: &[u8], at: usize, class: Class) -> Option<Own>
     requires { at < length tree.now }
     ensures { found_on at result ≡ own_at tree.now at class }
 {
     let bare = bare_leaf_end(tree, at, class);
-    if let Span::Behind(end) = bare {
-        return OwnFound::Found(Own {
+    if let Some(end) = bare {
+        return Some(Own {
             kind: Kind::Leaf,
             map: 2,
             trivia: at + 2,
@@ -407,22 +392,22 @@ fn own_at(tree: &[u8], at: usize, class: Class) -> OwnFound
     let rule = grammar::rule_of(class);
     let text = rule.text;
     let judged = judge(tree, at, rule, number);
-    let Judged::Fit(kind, map) = judged else {
-        return OwnFound::NotFound;
+    let Some((kind, map)) = judged else {
+        return None;
     };
     let trivia = read_trivia(tree, at + 2, map % 2);
-    let TriviaRead::Trivia(span) = trivia else {
-        return OwnFound::NotFound;
+    let Some(span) = trivia else {
+        return None;
     };
     let rest = read_rest(tree, text, number, map, span);
-    let RestRead::Rest(start, end, count) = rest else {
-        return OwnFound::NotFound;
+    let Some(found) = rest else {
+        return None;
     };
-    OwnFound::Found(own_of(kind, map, span, start, end, count))
+    Some(own_of(kind, map, span, found.text, found.end, found.count))
 }
 
 // A record's own bytes at a place, where so many levels are left: refusal 5 or 4 where they break the layout or stand too deep.
-pub fn read_own(tree: &[u8], at: usize, class: Class, levels: usize) -> OwnRead
+pub fn read_own(tree: &[u8], at: usize, class: Class, levels: usize) -> Result<Own, Refusal>
     ensures answer { result ≡ read_own tree.now at class levels }
     ensures fits { Fits tree.now at result }
     ensures numbers { numbers_own result ≡ own_numbers tree.now at class levels }
@@ -431,27 +416,27 @@ pub fn read_own(tree: &[u8], at: usize, class: Class, levels: usize) -> OwnRead
         return layout(tree.len());
     }
     if levels == 0 {
-        return OwnRead::Refused(Refusal {
+        return Err(Refusal {
             reason: Reason::TreeDepth,
             place: at,
         });
     }
     let found = own_at(tree, at, class);
-    let OwnFound::Found(own) = found else {
+    let Some(own) = found else {
         return layout(at);
     };
-    OwnRead::Record(own)
+    Ok(own)
 }
 
-// The refusal that reading met, for the else case of `let OwnRead::Record(own) = read else { .. }`; a record that was read has none, and the place behind it stands for one.
-pub fn refusal_of(read: OwnRead) -> Refusal
+// The refusal that reading met, for the else case of `let Ok(own) = read else { .. }`; a record that was read has none, and the place behind it stands for one.
+pub fn refusal_of(read: Result<Own, Refusal>) -> Refusal
     ensures { result ≡ refusal_of read }
 {
     match read {
-        OwnRead::Record(own) => Refusal {
+        Ok(own) => Refusal {
             reason: Reason::TreeLayout,
             place: own.end,
         },
-        OwnRead::Refused(refusal) => refusal,
+        Err(refusal) => refusal,
     }
 }

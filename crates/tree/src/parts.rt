@@ -1,25 +1,16 @@
 // What the walk over a tree reads beside the records' own bytes: the place behind a record, a trivia item, and a token's head.
-ghost use Rattle.std.specs.Prelude.{◌≡◌, ◌<◌};
+ghost use Rattle.std.specs.Prelude.{◌≡◌, ◌<◌, Err};
 ghost use Rattle.tree.specs.Grammar.{rule, fields};
 ghost use Rattle.tree.specs.Own.{layout};
 ghost use Rattle.tree.specs.Parts.{skipped, trivium_at, first_class, second_field, field_head, inner_head, head_behind, head_at};
 ghost use Rattle.tree.specs.Parts.{refused_skip, refused_head, numbers_skipped, read_numbers};
 ghost use Rattle.tree.specs.Parts.{numbers_head, behind_numbers, head_numbers};
-ghost use Rattle.tree.specs.declared.parts.HeadRead.TheVariants as HeadRead;
 
-use crate::check::RecordRead;
 use crate::grammar::{Class, Kind};
-use crate::own::{Own, OwnRead, Span};
+use crate::own::Own;
 use crate::{check, codes, grammar, kinds, own};
 use answers::{Reason, Refusal};
 use text::numbers;
-
-// The place behind a record.
-#[derive(Clone, Copy)]
-pub enum Skipped {
-    Next(usize),
-    NotSkipped(Refusal),
-}
 
 // A trivia item, by its code and the places of its text, which for a newline are both the place behind it.
 #[derive(Clone, Copy)]
@@ -27,12 +18,6 @@ pub struct TriviumSpan {
     pub code: u8,
     pub start: usize,
     pub end: usize,
-}
-
-#[derive(Clone, Copy)]
-pub enum TriviumRead {
-    Item(TriviumSpan),
-    BrokenItem,
 }
 
 // A token's head: the record of a class at a place, where so many levels are left.
@@ -43,31 +28,25 @@ pub struct Head {
     pub levels: usize,
 }
 
-#[derive(Clone, Copy)]
-pub enum HeadRead {
-    Found(Head),
-    NoHead(Refusal),
-}
-
 // The place behind the record of a class, or the first refusal in it.
-pub fn skip(tree: &[u8], at: usize, class: Class, levels: usize) -> Skipped
+pub fn skip(tree: &[u8], at: usize, class: Class, levels: usize) -> Result<usize, Refusal>
     ensures answer { result ≡ skipped levels tree.now class at }
     ensures numbers { numbers_skipped result ≡ read_numbers levels tree.now class at }
 {
     let read = check::read_record(tree, at, class, levels, 0);
-    let RecordRead::Whole(end, _) = read else {
-        return Skipped::NotSkipped(check::refused_record(read));
+    let Ok((end, _)) = read else {
+        return Err(check::refused_record(read));
     };
-    Skipped::Next(end)
+    Ok(end)
 }
 
 // The refusal that skipping met; a record that was skipped has none, and the place behind it stands for one.
-pub fn refused_skip(found: Skipped) -> Refusal
+pub fn refused_skip(found: Result<usize, Refusal>) -> Refusal
     ensures { result ≡ refused_skip found }
 {
     match found {
-        Skipped::NotSkipped(refusal) => refusal,
-        Skipped::Next(place) => Refusal {
+        Err(refusal) => refusal,
+        Ok(place) => Refusal {
             reason: Reason::TreeLayout,
             place: place,
         },
@@ -75,22 +54,22 @@ pub fn refused_skip(found: Skipped) -> Refusal
 }
 
 // A trivia item.
-pub fn trivium_at(tree: &[u8], at: usize) -> TriviumRead
+pub fn trivium_at(tree: &[u8], at: usize) -> Option<TriviumSpan>
     ensures { result ≡ trivium_at tree.now at }
 {
     let item = own::trivium_end(tree, at);
-    let Span::Behind(end) = item else {
-        return TriviumRead::BrokenItem;
+    let Some(end) = item else {
+        return None;
     };
     let code = tree[at];
     if code == codes::NEWLINE {
-        return TriviumRead::Item(TriviumSpan {
+        return Some(TriviumSpan {
             code: code,
             start: end,
             end: end,
         });
     }
-    TriviumRead::Item(TriviumSpan {
+    Some(TriviumSpan {
         code: code,
         start: at + 3,
         end: end,
@@ -111,13 +90,17 @@ fn first_class(class: Class, kind: Kind) -> Class
 }
 
 // The field behind a record that is skipped.
-fn second_field(skipped: Skipped, class: Class, levels: usize) -> HeadRead
+fn second_field(
+    skipped: Result<usize, Refusal>,
+    class: Class,
+    levels: usize,
+) -> Result<Head, Refusal>
     ensures { result ≡ second_field levels class skipped }
 {
-    let Skipped::Next(place) = skipped else {
-        return HeadRead::NoHead(refused_skip(skipped));
+    let Ok(place) = skipped else {
+        return Err(refused_skip(skipped));
     };
-    HeadRead::Found(Head {
+    Ok(Head {
         place: place,
         class: class,
         levels: levels,
@@ -125,7 +108,13 @@ fn second_field(skipped: Skipped, class: Class, levels: usize) -> HeadRead
 }
 
 // The head of a record among its own fields: the second for a `Data` and a binary expression, the first otherwise.
-fn field_head(tree: &[u8], number: usize, class: Class, own: Own, levels: usize) -> HeadRead
+fn field_head(
+    tree: &[u8],
+    number: usize,
+    class: Class,
+    own: Own,
+    levels: usize,
+) -> Result<Head, Refusal>
     requires { 0 < levels }
     ensures { result ≡ field_head levels tree.now class number own }
 {
@@ -139,7 +128,7 @@ fn field_head(tree: &[u8], number: usize, class: Class, own: Own, levels: usize)
         let op = skip(tree, place, Class::BinaryOp, levels - 1);
         return second_field(op, Class::LocatedExpression, levels - 1);
     }
-    HeadRead::Found(Head {
+    Ok(Head {
         place: place,
         class: first_class(class, kind),
         levels: levels - 1,
@@ -147,28 +136,34 @@ fn field_head(tree: &[u8], number: usize, class: Class, own: Own, levels: usize)
 }
 
 // The head of a record within a token.
-fn inner_head(tree: &[u8], at: usize, class: Class, levels: usize) -> HeadRead
+fn inner_head(tree: &[u8], at: usize, class: Class, levels: usize) -> Result<Head, Refusal>
     ensures { result ≡ inner_head levels tree.now class at }
 {
     let read = own::read_own(tree, at, class, levels);
-    let OwnRead::Record(own) = read else {
-        return HeadRead::NoHead(own::refusal_of(read));
+    let Ok(own) = read else {
+        return Err(own::refusal_of(read));
     };
     field_head(tree, numbers::wide(tree[at]), class, own, levels)
 }
 
 // No head, where no record can have been read.
-fn no_head(at: usize) -> HeadRead
-    ensures { result ≡ HeadRead.NoHead (layout at) }
+fn no_head(at: usize) -> Result<Head, Refusal>
+    ensures { result ≡ Err (layout at) }
 {
-    HeadRead::NoHead(Refusal {
+    Err(Refusal {
         reason: Reason::TreeLayout,
         place: at,
     })
 }
 
 // The head of a token's record whose own bytes were read.
-pub fn head_behind(tree: &[u8], at: usize, class: Class, levels: usize, own: Own) -> HeadRead
+pub fn head_behind(
+    tree: &[u8],
+    at: usize,
+    class: Class,
+    levels: usize,
+    own: Own,
+) -> Result<Head, Refusal>
     ensures answer { result ≡ head_behind levels tree.now class at own }
     ensures numbers { numbers_head result ≡ behind_numbers levels tree.now at own }
 {
@@ -189,24 +184,24 @@ pub fn head_behind(tree: &[u8], at: usize, class: Class, levels: usize, own: Own
 }
 
 // The head of a token's record.
-pub fn head_place(tree: &[u8], at: usize, class: Class, levels: usize) -> HeadRead
+pub fn head_place(tree: &[u8], at: usize, class: Class, levels: usize) -> Result<Head, Refusal>
     ensures answer { result ≡ head_at levels tree.now class at }
     ensures numbers { numbers_head result ≡ head_numbers levels tree.now class at }
 {
     let read = own::read_own(tree, at, class, levels);
-    let OwnRead::Record(own) = read else {
-        return HeadRead::NoHead(own::refusal_of(read));
+    let Ok(own) = read else {
+        return Err(own::refusal_of(read));
     };
     head_behind(tree, at, class, levels, own)
 }
 
 // The refusal on the way to a head; a head that was found has none, and its place stands for one.
-pub fn refused_head(found: HeadRead) -> Refusal
+pub fn refused_head(found: Result<Head, Refusal>) -> Refusal
     ensures { result ≡ refused_head found }
 {
     match found {
-        HeadRead::NoHead(refusal) => refusal,
-        HeadRead::Found(head) => Refusal {
+        Err(refusal) => refusal,
+        Ok(head) => Refusal {
             reason: Reason::TreeLayout,
             place: head.place,
         },

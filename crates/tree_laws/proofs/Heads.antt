@@ -1,4 +1,6 @@
 -- The own bytes of a record that stand at a place are read as what they hold: its trivia, and the head before its text, count or fields.
+use Rattle.std.specs.Prelude.{Some}
+use Rattle.answers.specs.Numbers.{no_refusal}
 use mathlib.Core.Path.{◌≡◌, refl, sym, ◌∙◌}
 use mathlib.Core.List.{List, [], ◌∷◌, ◌++◌}
 use mathlib.Core.Bool.{Bool, true}
@@ -7,7 +9,6 @@ use native.Mathlib.Omega.{arith}
 use lib.ListN.{length, get_or}
 use lib.Dec.{eqb}
 use borrow.Author.Tests.{eqb-true, le-ltb, le-leb, lt-leb, ne_eqb}
-use Rattle.answers.specs.declared.Checked.TheVariants.{Passed}
 use Rattle.text.specs.Numbers.{two_bytes}
 use Rattle.text.proofs.Choices.{by_test}
 use Rattle.tree.specs.Grammar.{kind_of, rule}
@@ -17,11 +18,8 @@ use Rattle.tree.specs.Reading.{trivium_behind, trivium_text, trivia_from, trivia
 use Rattle.tree.specs.Stored.{stored_trivium, stored_items, stored_trivia, trivia_bit}
 use Rattle.tree.specs.Checking.{texts_checked}
 use Rattle.tree.specs.declared.grammar.Kind.{Kind}
-use Rattle.tree.specs.declared.grammar.KindRead.TheVariants.{Known}
 use Rattle.tree.specs.declared.grammar.Class.{Class}
-use Rattle.tree.specs.declared.own.Span.TheVariants.{Behind}
 use Rattle.tree.specs.declared.own.TriviaSpan.{TriviaSpan}
-use Rattle.tree.specs.declared.own.TriviaRead.TheVariants.{Trivia}
 use Rattle.tree.proofs.Places.{Stands}
 use Rattle.tree.proofs.OwnBytes.{Headed}
 use Rattle.tree_laws.specs.WellFormed.{TriviumFits, EachFits, none, next, TriviaFit, without, with}
@@ -31,7 +29,7 @@ use Rattle.tree_laws.proofs.Standing.{ends, apart, byte_at, number_at_lem, Sized
 
 -- what reading gives of a trivia item that stands
 record ItemRead (bytes : List ℕ) (at : ℕ) (item : Trivium) (end : ℕ) : Type 0 where
-  span : trivium_end bytes at ≡ Behind end
+  span : trivium_end bytes at ≡ Some end
   behind : trivium_behind bytes at ≡ end
   code : get_or bytes at 0 ≡ item.code
   text : trivium_text bytes at ≡ item.text
@@ -79,9 +77,9 @@ item_read {bytes} {at} {end} item fits stands =
 
 -- what reading gives of trivia items that stand, whose texts are accepted
 record ItemsRead (bytes : List ℕ) (at count : ℕ) (items : List Trivium) (end : ℕ) : Type 0 where
-  span : trivia_end bytes at count ≡ Behind end
+  span : trivia_end bytes at count ≡ Some end
   same : trivia_from bytes at count ≡ items
-  texts : texts_checked (trivia_texts bytes at count) ≡ Passed
+  texts : texts_checked (trivia_texts bytes at count) ≡ no_refusal
 
 -- they are read as themselves
 items_read : {bytes : List ℕ} {at end : ℕ} {items : List Trivium} → EachFits items → Stands bytes at (stored_items items) end → ItemsRead bytes at (length items) items end
@@ -108,10 +106,10 @@ each (with count fits) = fits
 -- what reading gives of trivia that stand, by their bit
 pub record TriviaStand (bytes : List ℕ) (at : ℕ) (items : List Trivium) (end : ℕ) : Type 0 where
   pub span : TriviaSpan
-  pub is : trivia_read bytes at (trivia_bit items) ≡ Trivia span
+  pub is : trivia_read bytes at (trivia_bit items) ≡ Some span
   pub last : span.end ≡ end
   pub same : trivia_from bytes span.first span.count ≡ items
-  pub texts : texts_checked (trivia_texts bytes span.first span.count) ≡ Passed
+  pub texts : texts_checked (trivia_texts bytes span.first span.count) ≡ no_refusal
 
 -- they are read as themselves
 pub trivia_read_lem : {bytes : List ℕ} {at end : ℕ} {located : Bool} (items : List Trivium) → TriviaFit located items → Stands bytes at (stored_trivia items) end
@@ -164,7 +162,7 @@ own_read {bytes} {at} levels headed =
 -- a head whose kind may stand and whose map fits keeps the grammar
 pub headed : {bytes : List ℕ} {at number flags end : ℕ} {items : List Trivium} {rest : List ℕ} (class : Class) (kind : Kind)
     → (head : HeadStands bytes at number flags items rest end) → flags % 2 ≡ trivia_bit items
-    → kind_of number ≡ Known kind → may_stand (rule class) number ≡ true → map_fits (rule class) number kind flags ≡ true
+    → kind_of number ≡ Some kind → may_stand (rule class) number ≡ true → map_fits (rule class) number kind flags ≡ true
     → Headed bytes at class kind head.trivia.span
 headed class kind head bit known standing fits = record {
   room = head.room;

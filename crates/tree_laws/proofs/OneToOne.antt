@@ -2,6 +2,7 @@
 --   read_between : .. WellFormed levels class (length before) tree → Found (read levels (before ++ (stored tree ++ behind)) class (length before)) tree (length before + length (stored tree))
 --   one_to_one : (limit levels : ℕ) → Inverse (TreeWithin limit levels) (AcceptedWithin limit levels) stored (λ bytes. (read_file levels bytes).tree)
 --   stored_injective : .. WellFormed levels class at first → WellFormed levels class at second → stored first ≡ stored second → first ≡ second
+use Rattle.answers.specs.Numbers.{no_refusal}
 use mathlib.Core.Path.{◌≡◌, sym, ◌∙◌}
 use mathlib.Core.List.{List, [], ◌++◌}
 use Prim.Native.Nat.{ℕ, ◌+◌}
@@ -9,7 +10,6 @@ use native.Mathlib.Omega.{arith}
 use lib.ListN.{length, replicate, length-replicate}
 use lib.Seq.{take-length}
 use borrow.Author.Tests.{le-ltb, ne_eqb}
-use Rattle.answers.specs.declared.Checked.TheVariants.{Passed}
 use Rattle.tree.specs.Tree.{Tree}
 use Rattle.tree.specs.Reading.{read}
 use Rattle.tree.specs.Stored.{stored}
@@ -39,7 +39,7 @@ file_read levels tree formed =
     (record { same = sym (take-length (stored tree)); onward = omega arith; inside = omega arith })
 
 -- and the check accepts it within the limits: it refuses nothing that is well formed
-pub accepted : (limit levels : ℕ) (tree : Tree) → TreeWithin limit levels tree → tree_checked limit levels (stored tree) ≡ Passed
+pub accepted : (limit levels : ℕ) (tree : Tree) → TreeWithin limit levels tree → tree_checked limit levels (stored tree) ≡ no_refusal
 unfolding tree_checked
 accepted limit levels tree within =
     let size : ℕ = length (stored tree) in

@@ -1,5 +1,7 @@
 -- A well-formed tree whose stored form stands at its place is read back from there, without refusal.
 --   read_back : .. WellFormed levels class at tree → Stands bytes at (stored tree) end → Found (read levels bytes class at) tree end
+use Rattle.std.specs.Prelude.{Option, Some, None, Ok}
+use Rattle.answers.specs.Numbers.{no_refusal}
 use mathlib.Core.Path.{◌≡◌, refl, sym, ap, ◌∙◌}
 use mathlib.Core.List.{List, [], ◌∷◌, ◌++◌, map, append-nil}
 use mathlib.Core.Bool.{Bool, true, false, ◌||◌}
@@ -10,7 +12,6 @@ use lib.ListN.{length, get_or, replicate}
 use lib.Dec.{eqb, leb}
 use lib.Seq.{slice, slice_empty}
 use borrow.Author.Tests.{eqb-true, lt-ltb, le-ltb, le-leb, lt-leb, eq-eqb, ne_eqb}
-use Rattle.answers.specs.declared.Checked.TheVariants.{Passed}
 use Rattle.answers.proofs.Cases.{failed_passed}
 use Rattle.text.specs.Numbers.{two_bytes}
 use Rattle.text.specs.Accepted.{accepted_text}
@@ -24,15 +25,10 @@ use Rattle.tree.specs.Stored.{part_bits, stored_trivia, trivia_bit, stored_text,
 use Rattle.tree.specs.Checking.{texts_checked}
 use Rattle.tree.specs.declared.grammar.Kind.{Kind}
 use Rattle.tree.specs.declared.grammar.Kind.TheVariants as variant
-use Rattle.tree.specs.declared.grammar.KindRead.TheVariants.{Known}
 use Rattle.tree.specs.declared.grammar.Class.{Class}
 use Rattle.tree.specs.declared.grammar.Class.TheVariants.{LocatedExpression}
 use Rattle.tree.specs.declared.grammar.TextRule.{TextRule}
-use Rattle.tree.specs.declared.grammar.Items.{Items}
-use Rattle.tree.specs.declared.grammar.Items.TheVariants.{NoList, ListOf}
 use Rattle.tree.specs.declared.own.Own.{Own}
-use Rattle.tree.specs.declared.own.OwnRead.TheVariants.{Record}
-use Rattle.tree.specs.declared.own.Span.TheVariants.{Behind}
 use Rattle.tree.proofs.Cases.{by_choice}
 use Rattle.tree.proofs.KindLayout.{kind_number, forms_from, node_stored, kind_number_lem, forms_all, items_counted, items_stored, leaf_stored}
 use Rattle.tree.proofs.Places.{Stands}
@@ -46,22 +42,22 @@ use Rattle.tree_laws.proofs.Heads.{HeadStands, head_read, own_read, headed}
 pub record Found (reading : Reading) (tree : Tree) (end : ℕ) : Type 0 where
   pub tree_is : reading.tree ≡ tree
   pub end_is : reading.end ≡ end
-  pub passed : reading.checked ≡ Passed
-  pub accepted : texts_checked reading.texts ≡ Passed
+  pub passed : reading.checked ≡ no_refusal
+  pub accepted : texts_checked reading.texts ≡ no_refusal
 
 -- so with parts
 record AllFound (readings : Readings) (trees : List Tree) (end : ℕ) : Type 0 where
   trees_are : readings.trees ≡ trees
   end_is : readings.end ≡ end
-  passed : readings.checked ≡ Passed
-  accepted : texts_checked readings.texts ≡ Passed
+  passed : readings.checked ≡ no_refusal
+  accepted : texts_checked readings.texts ≡ no_refusal
 
 -- texts one behind the other are accepted where both are
-texts_both : (first second : List Placed) → texts_checked first ≡ Passed → texts_checked second ≡ Passed → texts_checked (first ++ second) ≡ Passed
+texts_both : (first second : List Placed) → texts_checked first ≡ no_refusal → texts_checked second ≡ no_refusal → texts_checked (first ++ second) ≡ no_refusal
 unfolding texts_checked
 texts_both [] second one two = two
 texts_both (text ∷ first) second one two =
-    by_choice (accepted_text text.bytes) _ _ Passed one
+    by_choice (accepted_text text.bytes) _ _ no_refusal one
     (λ q f. rw q (texts_both first second f two))
     (λ q f. failed_passed f)
 
@@ -200,7 +196,7 @@ unfolding stored_with
 list_form at items = rw (items_counted items, items_stored items)
 
 -- the stored form of a leaf or path item
-pub leaf_form : (at number : ℕ) (kind : Kind) (trivia : List Trivium) (text : List ℕ) → leaf_number number ≡ true → kind_of number ≡ Known kind
+pub leaf_form : (at number : ℕ) (kind : Kind) (trivia : List Trivium) (text : List ℕ) → leaf_number number ≡ true → kind_of number ≡ Some kind
     → stored (node at trivia (built kind text [])) ≡ stored_leaf number trivia text
 unfolding stored_with
 leaf_form at number kind trivia text leaf known = (leaf_stored number kind LocatedExpression trivia text [] leaf known).0
@@ -211,7 +207,7 @@ other_number number (inl low) = (ne_eqb number 24 (omega arith), rw (ne_eqb numb
 other_number number (inr high) = (ne_eqb number 24 (omega arith), rw (ne_eqb number 25 (omega arith), ne_eqb number 26 (omega arith)))
 
 -- the stored form of a record with fields
-pub fielded_form : (at number : ℕ) (kind : Kind) (value : Class) (trivia : List Trivium) (parts : List Tree) → kind_of number ≡ Known kind → (number < 24) ⊎ (26 < number)
+pub fielded_form : (at number : ℕ) (kind : Kind) (value : Class) (trivia : List Trivium) (parts : List Tree) → kind_of number ≡ Some kind → (number < 24) ⊎ (26 < number)
     → length parts ≡ length (fields kind value) → stored (node at trivia (built kind [] parts)) ≡ stored_node number trivia (map stored parts)
 unfolding stored_with
 fielded_form at number kind value trivia parts known other counted =
@@ -266,7 +262,7 @@ text_bit_fits (byte ∷ text) (well.one low high accepted) = refl
 
 -- a text that stands is read
 text_read : {bytes : List ℕ} {at end : ℕ} {text-rule : TextRule} (byte : ℕ) (text : List ℕ) → TextFits text-rule (byte ∷ text) → Sized bytes at (byte ∷ text) end
-    → text_end bytes at text-rule ≡ Behind end
+    → text_end bytes at text-rule ≡ Some end
 unfolding text_end
 text_read {bytes} {at} {end} byte text (well.free long accepted) sized =
     let last : at + 2 + length (byte ∷ text) ≡ end = omega arith in
@@ -277,11 +273,11 @@ text_read {bytes} {at} {end} byte text (well.one {low} {high} low-is high_is acc
     rw (le-leb (at + 2) (length bytes) sized.room, sized.count, lt-ltb (at + 2) (length bytes) letter.1, letter.0, le-leb low byte low-is, le-leb byte high high_is, last)
 
 -- the bits of an `If` are those of parts that stand together
-else_may : (number : ℕ) (kind : Kind) (bits : ℕ) → kind_of number ≡ Known kind → (kind ≡ variant.If → bits / 8 % 2 ≡ bits / 16 % 2) → else_fits number bits ≡ true
+else_may : (number : ℕ) (kind : Kind) (bits : ℕ) → kind_of number ≡ Some kind → (kind ≡ variant.If → bits / 8 % 2 ≡ bits / 16 % 2) → else_fits number bits ≡ true
 else_may number kind bits known together =
     by_test (eqb number 10)
     (λ q.
-    let if_known : kind_of 10 ≡ Known kind = rw (eqb-true number 10 q) at known in
+    let if_known : kind_of 10 ≡ Some kind = rw (eqb-true number 10 q) at known in
     let is : kind ≡ variant.If = cc in
     rw q (eq-eqb (bits / 8 % 2) (bits / 16 % 2) (together is)))
     (λ q. rw q)
@@ -291,14 +287,14 @@ pub only_fields : (class : Class) (own : Own) → own.count ≡ 0 → parts_due 
 unfolding parts_due
 only_fields class own is = rw (is, none (rule class).items) (append-nil (fields_due (fields own.kind (rule class).value) (own.map / 2)))
   where
-    none : (items : Items) → items_due items 0 ≡ []
-    none NoList = refl
-    none (ListOf item) = refl
+    none : (items : Option Class) → items_due items 0 ≡ []
+    none None = refl
+    none (Some item) = refl
 
 module _ (bytes : List ℕ) (levels : ℕ) (class : Class) (at : ℕ) where
   -- a record whose own bytes and parts are read
-  record_found : {trivia : List Trivium} {text : List ℕ} {parts : List Tree} {end : ℕ} (own : Own) → read_own bytes at class (suc levels) ≡ Record own
-      → trivia_of bytes own ≡ trivia → texts_checked (trivia_texts bytes own.trivia own.trivia_count) ≡ Passed
+  record_found : {trivia : List Trivium} {text : List ℕ} {parts : List Tree} {end : ℕ} (own : Own) → read_own bytes at class (suc levels) ≡ Ok own
+      → trivia_of bytes own ≡ trivia → texts_checked (trivia_texts bytes own.trivia own.trivia_count) ≡ no_refusal
       → text_of bytes own ≡ text → accepted_text text ≡ true → AllFound (read_parts (read levels bytes) (parts_due class own) own.end) parts end
       → Found (read (suc levels) bytes class at) (node at trivia (built own.kind text parts)) end
   unfolding read texts_checked
@@ -315,8 +311,8 @@ module _ (bytes : List ℕ) (levels : ℕ) (class : Class) (at : ℕ) where
 
   -- a leaf or path item whose own bytes are read
   leaf_own : {number flags end : ℕ} {kind : Kind} {trivia : List Trivium} {text rest : List ℕ} (text_at : ℕ)
-      → (head : HeadStands bytes at number flags trivia rest end) → leaf_number number ≡ true → kind_of number ≡ Known kind
-      → read_own bytes at class (suc levels) ≡ Record (own_of kind flags head.trivia.span text_at end 0)
+      → (head : HeadStands bytes at number flags trivia rest end) → leaf_number number ≡ true → kind_of number ≡ Some kind
+      → read_own bytes at class (suc levels) ≡ Ok (own_of kind flags head.trivia.span text_at end 0)
       → slice text_at end bytes ≡ text → accepted_text text ≡ true
       → Found (read (suc levels) bytes class at) (node at trivia (built kind text [])) end
   unfolding fields_due read_parts texts_checked
@@ -329,7 +325,7 @@ module _ (bytes : List ℕ) (levels : ℕ) (class : Class) (at : ℕ) where
   -- by its text
   text_found : {number flags end : ℕ} {kind : Kind} {trivia : List Trivium} (text : List ℕ) → TextFits (rule class).text text
       → (head : HeadStands bytes at number flags trivia (stored_text text) end) → flags ≡ trivia_bit trivia + 2 * part_bits (stored_text text ∷ [])
-      → leaf_number number ≡ true → kind_of number ≡ Known kind
+      → leaf_number number ≡ true → kind_of number ≡ Some kind
       → read_own bytes at class (suc levels) ≡ rest_of bytes at (rule class).text number kind flags head.trivia.span
       → Found (read (suc levels) bytes class at) (node at trivia (built kind text [])) end
   unfolding rest_of part_bits
@@ -346,7 +342,7 @@ module _ (bytes : List ℕ) (levels : ℕ) (class : Class) (at : ℕ) where
 
   -- a leaf or path item
   leaf_found : {number end : ℕ} {kind : Kind} {located : Bool} {trivia : List Trivium} (text : List ℕ)
-      → leaf_number number ≡ true → kind_of number ≡ Known kind → Within class number → TriviaFit located trivia → (located ≡ true → ((rule class).located || eqb number 26) ≡ true)
+      → leaf_number number ≡ true → kind_of number ≡ Some kind → Within class number → TriviaFit located trivia → (located ≡ true → ((rule class).located || eqb number 26) ≡ true)
       → TextFits (rule class).text text → Stands bytes at (stored_leaf number trivia text) end
       → Found (read (suc levels) bytes class at) (node at trivia (built kind text [])) end
   unfolding map_fits flat
@@ -368,7 +364,7 @@ module _ (bytes : List ℕ) (levels : ℕ) (class : Class) (at : ℕ) where
     where
       -- a record with fields
       fielded_found : {number end : ℕ} {kind : Kind} {trivia : List Trivium} {parts : List Tree}
-          → kind_of number ≡ Known kind → (number < 24) ⊎ (26 < number) → Within class number → TriviaFit (rule class).located trivia
+          → kind_of number ≡ Some kind → (number < 24) ⊎ (26 < number) → Within class number → TriviaFit (rule class).located trivia
           → FieldsFit (WellFormed levels) (fields kind (rule class).value) (at + 2 + length (stored_trivia trivia)) parts → ElseFits kind parts
           → Stands bytes at (stored_node number trivia (map stored parts)) end
           → Found (read (suc levels) bytes class at) (node at trivia (built kind [] parts)) end
@@ -394,7 +390,7 @@ module _ (bytes : List ℕ) (levels : ℕ) (class : Class) (at : ℕ) where
           (rw (only_fields class found refl, parted.1) (fields_found bytes (WellFormed levels) (read levels bytes) some below fields_fit head.behind))
 
       -- a list
-      list_found : {item : Class} {items : List Tree} {end : ℕ} → (rule class).items ≡ ListOf item → ItemsFit (WellFormed levels) item (at + 4) items
+      list_found : {item : Class} {items : List Tree} {end : ℕ} → (rule class).items ≡ Some item → ItemsFit (WellFormed levels) item (at + 4) items
           → Stands bytes at (24 ∷ 0 ∷ (two_bytes (length items) ++ flat (map stored items))) end
           → Found (read (suc levels) bytes class at) (node at [] (Vec (chain items))) end
       unfolding map_fits rest_of parts_due fields_due built

@@ -1,5 +1,7 @@
 -- A tree that was read without refusal, whose texts are accepted, is well formed.
 --   read_formed : .. read levels bytes class at .checked ≡ Passed → texts_checked (read levels bytes class at .texts) ≡ Passed → WellFormed levels class at (read levels bytes class at .tree)
+use Rattle.std.specs.Prelude.{Option, Some, None, Ok}
+use Rattle.answers.specs.Numbers.{no_refusal}
 use mathlib.Core.Path.{◌≡◌, refl, sym, ap, subst, ◌∙◌}
 use mathlib.Core.List.{List, [], ◌∷◌, ◌++◌}
 use mathlib.Core.Bool.{Bool, true, false, ◌&&◌, ◌||◌}
@@ -10,7 +12,6 @@ use lib.ListN.{length, get_or, replicate, length-append}
 use lib.Dec.{eqb, ltb, leb}
 use lib.Seq.{slice, slice_empty, slice-cons, length-slice}
 use borrow.Author.Tests.{ltb-true, ltb-false, leb-true, leb-false, eqb-true, eqb-false, le-leb, ne_eqb}
-use Rattle.answers.specs.declared.Checked.TheVariants.{Passed}
 use Rattle.answers.proofs.Cases.{failed_passed}
 use Rattle.text.specs.Numbers.{two_bytes, number_at}
 use Rattle.text.specs.Accepted.{accepted_text}
@@ -24,19 +25,12 @@ use Rattle.tree.specs.Stored.{stored_trivium, stored_items, stored_trivia, store
 use Rattle.tree.specs.Checking.{texts_checked}
 use Rattle.tree.specs.declared.grammar.Kind.{Kind}
 use Rattle.tree.specs.declared.grammar.Kind.TheVariants as variant
-use Rattle.tree.specs.declared.grammar.KindRead.TheVariants.{Known}
 use Rattle.tree.specs.declared.grammar.Class.{Class}
 use Rattle.tree.specs.declared.grammar.Rule.{Rule}
 use Rattle.tree.specs.declared.grammar.TextRule.{TextRule}
 use Rattle.tree.specs.declared.grammar.TextRule.TheVariants.{NoText, Free, Byte}
-use Rattle.tree.specs.declared.grammar.Items.{Items}
-use Rattle.tree.specs.declared.grammar.Items.TheVariants.{NoList, ListOf}
 use Rattle.tree.specs.declared.own.Own.{Own}
-use Rattle.tree.specs.declared.own.OwnRead.TheVariants.{Record}
-use Rattle.tree.specs.declared.own.Span.{Span}
-use Rattle.tree.specs.declared.own.Span.TheVariants.{Behind, Broken}
 use Rattle.tree.specs.declared.own.TriviaSpan.{TriviaSpan}
-use Rattle.tree.specs.declared.own.TriviaRead.TheVariants.{Trivia}
 use Rattle.tree.proofs.Cases.{by_choice, refused_record_lem, broken_behind, both_passed}
 use Rattle.tree.proofs.KindLayout.{kind_number_lem}
 use Rattle.tree.proofs.OwnBytes.{TextHeld, Headed, leaf_number, text_held, item_held, items_held, trivia_cases, own_cases, leaf_other}
@@ -49,12 +43,12 @@ use Rattle.tree_laws.proofs.Heads.{own_read}
 use Rattle.tree_laws.proofs.ReadBack.{only_fields}
 
 -- where a text and those behind it are accepted, each is
-texts_one : (text : Placed) (texts : List Placed) → texts_checked (text ∷ texts) ≡ Passed → (accepted_text text.bytes ≡ true) × (texts_checked texts ≡ Passed)
+texts_one : (text : Placed) (texts : List Placed) → texts_checked (text ∷ texts) ≡ no_refusal → (accepted_text text.bytes ≡ true) × (texts_checked texts ≡ no_refusal)
 unfolding texts_checked
-texts_one text texts e = by_choice (accepted_text text.bytes) _ _ Passed e (λ q f. (q, f)) (λ q f. failed_passed f)
+texts_one text texts e = by_choice (accepted_text text.bytes) _ _ no_refusal e (λ q f. (q, f)) (λ q f. failed_passed f)
 
 -- and of two lists both are
-texts_apart : (first second : List Placed) → texts_checked (first ++ second) ≡ Passed → (texts_checked first ≡ Passed) × (texts_checked second ≡ Passed)
+texts_apart : (first second : List Placed) → texts_checked (first ++ second) ≡ no_refusal → (texts_checked first ≡ no_refusal) × (texts_checked second ≡ no_refusal)
 unfolding texts_checked
 texts_apart [] second e = (refl, e)
 texts_apart (text ∷ first) second e =
@@ -63,13 +57,13 @@ texts_apart (text ∷ first) second e =
     (rw one.0 rest.0, rest.1)
 
 -- of trivia items that were read the first was
-first_read : (bytes : List ℕ) (at count end : ℕ) → trivia_end bytes at (suc count) ≡ Behind end → (place : ℕ) × (trivium_end bytes at ≡ Behind place)
+first_read : (bytes : List ℕ) (at count end : ℕ) → trivia_end bytes at (suc count) ≡ Some end → (place : ℕ) × (trivium_end bytes at ≡ Some place)
 unfolding trivia_end
 first_read bytes at count end e = go (trivium_end bytes at) refl e
   where
-    go : (span : Span) → trivium_end bytes at ≡ span → behind span (λ place. trivia_end bytes place count) ≡ Behind end → (place : ℕ) × (trivium_end bytes at ≡ Behind place)
-    go (Behind place) is f = (place, is)
-    go Broken is f = broken_behind f
+    go : (span : Option ℕ) → trivium_end bytes at ≡ span → behind span (λ place. trivia_end bytes place count) ≡ Some end → (place : ℕ) × (trivium_end bytes at ≡ Some place)
+    go (Some place) is f = (place, is)
+    go None is f = broken_behind f
 
 -- trivia that are not none have two bytes before their items
 trivia_long : (items : List Trivium) → 0 < length items → length (stored_trivia items) ≡ 2 + length (stored_items items)
@@ -84,7 +78,7 @@ module _ (bytes : List ℕ) (small : AllBytes bytes) where
   -- ---- trivia
 
   -- a trivia item that was read fits, and is stored in the bytes up to the next
-  item_formed : (at end : ℕ) → trivium_end bytes at ≡ Behind end → accepted_text (trivium_text bytes at) ≡ true
+  item_formed : (at end : ℕ) → trivium_end bytes at ≡ Some end → accepted_text (trivium_text bytes at) ≡ true
       → TriviumFits (record { code = get_or bytes at 0; text = trivium_text bytes at })
       × (at + length (stored_trivium (record { code = get_or bytes at 0; text = trivium_text bytes at })) ≡ trivium_behind bytes at)
   unfolding trivium_end
@@ -98,8 +92,8 @@ module _ (bytes : List ℕ) (small : AllBytes bytes) where
       let count : ℕ = number_at bytes (at + 1) in
       let long : length (slice (at + 3) (at + 3 + count) bytes) ≡ count = length-slice (at + 3) (at + 3 + count) bytes (rw q at inside) ∙ omega arith in (
         record {
-          code = by_choice (leb (length bytes) at) _ _ (Behind end) e (λ z f. broken_behind f)
-              (λ z f. by_choice (ltb 3 (get_or bytes at 0)) _ _ (Behind end) (rw q at f) (λ high g. broken_behind g) (λ high g. ltb-false 3 (get_or bytes at 0) high));
+          code = by_choice (leb (length bytes) at) _ _ (Some end) e (λ z f. broken_behind f)
+              (λ z f. by_choice (ltb 3 (get_or bytes at 0)) _ _ (Some end) (rw q at f) (λ high g. broken_behind g) (λ high g. ltb-false 3 (get_or bytes at 0) high));
           newline = λ is. absurd (eqb-false (get_or bytes at 0) 1 q is);
           long = rw (q, long) (number_small (at + 1));
           accepted = accepted;
@@ -114,7 +108,7 @@ module _ (bytes : List ℕ) (small : AllBytes bytes) where
     long : at + length (stored_items (trivia_from bytes at count)) ≡ end
 
   -- they fit
-  items_formed : (at count end : ℕ) → trivia_end bytes at count ≡ Behind end → texts_checked (trivia_texts bytes at count) ≡ Passed → ItemsFormed at count end
+  items_formed : (at count end : ℕ) → trivia_end bytes at count ≡ Some end → texts_checked (trivia_texts bytes at count) ≡ no_refusal → ItemsFormed at count end
   unfolding trivia_end trivia_from trivia_texts stored_items
   items_formed at zero end e accepted =
       let same : at ≡ end = cc in
@@ -133,15 +127,15 @@ module _ (bytes : List ℕ) (small : AllBytes bytes) where
       }
 
   -- trivia that were read fit where they may stand, and end where the record goes on
-  trivia_formed : (at bit : ℕ) (allowed : Bool) → ((bit ≡ 0 → ⊥) → allowed ≡ true) → (trivia : TriviaSpan) → trivia_read bytes at bit ≡ Trivia trivia
-      → texts_checked (trivia_texts bytes trivia.first trivia.count) ≡ Passed
+  trivia_formed : (at bit : ℕ) (allowed : Bool) → ((bit ≡ 0 → ⊥) → allowed ≡ true) → (trivia : TriviaSpan) → trivia_read bytes at bit ≡ Some trivia
+      → texts_checked (trivia_texts bytes trivia.first trivia.count) ≡ no_refusal
       → TriviaFit allowed (trivia_from bytes trivia.first trivia.count)
       × (at + length (stored_trivia (trivia_from bytes trivia.first trivia.count)) ≡ trivia.end)
   unfolding trivia_from
   trivia_formed at bit allowed may-stand =
       trivia_cases bytes at bit
       (λ (trivia : TriviaSpan).
-      texts_checked (trivia_texts bytes trivia.first trivia.count) ≡ Passed
+      texts_checked (trivia_texts bytes trivia.first trivia.count) ≡ no_refusal
       → TriviaFit allowed (trivia_from bytes trivia.first trivia.count)
       × (at + length (stored_trivia (trivia_from bytes trivia.first trivia.count)) ≡ trivia.end))
       (λ without accepted. (well.without, omega arith))
@@ -155,17 +149,17 @@ module _ (bytes : List ℕ) (small : AllBytes bytes) where
   -- ---- a leaf's text
 
   -- a text that was read fits
-  text_formed : (text-rule : TextRule) (at end : ℕ) → text_end bytes at text-rule ≡ Behind end → accepted_text (slice (at + 2) end bytes) ≡ true
+  text_formed : (text-rule : TextRule) (at end : ℕ) → text_end bytes at text-rule ≡ Some end → accepted_text (slice (at + 2) end bytes) ≡ true
       → TextFits text-rule (slice (at + 2) end bytes)
   unfolding text_end
   text_formed text-rule at end e accepted =
       by_test (leb (at + 2) (length bytes))
-      (λ room. by_choice (eqb (number_at bytes at) 0) _ _ (Behind end) (rw room at e)
+      (λ room. by_choice (eqb (number_at bytes at) 0) _ _ (Some end) (rw room at e)
       (λ none f. broken_behind f)
       (λ none f. by_rule text-rule f accepted))
       (λ room. broken_behind (rw room at e))
     where
-      by_rule : (text-rule : TextRule) → text_on bytes at text-rule (number_at bytes at) ≡ Behind end → accepted_text (slice (at + 2) end bytes) ≡ true
+      by_rule : (text-rule : TextRule) → text_on bytes at text-rule (number_at bytes at) ≡ Some end → accepted_text (slice (at + 2) end bytes) ≡ true
           → TextFits text-rule (slice (at + 2) end bytes)
       by_rule NoText f accepted = broken_behind f
       by_rule Free f accepted =
@@ -175,7 +169,7 @@ module _ (bytes : List ℕ) (small : AllBytes bytes) where
       by_rule (Byte low high) f accepted =
           let held = text_held bytes at end text-rule e in
           let byte : ℕ = get_or bytes (at + 2) 0 in
-          by_choice (eqb (number_at bytes at) 1 && (ltb (at + 2) (length bytes) && (leb low byte && leb byte high))) _ _ (Behind end) f
+          by_choice (eqb (number_at bytes at) 1 && (ltb (at + 2) (length bytes) && (leb low byte && leb byte high))) _ _ (Some end) f
           (λ q g.
           let last : suc (at + 2) ≡ end = omega (arith, held.last, eqb-true (number_at bytes at) 1 (and_true_left (eqb (number_at bytes at) 1) _ q)) in
           let one : slice (at + 2) end bytes ≡ byte ∷ [] =
@@ -227,9 +221,9 @@ or_left true second e clear = refl
 or_left false second e clear = true_false (sym e ∙ clear)
 
 -- a class of lists has a class of items
-list_class_lem : (items : Items) → is_list items ≡ true → (item : Class) × (items ≡ ListOf item)
-list_class_lem NoList e = true_false (sym e)
-list_class_lem (ListOf item) e = (item, refl)
+list_class_lem : (items : Option Class) → is_list items ≡ true → (item : Class) × (items ≡ Some item)
+list_class_lem None e = true_false (sym e)
+list_class_lem (Some item) e = (item, refl)
 
 -- where a text's bit is clear, and that fits, no text does
 no_text_fits : (text-rule : TextRule) → text_fits text-rule 0 ≡ true → TextFits text-rule []
@@ -239,12 +233,12 @@ no_text_fits Free e = well.free {text = []} (omega arith) refl
 no_text_fits (Byte low high) e = true_false (sym e)
 
 -- where a leaf was read its text ended
-leaf_end : (at : ℕ) (kind : Kind) (flags : ℕ) (trivia : TriviaSpan) (end : ℕ) (span : Span)
-    → leaf_on at kind flags trivia span ≡ Record (own_of kind flags trivia (trivia.end + 2) end 0) → span ≡ Behind end
-leaf_end at kind flags trivia end (Behind last) e =
+leaf_end : (at : ℕ) (kind : Kind) (flags : ℕ) (trivia : TriviaSpan) (end : ℕ) (span : Option ℕ)
+    → leaf_on at kind flags trivia span ≡ Ok (own_of kind flags trivia (trivia.end + 2) end 0) → span ≡ Some end
+leaf_end at kind flags trivia end (Some last) e =
     let same : own_of kind flags trivia (trivia.end + 2) last 0 ≡ own_of kind flags trivia (trivia.end + 2) end 0 = cc in
     rw (ap (λ (own : Own). own.end) same)
-leaf_end at kind flags trivia end Broken e = refused_record_lem e
+leaf_end at kind flags trivia end None e = refused_record_lem e
 
 -- the bits from a place on
 abbrev bits_from : ℕ → ℕ → ℕ
@@ -252,7 +246,7 @@ bits_from zero bits = bits
 bits_from (suc place) bits = bits_from place (bits / 2)
 
 -- the bits of an `If` that fit are those of parts that stand together
-else_told : (number : ℕ) (kind : Kind) (bits : ℕ) → kind_of number ≡ Known kind → else_fits number bits ≡ true → kind ≡ variant.If → bits_from 3 bits % 2 ≡ bits_from 4 bits % 2
+else_told : (number : ℕ) (kind : Kind) (bits : ℕ) → kind_of number ≡ Some kind → else_fits number bits ≡ true → kind ≡ variant.If → bits_from 3 bits % 2 ≡ bits_from 4 bits % 2
 else_told number kind bits known fits is =
     let ten : number ≡ 10 = sym (kind_number_lem number kind known) ∙ rw is (kind_number_lem 10 variant.If refl) in
     let same : bits / 8 % 2 ≡ bits / 16 % 2 = eqb-true (bits / 8 % 2) (bits / 16 % 2) (rw ten at fits) in
@@ -262,12 +256,12 @@ else_told number kind bits known fits is =
 
 -- the accepted texts of a record: those of its trivia, its own and those of its parts
 record OwnTexts (bytes : List ℕ) (own : Own) (rest : List Placed) : Type 0 where
-  trivia : texts_checked (trivia_texts bytes own.trivia own.trivia_count) ≡ Passed
+  trivia : texts_checked (trivia_texts bytes own.trivia own.trivia_count) ≡ no_refusal
   text : accepted_text (text_of bytes own) ≡ true
-  parts : texts_checked rest ≡ Passed
+  parts : texts_checked rest ≡ no_refusal
 
 -- where all are accepted, each is
-own_texts : (bytes : List ℕ) (own : Own) (rest : List Placed) → texts_checked (texts_of bytes own ++ rest) ≡ Passed → OwnTexts bytes own rest
+own_texts : (bytes : List ℕ) (own : Own) (rest : List Placed) → texts_checked (texts_of bytes own ++ rest) ≡ no_refusal → OwnTexts bytes own rest
 own_texts bytes own rest e =
     let both = texts_apart (texts_of bytes own) rest e in
     let mine = texts_apart (trivia_texts bytes own.trivia own.trivia_count) _ both.0 in
@@ -275,7 +269,7 @@ own_texts bytes own rest e =
 
 -- what is said of a reading
 abbrev FormedRead : ℕ → Class → ℕ → Reading → Type 0
-FormedRead levels class at reading = reading.checked ≡ Passed → texts_checked reading.texts ≡ Passed → WellFormed levels class at reading.tree
+FormedRead levels class at reading = reading.checked ≡ no_refusal → texts_checked reading.texts ≡ no_refusal → WellFormed levels class at reading.tree
 
 -- what bits that fit fields tell of the first: those behind it fit, and where its bit is clear it may be left out
 field_told : (slot : Slot) (slots : List Slot) (bits : ℕ) → fields_fit (slot ∷ slots) bits ≡ true
@@ -286,7 +280,7 @@ field_told (may class) slots bits fits = (fits, λ clear. (class, refl))
 
 module _ (bytes : List ℕ) (small : AllBytes bytes) (levels : ℕ) (below : (class : Class) (at : ℕ) → FormedRead levels class at (read levels bytes class at)) where
   -- where a part that was read ends
-  part_end : (class : Class) (at : ℕ) → (read levels bytes class at).checked ≡ Passed
+  part_end : (class : Class) (at : ℕ) → (read levels bytes class at).checked ≡ no_refusal
       → (at + length (stored (read levels bytes class at).tree) ≡ (read levels bytes class at).end) × (at < (read levels bytes class at).end)
   part_end class at passed =
       let laid = round_trip levels bytes small class at passed in
@@ -294,8 +288,8 @@ module _ (bytes : List ℕ) (small : AllBytes bytes) (levels : ℕ) (below : (cl
       (rw (laid.0, length-slice at end bytes laid.2) (omega (arith, laid.1)), laid.1)
 
   -- fields that were read fit
-  fields_formed : (slots : List Slot) (bits at : ℕ) → fields_fit slots bits ≡ true → (read_parts (read levels bytes) (fields_due slots bits) at).checked ≡ Passed
-      → texts_checked (read_parts (read levels bytes) (fields_due slots bits) at).texts ≡ Passed
+  fields_formed : (slots : List Slot) (bits at : ℕ) → fields_fit slots bits ≡ true → (read_parts (read levels bytes) (fields_due slots bits) at).checked ≡ no_refusal
+      → texts_checked (read_parts (read levels bytes) (fields_due slots bits) at).texts ≡ no_refusal
       → FieldsFit (WellFormed levels) slots at (read_parts (read levels bytes) (fields_due slots bits) at).trees
   unfolding read_parts fields_due
   fields_formed [] bits at fits passed accepted = well.none
@@ -325,7 +319,7 @@ module _ (bytes : List ℕ) (small : AllBytes bytes) (levels : ℕ) (below : (cl
       (λ q. rw q (left_out slots (bits / 2) at place clear))
 
   -- and only there
-  only_clear : (slots : List Slot) (bits at place : ℕ) → place < length slots → (read_parts (read levels bytes) (fields_due slots bits) at).checked ≡ Passed
+  only_clear : (slots : List Slot) (bits at place : ℕ) → place < length slots → (read_parts (read levels bytes) (fields_due slots bits) at).checked ≡ no_refusal
       → get_or (read_parts (read levels bytes) (fields_due slots bits) at).trees place absent ≡ absent → bits_from place bits % 2 ≡ 0
   unfolding read_parts fields_due stored_with
   only_clear [] bits at place inside passed is = absurd (omega arith)
@@ -349,8 +343,8 @@ module _ (bytes : List ℕ) (small : AllBytes bytes) (levels : ℕ) (below : (cl
       (λ q. only_clear slots (bits / 2) at place (omega arith) (rw q at passed) (rw q at is))
 
   -- `tag_else` and `else_` that were read stand together
-  else_formed : (number : ℕ) (kind : Kind) (value : Class) (bits at : ℕ) → kind_of number ≡ Known kind → else_fits number bits ≡ true
-      → (read_parts (read levels bytes) (fields_due (fields kind value) bits) at).checked ≡ Passed
+  else_formed : (number : ℕ) (kind : Kind) (value : Class) (bits at : ℕ) → kind_of number ≡ Some kind → else_fits number bits ≡ true
+      → (read_parts (read levels bytes) (fields_due (fields kind value) bits) at).checked ≡ no_refusal
       → ElseFits kind (read_parts (read levels bytes) (fields_due (fields kind value) bits) at).trees
   else_formed number kind value bits at known fits passed is =
       let slots : List Slot = fields kind value in
@@ -361,8 +355,8 @@ module _ (bytes : List ℕ) (small : AllBytes bytes) (levels : ℕ) (below : (cl
       )
 
   -- items that were read fit
-  list_formed : (class : Class) (count at : ℕ) → (read_parts (read levels bytes) (replicate count (due class)) at).checked ≡ Passed
-      → texts_checked (read_parts (read levels bytes) (replicate count (due class)) at).texts ≡ Passed
+  list_formed : (class : Class) (count at : ℕ) → (read_parts (read levels bytes) (replicate count (due class)) at).checked ≡ no_refusal
+      → texts_checked (read_parts (read levels bytes) (replicate count (due class)) at).texts ≡ no_refusal
       → ItemsFit (WellFormed levels) class at (read_parts (read levels bytes) (replicate count (due class)) at).trees
       × (length (read_parts (read levels bytes) (replicate count (due class)) at).trees ≡ count)
   unfolding read_parts
@@ -383,7 +377,7 @@ module _ (bytes : List ℕ) (small : AllBytes bytes) (levels : ℕ) (below : (cl
     -- what is said of a record of own bytes that were read
     abbrev FormedOwn : Own → Type 0
     FormedOwn own =
-        read_own bytes at class (suc levels) ≡ Record own → (read_parts (read levels bytes) (parts_due class own) own.end).checked ≡ Passed
+        read_own bytes at class (suc levels) ≡ Ok own → (read_parts (read levels bytes) (parts_due class own) own.end).checked ≡ no_refusal
         → OwnTexts bytes own (read_parts (read levels bytes) (parts_due class own) own.end).texts
         → WellFormed (suc levels) class at (record_of bytes at own (read_parts (read levels bytes) (parts_due class own) own.end)).tree
 
@@ -392,10 +386,10 @@ module _ (bytes : List ℕ) (small : AllBytes bytes) (levels : ℕ) (below : (cl
         → FormedOwn (own_of kind (get_or bytes (at + 1) 0) trivia (trivia.end + 2) (trivia.end + 2) (number_at bytes trivia.end))
     unfolding WellFormed parts_due fields_due built map_fits trivia_from trivia_read
     list_own kind trivia headed is room own passed texts =
-        let known : kind_of 24 ≡ Known kind = rw is at headed.kind_is in
+        let known : kind_of 24 ≡ Some kind = rw is at headed.kind_is in
         let same : kind ≡ variant.Vec = cc in
         let empty : get_or bytes (at + 1) 0 ≡ 0 = eqb-true (get_or bytes (at + 1) 0) 0 (rw is at headed.fits) in
-        let none : Trivia (record { first = at + 2; count = 0; end = at + 2 }) ≡ Trivia trivia = rw empty at headed.trivia_is in
+        let none : Some (record { first = at + 2; count = 0; end = at + 2 }) ≡ Some trivia = rw empty at headed.trivia_is in
         let no_items : trivia.count ≡ 0 = cc in
         let last : trivia.end ≡ at + 2 = cc in
         let listed = list_class_lem (rule class).items (rw is at headed.standing) in
@@ -409,7 +403,7 @@ module _ (bytes : List ℕ) (small : AllBytes bytes) (levels : ℕ) (below : (cl
 
     -- a leaf or path item whose text fits
     leaf_formed : (kind : Kind) (trivia : TriviaSpan) (text : List ℕ) (parts : List Tree) → Headed bytes at class kind trivia → leaf_number (get_or bytes at 0) ≡ true
-        → texts_checked (trivia_texts bytes trivia.first trivia.count) ≡ Passed → TextFits (rule class).text text
+        → texts_checked (trivia_texts bytes trivia.first trivia.count) ≡ no_refusal → TextFits (rule class).text text
         → Formed (WellFormed levels) class at (node at (trivia_from bytes trivia.first trivia.count) (built kind text parts))
     unfolding built
     leaf_formed kind trivia text parts headed leaf accepted fits =
@@ -421,14 +415,14 @@ module _ (bytes : List ℕ) (small : AllBytes bytes) (levels : ℕ) (below : (cl
         by_test (eqb number 25)
         (λ q.
         let is : number ≡ 25 = eqb-true number 25 q in
-        let known : kind_of 25 ≡ Known kind = rw is at headed.kind_is in
+        let known : kind_of 25 ≡ Some kind = rw is at headed.kind_is in
         let same : kind ≡ variant.Leaf = cc in
         let trivia_fit = trivia_formed bytes small (at + 2) (flags % 2) (rule class).located
         (λ some. or_left (rule class).located (eqb number 26) (trivia_told (rule class) number flags told.0 some) (rw is)) trivia headed.trivia_is accepted in
         rw same (well.leaf (rw is at within) trivia_fit.0 fits))
         (λ q.
         let is : number ≡ 26 = eqb-true number 26 (rw q at leaf) in
-        let known : kind_of 26 ≡ Known kind = rw is at headed.kind_is in
+        let known : kind_of 26 ≡ Some kind = rw is at headed.kind_is in
         let same : kind ≡ variant.PathItem = cc in
         rw same (well.path (rw is at within) (trivia_formed bytes small (at + 2) (flags % 2) true (λ some. refl) trivia headed.trivia_is accepted).0 fits))
 
@@ -441,7 +435,7 @@ module _ (bytes : List ℕ) (small : AllBytes bytes) (levels : ℕ) (below : (cl
         let number : ℕ = get_or bytes at 0 in
         let flags : ℕ = get_or bytes (at + 1) 0 in
         let rest = rw (leaf_other number leaf, leaf, le-leb 2 flags high) at (sym (own_read levels headed) ∙ own) in
-        let is : text_end bytes trivia.end (rule class).text ≡ Behind end = leaf_end at kind flags trivia end (text_end bytes trivia.end (rule class).text) rest in
+        let is : text_end bytes trivia.end (rule class).text ≡ Some end = leaf_end at kind flags trivia end (text_end bytes trivia.end (rule class).text) rest in
         leaf_formed kind trivia (slice (trivia.end + 2) end bytes) _ headed leaf texts.trivia (text_formed bytes small (rule class).text trivia.end end is texts.text)
 
     -- a record with fields
@@ -455,7 +449,7 @@ module _ (bytes : List ℕ) (small : AllBytes bytes) (levels : ℕ) (below : (cl
         let told = map_told (rule class) number kind flags headed.fits list in
         let fits = told.2 leaf in
         let only = only_fields class (own_of kind flags trivia trivia.end trivia.end 0) refl in
-        let passed_fields : (read_parts (read levels bytes) (fields_due slots (flags / 2)) trivia.end).checked ≡ Passed = rw only at passed in
+        let passed_fields : (read_parts (read levels bytes) (fields_due slots (flags / 2)) trivia.end).checked ≡ no_refusal = rw only at passed in
         let trivia_fit = trivia_formed bytes small (at + 2) (flags % 2) (rule class).located
         (λ some. or_left (rule class).located (eqb number 26) (trivia_told (rule class) number flags told.0 some) (leaf_told number leaf).1) trivia headed.trivia_is texts.trivia in
         let trees : List Tree = (read_parts (read levels bytes) (fields_due slots (flags / 2)) trivia.end).trees in
@@ -481,8 +475,8 @@ module _ (bytes : List ℕ) (small : AllBytes bytes) (levels : ℕ) (below : (cl
         (λ leaf. fielded_own kind trivia headed list leaf)
 
 -- a tree that was read without refusal, whose texts are accepted, is well formed
-pub read_formed : (levels : ℕ) (bytes : List ℕ) → AllBytes bytes → (class : Class) (at : ℕ) → (read levels bytes class at).checked ≡ Passed
-    → texts_checked (read levels bytes class at).texts ≡ Passed → WellFormed levels class at (read levels bytes class at).tree
+pub read_formed : (levels : ℕ) (bytes : List ℕ) → AllBytes bytes → (class : Class) (at : ℕ) → (read levels bytes class at).checked ≡ no_refusal
+    → texts_checked (read levels bytes class at).texts ≡ no_refusal → WellFormed levels class at (read levels bytes class at).tree
 read_formed levels bytes small =
     every_reading bytes FormedRead
     (λ levels class at reader why passed. failed_passed passed)

@@ -1,5 +1,6 @@
 -- The stored form of a well-formed tree is a list of bytes.
 --   stored_bytes : .. WellFormed levels class at tree → AllBytes (stored tree)
+use Rattle.std.specs.Prelude.{Some, None}
 use mathlib.Core.Path.{◌≡◌, refl, sym, subst}
 use mathlib.Core.List.{List, [], ◌∷◌, ◌++◌, map}
 use mathlib.Core.Bool.{Bool, true, ◌&&◌}
@@ -19,7 +20,6 @@ use Rattle.tree.specs.Reading.{slot_class}
 use Rattle.tree.specs.Stored.{stored_trivium, stored_items, stored_trivia, trivia_bit, part_bits, stored_text, stored_node, stored_leaf, stored_with, stored}
 use Rattle.tree.specs.declared.grammar.Kind.{Kind}
 use Rattle.tree.specs.declared.grammar.Kind.TheVariants as variant
-use Rattle.tree.specs.declared.grammar.KindRead.TheVariants.{Known, Unknown}
 use Rattle.tree.specs.declared.grammar.Class.{Class}
 use Rattle.tree.specs.declared.grammar.TextRule.{TextRule}
 use Rattle.tree_laws.specs.WellFormed.{TriviumFits, EachFits, TriviaFit, TextFits, FieldsFit, ItemsFit, Formed, WellFormed}
@@ -92,7 +92,7 @@ every test [] = true
 every test (kind ∷ others) = test kind && every test others
 
 -- a kind that has a number is one of them
-known_kind : (test : Kind → Bool) (those : List Kind) (number : ℕ) (kind : Kind) → every test those ≡ true → get_or (map Known those) number Unknown ≡ Known kind
+known_kind : (test : Kind → Bool) (those : List Kind) (number : ℕ) (kind : Kind) → every test those ≡ true → get_or (map Some those) number None ≡ Some kind
     → (test kind ≡ true) × (number < length those)
 known_kind test [] number kind all known = let z : ◌≡◌ {A = ℕ} 0 1 = cc in absurd (omega arith)
 known_kind test (here ∷ others) zero kind all known =
@@ -103,7 +103,7 @@ known_kind test (here ∷ others) (suc number) kind all known =
     (rest.0, omega (arith, rest.1))
 
 -- a kind has a small number and six fields at the most
-kind_small : (number : ℕ) (kind : Kind) (value : Class) → kind_of number ≡ Known kind → (length (fields kind value) ≤ 6) × (number < 256)
+kind_small : (number : ℕ) (kind : Kind) (value : Class) → kind_of number ≡ Some kind → (length (fields kind value) ≤ 6) × (number < 256)
 kind_small number kind value known =
     let found = known_kind (λ kind. leb (length (fields kind value)) 6) all_kinds number kind refl known in
     (leb-true _ _ found.0, omega (arith, found.1))

@@ -1,6 +1,6 @@
 -- What corresponds: trees within the limits, and bytes that the check accepts.
+use Rattle.answers.specs.Numbers.{no_refusal}
 use Rattle.std.specs.Prelude.{ℕ, ◌≤◌, ◌<◌, ◌≡◌, List, length, get_or}
-use Rattle.answers.specs.declared.Checked.TheVariants.{Passed}
 use Rattle.tree.specs.Tree.{Tree}
 use Rattle.tree.specs.Stored.{stored}
 use Rattle.tree.specs.Checking.{tree_checked}
@@ -19,7 +19,7 @@ AllBytes bytes = (i : ℕ) → get_or bytes i 0 < 256
 -- bytes that the check accepts
 pub record AcceptedWithin (limit levels : ℕ) (bytes : List ℕ) : Type 0 where
   pub small : AllBytes bytes
-  pub passed : tree_checked limit levels bytes ≡ Passed
+  pub passed : tree_checked limit levels bytes ≡ no_refusal
 
 -- two functions are inverse to each other between what one property holds of and what another holds of
 pub record Inverse {A B : Type 0} (P : A → Type 0) (Q : B → Type 0) (there : A → B) (back : B → A) : Type 0 where

@@ -1,6 +1,6 @@
 -- Which trees are well formed: document 01, "Tree", by the grammar alone, without bytes and without reading. Stored forms serve only for places: a record's place
 -- is the length of what is stored before it.
-use Rattle.std.specs.Prelude.{ℕ, zero, suc, ◌+◌, ◌≤◌, ◌<◌, ◌≡◌, List, [], ◌∷◌, Bool, true, ◌⊎◌, length, get_or}
+use Rattle.std.specs.Prelude.{ℕ, zero, suc, ◌+◌, ◌≤◌, ◌<◌, ◌≡◌, List, [], ◌∷◌, Bool, true, ◌⊎◌, length, get_or, Some}
 use Rattle.text.specs.Accepted.{accepted_text}
 use Rattle.tree.specs.Codes as codes
 use Rattle.tree.specs.Grammar.{Slot, may, kind_of, rule, fields}
@@ -9,11 +9,9 @@ use Rattle.tree.specs.Reading.{slot_class}
 use Rattle.tree.specs.Stored.{stored_trivia, stored}
 use Rattle.tree.specs.declared.grammar.Kind.{Kind}
 use Rattle.tree.specs.declared.grammar.Kind.TheVariants as variant
-use Rattle.tree.specs.declared.grammar.KindRead.TheVariants.{Known}
 use Rattle.tree.specs.declared.grammar.Class.{Class}
 use Rattle.tree.specs.declared.grammar.TextRule.{TextRule}
 use Rattle.tree.specs.declared.grammar.TextRule.TheVariants.{NoText, Free, Byte}
-use Rattle.tree.specs.declared.grammar.Items.TheVariants.{ListOf}
 
 -- ---- trivia and texts
 
@@ -73,7 +71,7 @@ ElseFits kind parts =
 -- a record of a class at a place, whose parts are formed below it
 pub data Formed (Below : Class → ℕ → Tree → Type 0) (class : Class) (at : ℕ) : Tree → Type 0 where
   -- "24 list (map 0, two-byte count, the records)": no trivia, and the items behind four bytes
-  list : {item : Class} {items : List Tree} → (rule class).items ≡ ListOf item → length items ≤ 65535 → ItemsFit Below item (at + 4) items
+  list : {item : Class} {items : List Tree} → (rule class).items ≡ Some item → length items ≤ 65535 → ItemsFit Below item (at + 4) items
       → Formed Below class at (node at [] (Vec (chain items)))
   -- "25 leaf"
   leaf : {trivia : List Trivium} {text : List ℕ} → Within class 25 → TriviaFit (rule class).located trivia → TextFits (rule class).text text
@@ -83,7 +81,7 @@ pub data Formed (Below : Class → ℕ → Tree → Type 0) (class : Class) (at 
       → Formed Below class at (node at trivia (PathItem text))
   -- every other kind, with its fields behind "kind byte, map byte, trivia if bit 0 stands"
   fielded : {number : ℕ} {kind : Kind} {trivia : List Trivium} {parts : List Tree}
-      → kind_of number ≡ Known kind → (number < 24) ⊎ (26 < number) → Within class number → TriviaFit (rule class).located trivia
+      → kind_of number ≡ Some kind → (number < 24) ⊎ (26 < number) → Within class number → TriviaFit (rule class).located trivia
       → FieldsFit Below (fields kind (rule class).value) (at + 2 + length (stored_trivia trivia)) parts → ElseFits kind parts
       → Formed Below class at (node at trivia (built kind [] parts))
 

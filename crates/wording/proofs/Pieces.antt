@@ -1,4 +1,5 @@
 -- Laws of lines and their pieces.
+use Rattle.std.specs.Prelude.{Option, Some, None}
 use mathlib.Core.Path.{◌≡◌, refl, sym, ◌∙◌}
 use mathlib.Core.List.{List, [], ◌∷◌, ◌++◌, map}
 use Prim.Native.Nat.{ℕ, zero, suc, ◌+◌, ◌-◌, ◌/◌, ◌%◌, ◌≤◌, ◌<◌}
@@ -7,13 +8,10 @@ use native.Mathlib.Omega.{arith}
 use lib.ListN.{length, get_or, drop, drop_of_length-le}
 use borrow.Author.Tests.{lt-ltb, le-ltb}
 use Rattle.text.specs.Stores.{fits, stored_end, stored_buffer}
-use Rattle.text.specs.declared.stores.Stored.TheVariants.{End, NoRoom}
 use Rattle.text.proofs.Choices.{by_test}
 use Rattle.text.proofs.Parts.{drop_step}
 use Rattle.tree.specs.Parts.{trivium_at}
 use Rattle.tree.specs.declared.parts.TriviumSpan.{TriviumSpan}
-use Rattle.tree.specs.declared.parts.TriviumRead.{TriviumRead}
-use Rattle.tree.specs.declared.parts.TriviumRead.TheVariants.{Item, BrokenItem}
 use Rattle.leaves.specs.Items.{item_of, items_at}
 use Rattle.leaves.proofs.Items.{items_none, items_next}
 use Rattle.wording.specs.Lines.{Line, line_in, put, puts, digits, shown}
@@ -36,21 +34,21 @@ unfolding puts
 put_nothing line = refl
 
 -- a store that succeeded
-pub put_stored : (buffer : List ℕ) (at : ℕ) (piece : List ℕ) {next : List ℕ} {end : ℕ} → stored_end buffer at piece ≡ End end → next ≡ stored_buffer buffer at piece
+pub put_stored : (buffer : List ℕ) (at : ℕ) (piece : List ℕ) {next : List ℕ} {end : ℕ} → stored_end buffer at piece ≡ Some end → next ≡ stored_buffer buffer at piece
     → line_in next end ≡ puts (piece ∷ []) (line_in buffer at)
 unfolding puts
 put_stored buffer at piece {next} {end} stored held =
     by_test (fits buffer at piece)
-    (λ t. let s : End (at + length piece) ≡ End end = rw t at stored in let e : at + length piece ≡ end = cc in rw (held, t, ← e))
-    (λ t. let s : NoRoom ≡ End end = rw t at stored in let z : ◌≡◌ {A = ℕ} 0 1 = cc in absurd (omega arith))
+    (λ t. let s : Some (at + length piece) ≡ Some end = rw t at stored in let e : at + length piece ≡ end = cc in rw (held, t, ← e))
+    (λ t. let s : None ≡ Some end = rw t at stored in let z : ◌≡◌ {A = ℕ} 0 1 = cc in absurd (omega arith))
 
 -- and one for which there was no room
-pub put_left : (buffer : List ℕ) (at : ℕ) (piece : List ℕ) {next : List ℕ} → stored_end buffer at piece ≡ NoRoom → next ≡ stored_buffer buffer at piece
+pub put_left : (buffer : List ℕ) (at : ℕ) (piece : List ℕ) {next : List ℕ} → stored_end buffer at piece ≡ None → next ≡ stored_buffer buffer at piece
     → line_in next at ≡ puts (piece ∷ []) (line_in buffer at)
 unfolding puts
 put_left buffer at piece {next} stored held =
     by_test (fits buffer at piece)
-    (λ t. let s : End (at + length piece) ≡ NoRoom = rw t at stored in let z : ◌≡◌ {A = ℕ} 0 1 = cc in absurd (omega arith))
+    (λ t. let s : Some (at + length piece) ≡ None = rw t at stored in let z : ◌≡◌ {A = ℕ} 0 1 = cc in absurd (omega arith))
     (λ t. rw (held, t))
 
 -- an empty piece changes nothing, nor does one that equals it
@@ -104,17 +102,17 @@ module _ (bytes : List ℕ) (at left : ℕ) (line : Line) where
   unfolding puts trivia
   trivia_left none = rw (items_none bytes at left none)
 
-  module _ (some : 0 < left) {found : TriviumRead} (same : found ≡ trivium_at bytes at) where
+  module _ (some : 0 < left) {found : Option TriviumSpan} (same : found ≡ trivium_at bytes at) where
     -- nor before an item that breaks the layout
-    pub trivia_broken : found ≡ BrokenItem → puts (trivia (items_at bytes at left)) line ≡ line
+    pub trivia_broken : found ≡ None → puts (trivia (items_at bytes at left)) line ≡ line
     unfolding puts trivia
-    trivia_broken told = rw (items_next bytes at left some same BrokenItem told)
+    trivia_broken told = rw (items_next bytes at left some same None told)
 
     -- an item is put, and those behind it go on from there
-    pub trivia_next : (item : TriviumSpan) → found ≡ Item item → {next : Line} → next ≡ puts (trivium (item_of bytes item)) line
+    pub trivia_next : (item : TriviumSpan) → found ≡ Some item → {next : Line} → next ≡ puts (trivium (item_of bytes item)) line
         → puts (trivia (items_at bytes at left)) line ≡ puts (trivia (items_at bytes item.end (left - 1))) next
     unfolding trivia
-    trivia_next item told done = rw (items_next bytes at left some same (Item item) told, done) (puts_append _ _ line)
+    trivia_next item told done = rw (items_next bytes at left some same (Some item) told, done) (puts_append _ _ line)
 
 -- ---- comments
 
@@ -124,17 +122,17 @@ module _ (bytes : List ℕ) (at left : ℕ) (line : Line) where
   unfolding puts comments
   comments_left none = rw (items_none bytes at left none)
 
-  module _ (some : 0 < left) {found : TriviumRead} (same : found ≡ trivium_at bytes at) where
+  module _ (some : 0 < left) {found : Option TriviumSpan} (same : found ≡ trivium_at bytes at) where
     -- nor before an item that breaks the layout
-    pub comments_broken : found ≡ BrokenItem → puts (comments (items_at bytes at left)) line ≡ line
+    pub comments_broken : found ≡ None → puts (comments (items_at bytes at left)) line ≡ line
     unfolding puts comments
-    comments_broken told = rw (items_next bytes at left some same BrokenItem told)
+    comments_broken told = rw (items_next bytes at left some same None told)
 
     -- an item's comment is put, and those behind it go on from there
-    pub comments_next : (item : TriviumSpan) → found ≡ Item item → {next : Line} → next ≡ puts (comment (item_of bytes item)) line
+    pub comments_next : (item : TriviumSpan) → found ≡ Some item → {next : Line} → next ≡ puts (comment (item_of bytes item)) line
         → puts (comments (items_at bytes at left)) line ≡ puts (comments (items_at bytes item.end (left - 1))) next
     unfolding comments
-    comments_next item told done = rw (items_next bytes at left some same (Item item) told, done) (puts_append _ _ line)
+    comments_next item told done = rw (items_next bytes at left some same (Some item) told, done) (puts_append _ _ line)
 
 -- ---- letters
 

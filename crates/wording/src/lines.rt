@@ -3,7 +3,6 @@ ghost use Rattle.std.specs.Prelude.{◌≡◌, [], ◌∷◌, map, true, ◌+◌
 ghost use Rattle.leaves.specs.Texts.{cuts, in_order};
 ghost use Rattle.wording.specs.Lines.{line_in, puts, spaces, digits, decimal, coded, shown, quoted};
 
-use text::stores::Stored;
 use text::{characters, numbers, stores};
 
 // Puts bytes behind what a line holds.
@@ -12,8 +11,8 @@ pub fn put(line: &mut [u8], at: usize, bytes: &[u8]) -> usize
 {
     let stored = stores::copy(bytes, line, at);
     match stored {
-        Stored::End(end) => end,
-        Stored::NoRoom => at,
+        Some(end) => end,
+        None => at,
     }
 }
 
@@ -22,8 +21,8 @@ pub(crate) fn put_spaces(line: &mut [u8], at: usize, count: usize) -> usize
 {
     let stored = stores::fill(line, at, count, characters::SPACE);
     match stored {
-        Stored::End(end) => end,
-        Stored::NoRoom => at,
+        Some(end) => end,
+        None => at,
     }
 }
 

@@ -7,7 +7,7 @@ ghost use Rattle.wording.specs.Losses.{letter, letters, fate, comment, comments,
 use crate::entries::Form;
 use crate::{lines, records};
 use tree::own::Own;
-use tree::parts::{TriviumRead, TriviumSpan};
+use tree::parts::TriviumSpan;
 use tree::{codes, kinds, parts};
 
 // Two of the eight places as bits of a record's letters: (f) and (g).
@@ -80,7 +80,7 @@ fn put_comments(line: &mut [u8], at: usize, tree: &[u8], place: usize, count: us
     let mut left = count;
     while 0 < left {
         let read = parts::trivium_at(tree, from);
-        let TriviumRead::Item(item) = read else {
+        let Some(item) = read else {
             return next;
         };
         next = put_comment(line, next, tree, item);

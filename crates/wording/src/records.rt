@@ -10,7 +10,7 @@ use chunks::stored::StoredChunk;
 use text::numbers;
 use tree::grammar::Class;
 use tree::own::Own;
-use tree::parts::{TriviumRead, TriviumSpan};
+use tree::parts::TriviumSpan;
 use tree::{codes, kinds, parts};
 
 // How many spaces stand before an offset, so that its last digit is the fifth of the line.
@@ -79,7 +79,7 @@ fn put_trivia(line: &mut [u8], at: usize, tree: &[u8], place: usize, count: usiz
     let mut left = count;
     while 0 < left {
         let read = parts::trivium_at(tree, from);
-        let TriviumRead::Item(item) = read else {
+        let Some(item) = read else {
             return next;
         };
         next = put_trivium(line, next, tree, item);

@@ -6,9 +6,9 @@ use Rattle.exports.proofs.Small.{check_answer}
 use Rattle.exports.proofs.felgutrosa_check_tree.Goals as goal
 
 pub packed-requires : goal.packed-requires
-packed-requires c = check_answer _ _ (c.answer.ensures.answer ∙ ap answer_of c.check_tree-checked.ensures.answer)
+packed-requires c = check_answer _ _ (c.answer_of.ensures.answer ∙ ap answer_of c.check_tree-checked.ensures.answer)
 
 pub returns : goal.returns
 returns c =
-    let answered = c.answer.ensures.answer ∙ ap answer_of c.check_tree-checked.ensures.answer in
+    let answered = c.answer_of.ensures.answer ∙ ap answer_of c.check_tree-checked.ensures.answer in
     record { answer = c.packed.ensures ∙ ap packed_of answered; small = check_answer _ _ refl }

@@ -9,12 +9,12 @@ returns-in_default c =
 
 pub slice_bounds-join_chunks-end : goal.slice_bounds-join_chunks-end
 slice_bounds-join_chunks-end c =
-    used_fits _ _ _ _ c.chunks_in_one_pass-walked.ensures.answer c.in-Accepted.is c.chunks_in_one_pass-walked.ensures.stored
+    used_fits _ _ _ _ c.chunks_in_one_pass-walked.ensures.answer c.in-Ok.is c.chunks_in_one_pass-walked.ensures.stored
 
 pub returns : goal.returns
 returns c =
     let said = c.join_chunks.ensures in
     let lesson =
-    joined_lesson _ _ _ _ c.chunks_in_one_pass-walked.ensures.answer c.in-Accepted.is c.chunks_in_one_pass-walked.ensures.stored
+    joined_lesson _ _ _ _ c.chunks_in_one_pass-walked.ensures.answer c.in-Ok.is c.chunks_in_one_pass-walked.ensures.stored
     said.answer said.buffer said.demands in
     record { answer = lesson.answered; buffer = lesson.buffer; demands = lesson.lesson }

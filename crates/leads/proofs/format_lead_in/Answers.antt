@@ -43,9 +43,9 @@ pub returns-in_default-found : goal.returns-in_default-found
 unfolding lead_by lead_room
 returns-in_default-found c =
     let told = c.in_default-found.is in
-    let found = c.head_behind-found.ensures.answer ∙ head_behind_read _ _ _ _ _ c.read_own-read.ensures.answer _ c.in-Record.is in
+    let found = c.head_behind-found.ensures.answer ∙ head_behind_read _ _ _ _ _ c.read_own-read.ensures.answer _ c.in-Ok.is in
     let left = eq-eqb c.in-Done.state.full 0 c.if-state-ne0.false in
-    let some = sym c.read_own-read.ensures.answer ∙ c.in-Record.is in
+    let some = sym c.read_own-read.ensures.answer ∙ c.in-Ok.is in
     let none = sym found ∙ told in
     let says = c.refused_head.ensures ∙ ap refused_head told in
     let told = lead_known (over_met c.in-Done.is (head_missing _ BareToken false refl _ _ _ none) says c.if-state-ne0.false)
@@ -56,10 +56,10 @@ pub returns-in_default-opened : goal.returns-in_default-opened
 unfolding lead_by lead_room
 returns-in_default-opened c =
     let told = c.in_default-opened.is in
-    let found = c.head_behind-found.ensures.answer ∙ head_behind_read _ _ _ _ _ c.read_own-read.ensures.answer _ c.in-Record.is in
+    let found = c.head_behind-found.ensures.answer ∙ head_behind_read _ _ _ _ _ c.read_own-read.ensures.answer _ c.in-Ok.is in
     let left = eq-eqb c.in-Done.state.full 0 c.if-state-ne0.false in
-    let some = sym c.read_own-read.ensures.answer ∙ c.in-Record.is in
-    let heads = sym found ∙ c.in-Found.is in
+    let some = sym c.read_own-read.ensures.answer ∙ c.in-Ok.is in
+    let heads = sym found ∙ c.in-Ok-found.is in
     let none = sym c.read_own-opened.ensures.answer ∙ told in
     let says = c.refusal_of-in_default-opened.ensures ∙ ap refusal_of told in
     let told = lead_known (over_met c.in-Done.is (head_refused _ BareToken false refl _ _ _ _ heads none) says c.if-state-ne0.false)
@@ -70,14 +70,14 @@ pub returns : goal.returns
 unfolding lead_by lead_room
 returns c =
     let args = c.args in
-    let is = sym c.read_own-read.ensures.answer ∙ c.in-Record.is in
-    let found = c.head_behind-found.ensures.answer ∙ head_behind_read _ _ _ _ _ c.read_own-read.ensures.answer _ c.in-Record.is in
+    let is = sym c.read_own-read.ensures.answer ∙ c.in-Ok.is in
+    let found = c.head_behind-found.ensures.answer ∙ head_behind_read _ _ _ _ _ c.read_own-read.ensures.answer _ c.in-Ok.is in
     let left = eq-eqb c.in-Done.state.full 0 c.if-state-ne0.false in
-    let heads = sym found ∙ c.in-Found.is in
-    let opens = sym c.read_own-opened.ensures.answer ∙ c.in-Record-opened.is in
+    let heads = sym found ∙ c.in-Ok-found.is in
+    let opens = sym c.read_own-opened.ensures.answer ∙ c.in-Ok-opened.is in
     let led =
     lead_ready _ _ _ args.context args.drops (before_of args.stood) _ _ _ _ _ _ _ _ _ is heads opens
-    (own_items _ _ _ c.read_own-opened.ensures.fits c.in-Record-opened.is)
+    (own_items _ _ _ c.read_own-opened.ensures.fits c.in-Ok-opened.is)
     c.byte_at-number.ensures c.has_block-block.ensures c.list_trivia-shown.ensures c.break_before-next.ensures in
     let told = lead_known (lead_from c.in-Done.is led)
     (rw (c.in-Done.is, left, is, heads, opens, led.ran) refl) (rw (c.in-Done.is, left, is, heads, opens, led.ran) refl) in

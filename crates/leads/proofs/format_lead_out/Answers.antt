@@ -21,5 +21,5 @@ pub returns : goal.returns
 returns c =
     done_before c.in-Done.is
     (closing_shown _ _ _ c.args.context c.args.drops (before_of c.args.stood) _ _ _ _ _
-    c.read_own-found.ensures.answer c.in-Record.is (own_items _ _ _ c.read_own-found.ensures.fits c.in-Record.is)
+    c.read_own-found.ensures.answer c.in-Ok.is (own_items _ _ _ c.read_own-found.ensures.fits c.in-Ok.is)
     c.list_trivia-shown.ensures c.break_before-next.ensures c.finish-2.ensures.answer)

@@ -24,9 +24,9 @@ returns-then-length-place_of c =
     tt in
     record { answer = told.0; narrow = told.1.0; numbers = told.1.1 }
 
-pub returns-in-Failed : goal.returns-in-Failed
+pub returns-in-Err : goal.returns-in-Err
 unfolding read_options
-returns-in-Failed c =
+returns-in-Err c =
     let told = read_numbers_lem _
     (simp (
       ne_eqb _ _ c.if-length-eq0.false,
@@ -34,7 +34,7 @@ returns-in-Failed c =
       ← c.place_of.ensures.0,
       eq-eqb _ _ c.if-length-place_of.false,
       ← c.check_values-checked.ensures,
-      c.in-Failed.is,
+      c.in-Err.is,
     ))
     tt in
     record { answer = told.0; narrow = told.1.0; numbers = told.1.1 }

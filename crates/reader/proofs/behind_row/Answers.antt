@@ -19,7 +19,7 @@ returns-in_default c =
 pub loop-left-preserved : goal.loop-left-preserved
 loop-left-preserved c =
     c.loop-left.invariant
-    ∙ row_next _ _ _ c.loop-left-test.true c.behind_token-token.ensures _ c.in-Next.is
+    ∙ row_next _ _ _ c.loop-left-test.true c.behind_token-token.ensures _ c.in-Ok.is
 
 pub returns : goal.returns
 returns c = sym (c.loop-left.invariant ∙ row_none _ _ _ c.loop-left-test.false)

@@ -6,17 +6,17 @@ use Rattle.tokens.proofs.chunks_in_one_pass.Goals as goal
 
 pub one_pass_with-requires : goal.one_pass_with-requires
 one_pass_with-requires c =
-    rw c.in-Options.is at c.read_options-read.ensures.narrow
+    rw c.in-Ok.is at c.read_options-read.ensures.narrow
 
-pub returns-in-Options : goal.returns-in-Options
+pub returns-in-Ok : goal.returns-in-Ok
 unfolding chunks_held one_pass_room
-returns-in-Options c =
-    let same = sym c.read_options-read.ensures.answer ∙ c.in-Options.is in
+returns-in-Ok c =
+    let same = sym c.read_options-read.ensures.answer ∙ c.in-Ok.is in
     let said = c.one_pass_with.ensures in
     rw same (record { answer = said.answer; stored = said.stored; room = said.room; numbers = held_numbers _ said.answer })
 
-pub returns-in-Refused : goal.returns-in-Refused
+pub returns-in-Err : goal.returns-in-Err
 unfolding chunks_held one_pass_room
-returns-in-Refused c =
-    let same = sym c.read_options-read.ensures.answer ∙ c.in-Refused.is in
+returns-in-Err c =
+    let same = sym c.read_options-read.ensures.answer ∙ c.in-Err.is in
     rw same (record { answer = refl; stored = tt; room = refl; numbers = held_numbers _ refl })

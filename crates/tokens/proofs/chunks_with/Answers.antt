@@ -3,9 +3,9 @@ use mathlib.Core.Path.{sym, ◌∙◌}
 use Rattle.tokens.proofs.Whole.{whole_failed, whole_walked}
 use Rattle.tokens.proofs.chunks_with.Goals as goal
 
-pub returns-in-Failed : goal.returns-in-Failed
-returns-in-Failed c =
-    let whole = whole_failed _ _ _ _ (sym c.check_tree-checked.ensures.answer ∙ c.in-Failed.is) in
+pub returns-in-Err : goal.returns-in-Err
+returns-in-Err c =
+    let whole = whole_failed _ _ _ _ (sym c.check_tree-checked.ensures.answer ∙ c.in-Err.is) in
     record { answer = whole.answered; stored = whole.holds; room = whole.whole }
 
 pub returns : goal.returns

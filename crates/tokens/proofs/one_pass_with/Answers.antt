@@ -3,9 +3,9 @@ use mathlib.Core.Path.{sym, ◌∙◌}
 use Rattle.tokens.proofs.OnePass.{pass_unsized, pass_failed, pass_passed, pass_settled}
 use Rattle.tokens.proofs.one_pass_with.Goals as goal
 
-pub returns-in-Failed : goal.returns-in-Failed
-returns-in-Failed c =
-    let pass = pass_unsized _ _ _ _ (sym c.check_length-sized.ensures.answer ∙ c.in-Failed.is) in
+pub returns-in-Err : goal.returns-in-Err
+returns-in-Err c =
+    let pass = pass_unsized _ _ _ _ (sym c.check_length-sized.ensures.answer ∙ c.in-Err.is) in
     record { answer = pass.answered; stored = pass.holds; room = pass.whole }
 
 pub returns-then-settles : goal.returns-then-settles
@@ -15,11 +15,11 @@ returns-then-settles c =
     (sym c.settles.ensures ∙ c.if-settles.true) in
     record { answer = c.printed_answer-answer.ensures ∙ pass.answered; stored = pass.holds; room = pass.whole }
 
-pub returns-in-Failed-checked : goal.returns-in-Failed-checked
-returns-in-Failed-checked c =
+pub returns-in-Err-checked : goal.returns-in-Err-checked
+returns-in-Err-checked c =
     let pass =
     pass_failed _ _ _ c.requires (sym c.check_length-sized.ensures.answer ∙ c.in_default.is) c.walk_file-printed.ensures
-    _ (sym c.check_tree-checked.ensures.answer ∙ c.in-Failed-checked.is) in
+    _ (sym c.check_tree-checked.ensures.answer ∙ c.in-Err-checked.is) in
     record { answer = pass.answered; stored = pass.holds; room = pass.whole }
 
 pub returns : goal.returns

@@ -31,16 +31,16 @@ returns-in_default c =
     record { answer = told.0; numbers = told.1 }
 
 pub fault_in-fault-requires : goal.fault_in-fault-requires
-fault_in-fault-requires c = let fits = rw c.in-Found.is at c.chunk_at-found.ensures.fits in omega (arith, fits)
+fault_in-fault-requires c = let fits = rw c.in-Some.is at c.chunk_at-found.ensures.fits in omega (arith, fits)
 
 pub loop-at-smaller : goal.loop-at-smaller
-loop-at-smaller c = let fits = rw c.in-Found.is at c.chunk_at-found.ensures.fits in omega (arith, fits)
+loop-at-smaller c = let fits = rw c.in-Some.is at c.chunk_at-found.ensures.fits in omega (arith, fits)
 
 pub loop-at-preserved : goal.loop-at-preserved
 loop-at-preserved c =
     let turn = c.loop-at in
-    let found = sym c.chunk_at-found.ensures.answer ∙ c.in-Found.is in
-    rw c.fault_in-fault.ensures (going_on c.args.list.now turn.at turn.fault c.in-Found.chunk turn.invariant found (rw c.in-Found.is at c.chunk_at-found.ensures.fits))
+    let found = sym c.chunk_at-found.ensures.answer ∙ c.in-Some.is in
+    rw c.fault_in-fault.ensures (going_on c.args.list.now turn.at turn.fault c.in-Some.chunk turn.invariant found (rw c.in-Some.is at c.chunk_at-found.ensures.fits))
 
 pub returns-then-fault-length : goal.returns-then-fault-length
 returns-then-fault-length c =

@@ -12,8 +12,8 @@ pub returns-then-is_plain : goal.returns-then-is_plain
 returns-then-is_plain c =
     sym (plain_end c.args.list.now c.args.at (c.is_plain.ensures c.if-is_plain.true) ∙ rw c.number_at.ensures.0)
 
-pub returns-in-Found : goal.returns-in-Found
-returns-in-Found c = sym (ap (end_on c.args.at) (sym c.chunk_at-found.ensures.answer ∙ c.in-Found.is))
+pub returns-in-Some : goal.returns-in-Some
+returns-in-Some c = sym (ap (end_on c.args.at) (sym c.chunk_at-found.ensures.answer ∙ c.in-Some.is))
 
-pub returns-in-NoChunk : goal.returns-in-NoChunk
-returns-in-NoChunk c = sym (ap (end_on c.args.at) (sym c.chunk_at-found.ensures.answer ∙ c.in-NoChunk.is))
+pub returns-in-None : goal.returns-in-None
+returns-in-None c = sym (ap (end_on c.args.at) (sym c.chunk_at-found.ensures.answer ∙ c.in-None.is))

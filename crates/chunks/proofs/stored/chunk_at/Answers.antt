@@ -37,7 +37,7 @@ returns-in_default c = record {
 pub returns-then-indent-eq0 : goal.returns-then-indent-eq0
 returns-then-indent-eq0 c = record {
   answer = sym (chunk_indented c.args.list.now c.args.at c.if-list-at.false c.wide-map.ensures.0 c.if-map-gt7.false
-      c.if-bits-eq3.false c.if-map-lt4.false (sym c.read_number-number.ensures ∙ c.in-Read.is) ∙ indent_zero _ _ _ _ c.if-indent-eq0.true);
+      c.if-bits-eq3.false c.if-map-lt4.false (sym c.read_number-number.ensures ∙ c.in-Some.is) ∙ indent_zero _ _ _ _ c.if-indent-eq0.true);
   fits = tt;
 }
 
@@ -45,15 +45,15 @@ pub returns-then-indent-gt4096 : goal.returns-then-indent-gt4096
 returns-then-indent-gt4096 c =
     let ty = type_of (c.wide-map.result % 4) in
     let read = chunk_indented c.args.list.now c.args.at c.if-list-at.false c.wide-map.ensures.0 c.if-map-gt7.false
-    c.if-bits-eq3.false c.if-map-lt4.false (sym c.read_number-number.ensures ∙ c.in-Read.is) in
-    record { answer = sym (read ∙ indent_deep c.args.list.now (c.args.at + 1) ty c.in-Read.indent (omega arith)); fits = tt }
+    c.if-bits-eq3.false c.if-map-lt4.false (sym c.read_number-number.ensures ∙ c.in-Some.is) in
+    record { answer = sym (read ∙ indent_deep c.args.list.now (c.args.at + 1) ty c.in-Some.indent (omega arith)); fits = tt }
 
 pub returns : goal.returns
 returns c =
     let next : c.args.at + 3 ≡ c.args.at + 1 + 2 = omega arith in
     let ty = type_of (c.wide-map.result % 4) in
     let read = chunk_indented c.args.list.now c.args.at c.if-list-at.false c.wide-map.ensures.0 c.if-map-gt7.false
-    c.if-bits-eq3.false c.if-map-lt4.false (sym c.read_number-number.ensures ∙ c.in-Read.is) in
-    let text = read ∙ indent_text c.args.list.now (c.args.at + 1) ty c.in-Read.indent c.if-indent-eq0.false (omega arith) in
+    c.if-bits-eq3.false c.if-map-lt4.false (sym c.read_number-number.ensures ∙ c.in-Some.is) in
+    let text = read ∙ indent_text c.args.list.now (c.args.at + 1) ty c.in-Some.indent c.if-indent-eq0.false (omega arith) in
     let same : c.text_at-2.result ≡ chunk_at c.args.list.now c.args.at = c.text_at-2.ensures ∙ rw (next, c.type_of-ty.ensures) (sym text) in
     record { answer = same; fits = rw same (chunk_fits c.args.list.now c.args.at (λ i. omega (arith, c.type_inv.list i))) }

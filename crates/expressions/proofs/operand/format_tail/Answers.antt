@@ -22,7 +22,7 @@ returns-in_default-found c =
     c.in_default-found.is c.refusal_of.ensures (ran_printer closing is) (room_left closing is))
 
 pub mode_of-mode-requires : goal.mode_of-mode-requires
-mode_of-mode-requires c = own_text _ _ _ c.read_own-found.ensures.fits c.in-Record.is
+mode_of-mode-requires c = own_text _ _ _ c.read_own-found.ensures.fits c.in-Ok.is
 
 pub returns : goal.returns
 returns c =
@@ -31,4 +31,4 @@ returns c =
     let is = c.in-Done-at_mode.is in
     done_before c.in-Done.is
     (tail_shown given.context given.levels given.tree.now _ given.rchar given.suffix (place_behind closing is) c.read_own-found.ensures.answer
-    c.in-Record.is c.mode_of-mode.ensures (ran_printer closing is then c.format_end.ensures.from _ refl))
+    c.in-Ok.is c.mode_of-mode.ensures (ran_printer closing is then c.format_end.ensures.from _ refl))

@@ -1,11 +1,11 @@
 -- Whatever line goes on from the spot, before each step it went on to where the walk is, and a step takes it one chunk further.
+use Rattle.std.specs.Prelude.{Some}
 use native.Mathlib.Omega.{arith}
-use Rattle.columns.specs.declared.Indent.TheVariants.{Set}
 use Rattle.join.proofs.Walking.{run_fits, ran_start, ran_on}
 use Rattle.join.proofs.line.measure_run.Goals as goal
 
 pub loop-margins-init : goal.loop-margins-init
-loop-margins-init c = λ n. ran_start _ _ _ _ (Set n) c.requires.narrow.1 c.requires.narrow.2 c.requires.leading_le_length.0
+loop-margins-init c = λ n. ran_start _ _ _ _ (Some n) c.requires.narrow.1 c.requires.narrow.2 c.requires.leading_le_length.0
 
 pub is_whole-requires : goal.is_whole-requires
 is_whole-requires c = (c.loop-margins.invariant 0).standing

@@ -3,10 +3,10 @@ use borrow.Author.Tests.{eq-eqb, ne_eqb}
 use Rattle.join.proofs.line.takes.Goals as goal
 
 pub returns-then-spot : goal.returns-then-spot
-returns-then-spot c = rw (c.in-Unset.is, eq-eqb _ _ c.if-spot.true)
+returns-then-spot c = rw (c.in-None.is, eq-eqb _ _ c.if-spot.true)
 
-pub returns-in-Set : goal.returns-in-Set
-returns-in-Set c = rw c.in-Set.is
+pub returns-in-Some : goal.returns-in-Some
+returns-in-Some c = rw c.in-Some.is
 
 pub returns-else-spot : goal.returns-else-spot
-returns-else-spot c = rw (c.in-Unset.is, ne_eqb _ _ c.if-spot.false)
+returns-else-spot c = rw (c.in-None.is, ne_eqb _ _ c.if-spot.false)

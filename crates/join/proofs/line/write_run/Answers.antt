@@ -1,12 +1,12 @@
 -- Whatever line goes on from the spot, before each step it went on to where the walk is and the window shows it in the text; a step takes both one chunk further.
+use Rattle.std.specs.Prelude.{Some}
 use mathlib.Core.Path.{refl, ◌∙◌}
 use native.Mathlib.Omega.{arith}
-use Rattle.columns.specs.declared.Indent.TheVariants.{Set}
 use Rattle.join.proofs.Walking.{run_fits, shown_start, shown_on}
 use Rattle.join.proofs.line.write_run.Goals as goal
 
 pub loop-window-init : goal.loop-window-init
-loop-window-init c = (λ n. shown_start _ _ _ _ _ _ (Set n) c.requires.narrow.1 c.requires.narrow.2 c.requires.leading_le_length.0, refl)
+loop-window-init c = (λ n. shown_start _ _ _ _ _ _ (Some n) c.requires.narrow.1 c.requires.narrow.2 c.requires.leading_le_length.0, refl)
 
 pub is_whole-requires : goal.is_whole-requires
 is_whole-requires c = (c.loop-window.invariant.0 0).ran.standing

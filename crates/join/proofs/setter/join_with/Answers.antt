@@ -9,9 +9,9 @@ use Rattle.columns.specs.Setting.{text_of}
 use Rattle.columns.proofs.Promises.{text_faithful, text_long, text_fits_lem}
 use Rattle.join.proofs.setter.join_with.Goals as goal
 
-pub returns-in-Failed : goal.returns-in-Failed
-returns-in-Failed c =
-    let failed = sym c.check_chunks-checked.ensures.answer ∙ c.in-Failed.is in
+pub returns-in-Err : goal.returns-in-Err
+returns-in-Err c =
+    let failed = sym c.check_chunks-checked.ensures.answer ∙ c.in-Err.is in
     rw failed (record { answer = refl; buffer = refl; demands = tt })
 
 pub measure_lines-length-requires : goal.measure_lines-length-requires

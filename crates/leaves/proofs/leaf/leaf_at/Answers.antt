@@ -14,10 +14,10 @@ returns-in_default c =
     record { shows = told.0; leaf = told.1 }
 
 pub format_own-requires : goal.format_own-requires
-format_own-requires c = own_text _ _ _ c.read_own-found.ensures.fits c.in-Record.is
+format_own-requires c = own_text _ _ _ c.read_own-found.ensures.fits c.in-Ok.is
 
 pub returns : goal.returns
 returns c =
     let read = c.read_own-found.ensures in
-    let told = own_and_leaf _ _ _ _ _ _ _ (own_shown _ _ _ _ _ _ _ read.answer _ read.fits c.in-Record.is c.format_own.ensures) in
+    let told = own_and_leaf _ _ _ _ _ _ _ (own_shown _ _ _ _ _ _ _ read.answer _ read.fits c.in-Ok.is c.format_own.ensures) in
     record { shows = told.0; leaf = told.1 }

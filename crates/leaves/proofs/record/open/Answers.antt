@@ -50,7 +50,7 @@ unfolding opened_by opened_room
 returns c =
     let is = c.in-Done.is in
     let some = c.if-not-stands.false in
-    let told = c.in-Record.is in
+    let told = c.in-Ok.is in
     let fits = c.read_own-found.ensures.fits in
     let left = eq-eqb _ _ c.if-state-ne0.false in
     let some_own = sym c.read_own-found.ensures.answer ∙ told in

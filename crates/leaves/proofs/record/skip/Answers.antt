@@ -18,4 +18,4 @@ returns-in_default-found c =
 
 pub returns : goal.returns
 returns c =
-    skip_behind c.in-Done.is c.if-not-stands.false c.skip-found.ensures.answer c.in-Next.is c.finish-2.ensures.answer
+    skip_behind c.in-Done.is c.if-not-stands.false c.skip-found.ensures.answer c.in-Ok.is c.finish-2.ensures.answer

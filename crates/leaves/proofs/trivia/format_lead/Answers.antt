@@ -14,7 +14,7 @@ returns-in_default c =
     c.loop-left.invariant.1 ∙ lead_broken _ _ _ _ c.loop-left-test.true c.trivium_at-read.ensures c.in_default.is _
 
 pub only_newline-requires : goal.only_newline-requires
-only_newline-requires c = item_lies _ _ _ c.trivium_at-read.ensures c.in-Item.is
+only_newline-requires c = item_lies _ _ _ c.trivium_at-read.ensures c.in-Some.is
 
 pub shape_of-room-then-not-only_newline : goal.shape_of-room-then-not-only_newline
 shape_of-room-then-not-only_newline c = c.format_trivia.auto.room ∙ c.loop-left.invariant.0
@@ -22,7 +22,7 @@ shape_of-room-then-not-only_newline c = c.format_trivia.auto.room ∙ c.loop-lef
 pub returns-then-not-only_newline : goal.returns-then-not-only_newline
 returns-then-not-only_newline c =
     c.loop-left.invariant.1
-    ∙ lead_stops _ _ _ _ c.loop-left-test.true c.trivium_at-read.ensures _ c.in-Item.is c.only_newline.ensures _
+    ∙ lead_stops _ _ _ _ c.loop-left-test.true c.trivium_at-read.ensures _ c.in-Some.is c.only_newline.ensures _
     c.if-not-only_newline.true
     ∙ c.format_trivia.ensures
 
@@ -30,7 +30,7 @@ pub loop-left-preserved : goal.loop-left-preserved
 loop-left-preserved c = (
   c.loop-left.invariant.0,
   c.loop-left.invariant.1
-      ∙ lead_on _ _ _ _ c.loop-left-test.true c.trivium_at-read.ensures _ c.in-Item.is c.only_newline.ensures _
+      ∙ lead_on _ _ _ _ c.loop-left-test.true c.trivium_at-read.ensures _ c.in-Some.is c.only_newline.ensures _
       c.if-not-only_newline.false,
 )
 

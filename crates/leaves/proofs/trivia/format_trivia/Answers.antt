@@ -14,13 +14,13 @@ returns-in_default c =
     c.loop-left.invariant.1 ∙ run_broken _ _ _ _ c.loop-left-test.true c.trivium_at-read.ensures c.in_default.is _
 
 pub format_trivium-next-requires : goal.format_trivium-next-requires
-format_trivium-next-requires c = item_lies _ _ _ c.trivium_at-read.ensures c.in-Item.is
+format_trivium-next-requires c = item_lies _ _ _ c.trivium_at-read.ensures c.in-Some.is
 
 pub loop-left-preserved : goal.loop-left-preserved
 loop-left-preserved c = (
   c.format_trivium-next.auto.room ∙ c.loop-left.invariant.0,
   c.loop-left.invariant.1
-      ∙ run_next _ _ _ _ c.loop-left-test.true c.trivium_at-read.ensures _ c.in-Item.is _ c.format_trivium-next.ensures,
+      ∙ run_next _ _ _ _ c.loop-left-test.true c.trivium_at-read.ensures _ c.in-Some.is _ c.format_trivium-next.ensures,
 )
 
 pub shape_of-room : goal.shape_of-room

@@ -10,19 +10,19 @@ returns-in_default c =
 
 pub returns-in_default-searched : goal.returns-in_default-searched
 returns-in_default-searched c =
-    search_unrefused _ _ c.check_tree-checked.ensures.answer c.in-Passed.is c.no_firsts.ensures c.search-searched.ensures
+    search_unrefused _ _ c.check_tree-checked.ensures.answer c.in-Ok.is c.no_firsts.ensures c.search-searched.ensures
     c.in_default-searched.is
 
-pub returns-in-Never : goal.returns-in-Never
-returns-in-Never c =
+pub returns-in-None : goal.returns-in-None
+returns-in-None c =
     let told = narrow_lost _ _ _
-    (lost_none _ _ c.check_tree-checked.ensures.answer c.in-Passed.is c.no_firsts.ensures c.search-searched.ensures
-    c.in-Whole.is c.least-least.ensures c.in-Never.is) in
+    (lost_none _ _ c.check_tree-checked.ensures.answer c.in-Ok.is c.no_firsts.ensures c.search-searched.ensures
+    c.in-Ok-searched.is c.least-least.ensures c.in-None.is) in
     record { answer = told.0; narrow = told.1.0; numbers = told.1.1 }
 
-pub returns-in-At : goal.returns-in-At
-returns-in-At c =
+pub returns-in-Some : goal.returns-in-Some
+returns-in-Some c =
     let told = narrow_lost _ _ _
-    (lost_used _ _ c.check_tree-checked.ensures.answer c.in-Passed.is c.no_firsts.ensures c.search-searched.ensures
-    c.in-Whole.is c.least-least.ensures c.in-At.is c.letters_at.ensures) in
+    (lost_used _ _ c.check_tree-checked.ensures.answer c.in-Ok.is c.no_firsts.ensures c.search-searched.ensures
+    c.in-Ok-searched.is c.least-least.ensures c.in-Some.is c.letters_at.ensures) in
     record { answer = told.0; narrow = told.1.0; numbers = told.1.1 }

@@ -17,22 +17,22 @@ returns-in_default c =
 pub returns-in_default-opening : goal.returns-in_default-opening
 returns-in_default-opening c =
     no_opening _ _ _ c.stands.ensures c.if-not-stands.false c.skip-expression.ensures.answer
-    c.in-Next.is c.stands-2.ensures c.behind-opening.ensures
+    c.in-Ok.is c.stands-2.ensures c.behind-opening.ensures
     c.in_default-opening.is
 
 pub returns-in_default-closing : goal.returns-in_default-closing
 returns-in_default-closing c =
     no_closing _ _ _ c.stands.ensures c.if-not-stands.false c.skip-expression.ensures.answer
-    c.in-Next.is c.stands-2.ensures c.behind-opening.ensures
-    c.in-Next-opening.is c.skip-closing.ensures.answer
+    c.in-Ok.is c.stands-2.ensures c.behind-opening.ensures
+    c.in-Ok-opening.is c.skip-closing.ensures.answer
     c.in_default-closing.is
 
 pub returns-in_default-read : goal.returns-in_default-read
 returns-in_default-read c =
     no_mode _ _ _ c.stands.ensures c.if-not-stands.false c.skip-expression.ensures.answer
-    c.in-Next.is c.stands-2.ensures c.behind-opening.ensures
-    c.in-Next-opening.is c.skip-closing.ensures.answer
-    c.in-Next-closing.is c.read_own-read.ensures.answer
+    c.in-Ok.is c.stands-2.ensures c.behind-opening.ensures
+    c.in-Ok-opening.is c.skip-closing.ensures.answer
+    c.in-Ok-closing.is c.read_own-read.ensures.answer
     c.in_default-read.is
 
 pub returns-then-index-eq-INDIRECT : goal.returns-then-index-eq-INDIRECT
@@ -41,17 +41,17 @@ returns-then-index-eq-INDIRECT c =
     let prints : (eqb index 3 || eqb index 4) ≡ true =
     elim c.then-index-eq-INDIRECT.either [ inl one ↦ simp (eq-eqb index 3 one) | inr other ↦ simp (ne_eqb index 3 other.0, eq-eqb index 4 other.1) ] in
     takes_printed _ _ _ c.stands.ensures c.if-not-stands.false c.skip-expression.ensures.answer
-    c.in-Next.is c.stands-2.ensures c.behind-opening.ensures
-    c.in-Next-opening.is c.skip-closing.ensures.answer
-    c.in-Next-closing.is c.read_own-read.ensures.answer
-    _ c.in-Record.is c.index_of-index.ensures
+    c.in-Ok.is c.stands-2.ensures c.behind-opening.ensures
+    c.in-Ok-opening.is c.skip-closing.ensures.answer
+    c.in-Ok-closing.is c.read_own-read.ensures.answer
+    _ c.in-Ok-read.is c.index_of-index.ensures
     prints
 
 pub returns : goal.returns
 returns c =
     takes_closing _ _ _ c.stands.ensures c.if-not-stands.false c.skip-expression.ensures.answer
-    c.in-Next.is c.stands-2.ensures c.behind-opening.ensures
-    c.in-Next-opening.is c.skip-closing.ensures.answer
-    c.in-Next-closing.is c.read_own-read.ensures.answer
-    _ c.in-Record.is c.index_of-index.ensures
+    c.in-Ok.is c.stands-2.ensures c.behind-opening.ensures
+    c.in-Ok-opening.is c.skip-closing.ensures.answer
+    c.in-Ok-closing.is c.read_own-read.ensures.answer
+    _ c.in-Ok-read.is c.index_of-index.ensures
     (simp (ne_eqb _ _ c.if-index-eq-INDIRECT.false, ne_eqb _ _ c.if-index-eq-OUTER_INDIRECT.false)) c.take.ensures

@@ -13,12 +13,12 @@ returns-in_default c =
 pub returns-then-item-ge-C_STYLE : goal.returns-then-item-ge-C_STYLE
 returns-then-item-ge-C_STYLE c =
     sym (c.loop-left.invariant
-    ∙ comment_here _ _ _ c.loop-left-test.true c.trivium_at-read.ensures _ c.in-Item.is c.if-item-ge-C_STYLE.true)
+    ∙ comment_here _ _ _ c.loop-left-test.true c.trivium_at-read.ensures _ c.in-Some.is c.if-item-ge-C_STYLE.true)
 
 pub loop-left-preserved : goal.loop-left-preserved
 loop-left-preserved c =
     c.loop-left.invariant
-    ∙ comment_later _ _ _ c.loop-left-test.true c.trivium_at-read.ensures _ c.in-Item.is c.if-item-ge-C_STYLE.false
+    ∙ comment_later _ _ _ c.loop-left-test.true c.trivium_at-read.ensures _ c.in-Some.is c.if-item-ge-C_STYLE.false
 
 pub returns : goal.returns
 returns c = sym (c.loop-left.invariant ∙ comment_none _ _ _ c.loop-left-test.false)

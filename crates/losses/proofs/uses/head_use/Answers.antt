@@ -16,7 +16,7 @@ pub returns-in_default-read : goal.returns-in_default-read
 returns-in_default-read c =
     record {
       unused = λ none. absurd (c.if-spot-eq-NONE.false none);
-      takes = λ passed token. head_unread _ _ _ _ c.head_place-place.ensures.answer _ c.in-Found.is c.read_own-read.ensures.answer
+      takes = λ passed token. head_unread _ _ _ _ c.head_place-place.ensures.answer _ c.in-Ok.is c.read_own-read.ensures.answer
           c.in_default-read.is passed token;
     }
 
@@ -25,5 +25,5 @@ returns c =
     let own = c.read_own-read.ensures in
     record {
       unused = λ none. absurd (c.if-spot-eq-NONE.false none);
-      takes = head_taken _ _ _ _ c.head_place-place.ensures.answer _ c.in-Found.is own.answer _ own.fits c.in-Record.is c.own_use.ensures;
+      takes = head_taken _ _ _ _ c.head_place-place.ensures.answer _ c.in-Ok.is own.answer _ own.fits c.in-Ok-read.is c.own_use.ensures;
     }

@@ -2,10 +2,10 @@
 use mathlib.Core.Path.{refl}
 use Rattle.tree.proofs.check.plan_of.Goals as goal
 
-pub returns-in-ListOf : goal.returns-in-ListOf
-returns-in-ListOf c =
-    rw (c.row_of-row.ensures, ← c.rule_of-rule.ensures, c.in-ListOf.is) refl
+pub returns-in-Some : goal.returns-in-Some
+returns-in-Some c =
+    rw (c.row_of-row.ensures, ← c.rule_of-rule.ensures, c.in-Some.is) refl
 
-pub returns-in-NoList : goal.returns-in-NoList
-returns-in-NoList c =
-    rw (c.row_of-row.ensures, ← c.rule_of-rule.ensures, c.in-NoList.is) refl
+pub returns-in-None : goal.returns-in-None
+returns-in-None c =
+    rw (c.row_of-row.ensures, ← c.rule_of-rule.ensures, c.in-None.is) refl

@@ -12,4 +12,4 @@ returns-in_default c =
 pub returns : goal.returns
 returns c =
     let plain = sym c.is_plain.ensures ∙ c.if-not-is_plain.false in
-    file_plain _ plain _ _ _ c.read_record-read.ensures _ c.in-Whole.is
+    file_plain _ plain _ _ _ c.read_record-read.ensures _ c.in-Ok.is

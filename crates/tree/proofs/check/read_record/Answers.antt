@@ -1,28 +1,28 @@
 -- The own bytes are refused, or the record is a walk over its parts, of which a leaf has none.
+use Rattle.std.specs.Prelude.{Err}
 use mathlib.Core.Path.{sym, ap, ◌∙◌}
 use Rattle.answers.specs.declared.Refusal.{Refusal}
 use Rattle.tree.specs.Own.{refusal_of}
-use Rattle.tree.specs.declared.check.RecordRead.TheVariants.{Refused}
 use Rattle.tree.proofs.Records.{read_refused, read_walked, walk_none, level_left}
 use Rattle.tree.proofs.check.read_record.Goals as goal
 
 pub returns-in_default : goal.returns-in_default
 returns-in_default c =
     let told = c.in_default.is in
-    ap (λ (why : Refusal). Refused why) (c.refusal_of.ensures ∙ ap refusal_of told) ∙ read_refused _ _ _ _ _ c.read_own-read.ensures.answer _ _ told
+    ap (λ (why : Refusal). Err why) (c.refusal_of.ensures ∙ ap refusal_of told) ∙ read_refused _ _ _ _ _ c.read_own-read.ensures.answer _ _ told
 
 pub own_fault-seen-requires : goal.own_fault-seen-requires
-own_fault-seen-requires c = (_, rw c.in-Record.is at c.read_own-read.ensures.fits)
+own_fault-seen-requires c = (_, rw c.in-Ok.is at c.read_own-read.ensures.fits)
 
 pub returns-then-not-has_parts : goal.returns-then-not-has_parts
 returns-then-not-has_parts c =
     walk_none _ _ _ _ _ c.has_parts.ensures c.if-not-has_parts.true-raw
-    ∙ sym (read_walked _ _ _ _ _ c.read_own-read.ensures.answer _ _ _ c.in-Record.is c.own_fault-seen.ensures)
+    ∙ sym (read_walked _ _ _ _ _ c.read_own-read.ensures.answer _ _ _ c.in-Ok.is c.own_fault-seen.ensures)
 
 pub read_parts-requires : goal.read_parts-requires
 read_parts-requires c =
-    level_left _ _ _ _ _ c.read_own-read.ensures.answer _ c.in-Record.is
+    level_left _ _ _ _ _ c.read_own-read.ensures.answer _ c.in-Ok.is
 
 pub returns : goal.returns
 returns c =
-    c.read_parts.ensures ∙ sym (read_walked _ _ _ _ _ c.read_own-read.ensures.answer _ _ _ c.in-Record.is c.own_fault-seen.ensures)
+    c.read_parts.ensures ∙ sym (read_walked _ _ _ _ _ c.read_own-read.ensures.answer _ _ _ c.in-Ok.is c.own_fault-seen.ensures)

@@ -1,9 +1,9 @@
 -- Each arm's kind is the one of its number in the grammar's list, and past the list's end stands no kind.
+use Rattle.std.specs.Prelude.{Some, None}
 use mathlib.Core.Path.{refl, sym}
 use mathlib.Core.List.{map}
 use lib.ListN.{get_or-eq_default}
 use Rattle.tree.specs.Grammar.{all_kinds}
-use Rattle.tree.specs.declared.grammar.KindRead.TheVariants.{Known, Unknown}
 use Rattle.tree.proofs.Tables.{none_below}
 use Rattle.tree.proofs.grammar.kind_of.Goals as goal
 
@@ -137,4 +137,4 @@ pub returns-in-42 : goal.returns-in-42
 returns-in-42 c = rw c.in-42.is refl
 
 pub returns-in_default : goal.returns-in_default
-returns-in_default c = sym (get_or-eq_default (map Known all_kinds) Unknown (none_below _ 43 c.in_default.in_default-own.rest))
+returns-in_default c = sym (get_or-eq_default (map Some all_kinds) None (none_below _ 43 c.in_default.in_default-own.rest))

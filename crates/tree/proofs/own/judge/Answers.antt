@@ -16,18 +16,18 @@ pub returns-then-tree-at-lt2 : goal.returns-then-tree-at-lt2
 returns-then-tree-at-lt2 c =
     let may = c.may_stand.ensures in
     let stands = c.if-not-may_stand.false-raw in
-    first_short _ _ _ _ may stands c.kind_of-read.ensures _ c.in-Known.is (omega arith)
+    first_short _ _ _ _ may stands c.kind_of-read.ensures _ c.in-Some.is (omega arith)
 
 pub returns-then-not-map_fits : goal.returns-then-not-map_fits
 returns-then-not-map_fits c =
     let may = c.may_stand.ensures in
     let stands = c.if-not-may_stand.false-raw in
-    first_unfit _ _ _ _ may stands c.kind_of-read.ensures _ c.in-Known.is (omega arith)
+    first_unfit _ _ _ _ may stands c.kind_of-read.ensures _ c.in-Some.is (omega arith)
     c.wide-map.ensures.0 c.map_fits.ensures c.if-not-map_fits.true-raw
 
 pub returns : goal.returns
 returns c =
     let may = c.may_stand.ensures in
     let stands = c.if-not-may_stand.false-raw in
-    first_fits _ _ _ _ may stands c.kind_of-read.ensures _ c.in-Known.is (omega arith)
+    first_fits _ _ _ _ may stands c.kind_of-read.ensures _ c.in-Some.is (omega arith)
     c.wide-map.ensures.0 c.map_fits.ensures c.if-not-map_fits.false-raw

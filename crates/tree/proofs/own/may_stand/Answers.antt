@@ -2,8 +2,8 @@
 use borrow.Author.Tests.{eq-eqb, ne_eqb, le-leb, lt-leb}
 use Rattle.tree.proofs.own.may_stand.Goals as goal
 
-pub returns-in-ListOf : goal.returns-in-ListOf
-returns-in-ListOf c = simp (eq-eqb _ _ c.if-number-eq-VEC.true, c.in-ListOf.is)
+pub returns-in-Some : goal.returns-in-Some
+returns-in-Some c = simp (eq-eqb _ _ c.if-number-eq-VEC.true, c.in-Some.is)
 
 pub returns-then-number-eq-VEC : goal.returns-then-number-eq-VEC
 returns-then-number-eq-VEC c = simp (eq-eqb _ _ c.if-number-eq-VEC.true, c.in_default.is)

@@ -22,6 +22,6 @@ returns-in_default c =
 
 pub returns : goal.returns
 returns c =
-    let same = read_found _ _ _ _ c.if-tree-at.false c.if-levels-eq0.false c.own_at-found.ensures _ c.in-Found.is in
+    let same = read_found _ _ _ _ c.if-tree-at.false c.if-levels-eq0.false c.own_at-found.ensures _ c.in-Some.is in
     let told = own_known _ _ _ _ same (read_fits _ _ _ _ _ same) in
     record { answer = told.0; fits = told.1.0; numbers = told.1.1 }

@@ -14,19 +14,19 @@ returns-in_default c = trivia_missing _ _ c.read_number-number.ensures _ c.if-bi
 
 pub returns-then-count-eq0 : goal.returns-then-count-eq0
 returns-then-count-eq0 c =
-    trivia_empty _ _ c.read_number-number.ensures _ c.if-bit-eq0.false _ c.in-Read.is c.if-count-eq0.true
+    trivia_empty _ _ c.read_number-number.ensures _ c.if-bit-eq0.false _ c.in-Some.is c.if-count-eq0.true
 
 pub overflow_add-first : goal.overflow_add-first
 overflow_add-first c =
-    omega (arith, read_inside c.args.tree.now c.args.at c.read_number-number.ensures _ c.in-Read.is)
+    omega (arith, read_inside c.args.tree.now c.args.at c.read_number-number.ensures _ c.in-Some.is)
 
 pub returns-in_default-items : goal.returns-in_default-items
 returns-in_default-items c =
     trivia_some _ _ c.read_number-number.ensures _ c.if-bit-eq0.false
-    _ c.in-Read.is c.if-count-eq0.false c.trivia_end-items.ensures _ c.in_default-items.is
+    _ c.in-Some.is c.if-count-eq0.false c.trivia_end-items.ensures _ c.in_default-items.is
 
 pub returns : goal.returns
 returns c =
     trivia_some _ _ c.read_number-number.ensures _ c.if-bit-eq0.false
-    _ c.in-Read.is c.if-count-eq0.false
-    c.trivia_end-items.ensures _ c.in-Behind.is
+    _ c.in-Some.is c.if-count-eq0.false
+    c.trivia_end-items.ensures _ c.in-Some-items.is

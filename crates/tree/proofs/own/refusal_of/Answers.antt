@@ -1,4 +1,4 @@
 use Rattle.tree.proofs.own.refusal_of.Goals as goal
 
-pub returns-in-Record : goal.returns-in-Record
-returns-in-Record c = rw c.in-Record.is
+pub returns-in-Ok : goal.returns-in-Ok
+returns-in-Ok c = rw c.in-Ok.is

@@ -18,7 +18,7 @@ returns-in_default c =
 pub loop-left-preserved : goal.loop-left-preserved
 loop-left-preserved c =
     c.loop-left.invariant
-    ∙ trivia_next _ _ _ c.loop-left-test.true c.trivium_end-item.ensures _ c.in-Behind.is
+    ∙ trivia_next _ _ _ c.loop-left-test.true c.trivium_end-item.ensures _ c.in-Some.is
 
 pub returns : goal.returns
 returns c = sym (c.loop-left.invariant ∙ trivia_none _ _ _ c.loop-left-test.false)

@@ -1,5 +1,5 @@
 -- The two cases of the definition.
 use Rattle.tree.proofs.parts.refused_skip.Goals as goal
 
-pub returns-in-Next : goal.returns-in-Next
-returns-in-Next c = rw c.in-Next.is
+pub returns-in-Ok : goal.returns-in-Ok
+returns-in-Ok c = rw c.in-Ok.is

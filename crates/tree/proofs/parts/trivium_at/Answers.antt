@@ -7,13 +7,13 @@ pub returns-in_default : goal.returns-in_default
 returns-in_default c = item_broken _ _ _ c.trivium_end-item.ensures c.in_default.is
 
 pub bounds-tree-at : goal.bounds-tree-at
-bounds-tree-at c = omega (arith, item_inside _ _ _ c.trivium_end-item.ensures _ c.in-Behind.is)
+bounds-tree-at c = omega (arith, item_inside _ _ _ c.trivium_end-item.ensures _ c.in-Some.is)
 
 pub returns-then-code-eq-NEWLINE : goal.returns-then-code-eq-NEWLINE
-returns-then-code-eq-NEWLINE c = item_newline _ _ _ c.trivium_end-item.ensures _ c.in-Behind.is c.if-code-eq-NEWLINE.true
+returns-then-code-eq-NEWLINE c = item_newline _ _ _ c.trivium_end-item.ensures _ c.in-Some.is c.if-code-eq-NEWLINE.true
 
 pub overflow_add-result : goal.overflow_add-result
-overflow_add-result c = omega (arith, item_inside _ _ _ c.trivium_end-item.ensures _ c.in-Behind.is)
+overflow_add-result c = omega (arith, item_inside _ _ _ c.trivium_end-item.ensures _ c.in-Some.is)
 
 pub returns : goal.returns
-returns c = item_text _ _ _ c.trivium_end-item.ensures _ c.in-Behind.is c.if-code-eq-NEWLINE.false
+returns c = item_text _ _ _ c.trivium_end-item.ensures _ c.in-Some.is c.if-code-eq-NEWLINE.false

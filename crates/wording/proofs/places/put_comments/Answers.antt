@@ -15,13 +15,13 @@ returns-in_default c =
     sym (c.loop-left.invariant.1 ∙ comments_broken _ _ _ _ c.loop-left-test.true c.trivium_at-read.ensures c.in_default.is)
 
 pub put_comment-next-requires : goal.put_comment-next-requires
-put_comment-next-requires c = item_lies _ _ _ c.trivium_at-read.ensures c.in-Item.is
+put_comment-next-requires c = item_lies _ _ _ c.trivium_at-read.ensures c.in-Some.is
 
 pub loop-left-preserved : goal.loop-left-preserved
 loop-left-preserved c = (
   c.put_comment-next.auto.line ∙ c.loop-left.invariant.0,
   c.loop-left.invariant.1
-      ∙ comments_next _ _ _ _ c.loop-left-test.true c.trivium_at-read.ensures _ c.in-Item.is c.put_comment-next.ensures,
+      ∙ comments_next _ _ _ _ c.loop-left-test.true c.trivium_at-read.ensures _ c.in-Some.is c.put_comment-next.ensures,
 )
 
 pub shape_of-line : goal.shape_of-line

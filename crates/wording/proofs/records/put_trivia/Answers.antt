@@ -15,13 +15,13 @@ returns-in_default c =
     sym (c.loop-left.invariant.1 ∙ trivia_broken _ _ _ _ c.loop-left-test.true c.trivium_at-read.ensures c.in_default.is)
 
 pub put_trivium-next-requires : goal.put_trivium-next-requires
-put_trivium-next-requires c = item_lies _ _ _ c.trivium_at-read.ensures c.in-Item.is
+put_trivium-next-requires c = item_lies _ _ _ c.trivium_at-read.ensures c.in-Some.is
 
 pub loop-left-preserved : goal.loop-left-preserved
 loop-left-preserved c = (
   c.put_trivium-next.auto.line ∙ c.loop-left.invariant.0,
   c.loop-left.invariant.1
-      ∙ trivia_next _ _ _ _ c.loop-left-test.true c.trivium_at-read.ensures _ c.in-Item.is c.put_trivium-next.ensures,
+      ∙ trivia_next _ _ _ _ c.loop-left-test.true c.trivium_at-read.ensures _ c.in-Some.is c.put_trivium-next.ensures,
 )
 
 pub shape_of-line : goal.shape_of-line
