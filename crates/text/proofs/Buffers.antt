@@ -1,11 +1,12 @@
 -- Runs of stores into a buffer.
 use mathlib.Core.Path.{◌≡◌, sym, ◌∙◌}
-use mathlib.Core.List.{List, [], ◌∷◌, ◌++◌}
+use mathlib.Core.List.{List, [], ◌∷◌, ◌++◌, append_assoc}
 use mathlib.Core.Bool.{true}
 use Prim.Native.Nat.{ℕ, suc, ◌+◌, ◌-◌, ◌≤◌, ◌<◌}
 use native.Mathlib.Omega.{arith}
-use lib.ListN.{length, get_or, drop, set, length-append, length-set}
-use lib.Seq.{sets, sets-eq, length-sets, drop-cons, drop-set-lt, get_or-set_same}
+use lib.ListN.{length, get_or, take, drop, set, replicate, length-replicate, length-take, length-drop, length-append, length-set}
+use lib.Seq.{sets, sets-eq, length-sets, drop-drop, drop-cons, drop-set-lt, get_or-set_same}
+use borrow.Rule.Slice.PartMut.{put_mid}
 use borrow.Author.Tests.{le-leb, leb-true}
 use Rattle.text.specs.Stores.{fits, stored_buffer, zeros}
 use Rattle.text.proofs.Parts.{drop_step}
@@ -52,3 +53,17 @@ zeros_more buffer left n some within size behind =
     let count : n - i ≡ suc (n - left) = omega arith in
     rw count
     (drop-cons (set buffer i 0) i 0 there ∙ rw (get_or-set_same buffer i 0 0 here, drop-set-lt (suc i) buffer i 0 (omega arith), next, behind))
+
+-- a run written over a part of a buffer is stored there
+pub part_stored : (buffer bytes : List ℕ) (at end : ℕ) → end ≡ at + length bytes → end ≤ length buffer → put_mid at (end - at) buffer bytes ≡ stored_buffer buffer at bytes
+part_stored buffer bytes at end is within =
+    let room : at + length bytes ≤ length buffer = omega arith in
+    let size : end - at ≡ length bytes = omega arith in
+    rw (le-leb _ _ room, sets-eq bytes buffer at room, size, drop-drop (length bytes) at buffer, append_assoc)
+
+-- a part of a buffer filled with one byte is a run of it, stored there
+pub part_filled : (buffer : List ℕ) (byte at end count : ℕ) → end ≡ at + count → end ≤ length buffer
+    → put_mid at (end - at) buffer (replicate (length (take (end - at) (drop at buffer))) byte) ≡ stored_buffer buffer at (replicate count byte)
+part_filled buffer byte at end count is within =
+    let size : length (take (end - at) (drop at buffer)) ≡ count = simp (length-take, length-drop) (omega arith) in
+    rw size (part_stored buffer (replicate count byte) at end (rw length-replicate is) within)
