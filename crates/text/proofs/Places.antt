@@ -1,6 +1,6 @@
 -- What the library's scans of a list find, as the definitions of `specs/` have it.
 use Rattle.std.proofs.Common.{◌≡◌, ℕ, ◌+◌, ◌-◌, ◌<◌, ◌≤◌, not, Bool, true, false, cond, eqb, List, [], ◌∷◌, length, get_or, take, drop, Option, Some, None, MatchBool, MatchOption, refl, sym, ap, ◌∙◌, arith}
-use Rattle.std.specs.List.{prefix_len, list_any}
+use Rattle.std.specs.List.{prefix_len}
 use Rattle.std.specs.Option.{unwrap_or}
 use Rattle.std.specs.Str.{IsAscii, IsNotAscii}
 use Rattle.std.proofs.lemmas.List.Recursion.{same_from_clauses, and_from_places, and_fails_at}
@@ -45,11 +45,13 @@ pub ink_found : (found : Option ℕ) (bytes : List ℕ) → Stopped blank bytes 
 unfolding leading_blanks
 ink_found found bytes stopped = place_found leading_blanks blank refl (λ _ _. refl) found bytes stopped
 
--- a list has ink where one of its bytes is not blank
-pub inked_any : (bytes : List ℕ) → list_any (λ b. not (blank b)) bytes ≡ not (all_blank bytes)
+-- a line has ink where one of its bytes is not blank
+pub inked_any : (said : Bool) (bytes : List ℕ)
+    → MatchBool said ((k : ℕ) × (k < length bytes) × (blank (get_or bytes k 0) ≡ false)) ((k : ℕ) → k < length bytes → blank (get_or bytes k 0) ≡ true)
+    → said ≡ not (all_blank bytes)
 unfolding all_blank
-inked_any [] = refl
-inked_any (b ∷ bs) = by_test (blank b) (λ q. rw q (inked_any bs)) (λ q. rw q)
+inked_any true bytes (k, within, ink) = rw (and_fails_at all_blank blank refl (λ _ _. refl) bytes k 0 within ink)
+inked_any false bytes all = rw (and_from_places all_blank blank refl (λ _ _. refl) bytes 0 all)
 
 -- a byte above 127 is one of the list
 high_within : (bytes : List ℕ) (i : ℕ) → 128 ≤ get_or bytes i 0 → i < length bytes
