@@ -23,8 +23,9 @@ use Rattle.answers.specs.Numbers.{no_refusal, numbers_checked, Checked}
 use Rattle.answers.proofs.Numbers.{chosen_numbers}
 use Rattle.answers.specs.declared.Refusal.{Refusal}
 use Rattle.answers.specs.declared.Reason.TheVariants.{OptionsLength, OptionsValue}
-use Rattle.options.specs.Stored.{bit, standing, place_of, defaults, largest, map_of, value_of, too_large, values_checked, stored_options, options_from, length_wrong, accepted, read_options}
-use Rattle.options.specs.Stored.{numbers_read, values_numbers, options_numbers, NarrowRead, ValuesRead}
+use Rattle.options.specs.Stored.{bit, standing, place_of, defaults, largest, map_of, value_of, too_large, values_checked, stored_options, length_wrong, accepted, read_options}
+use Rattle.options.specs.Stored.{numbers_read, values_numbers, options_numbers, NarrowRead}
+use Rattle.options.specs.Types.{options_from}
 use Rattle.options.specs.Forms.{AllBytes}
 use Rattle.options.specs.declared.FormattingOptions.{FormattingOptions}
 
@@ -94,6 +95,13 @@ checked_step stored k h = let e : 8 - k ≡ suc (8 - (k + 1)) = omega arith in r
 pub checked_none : (stored : List ℕ) (k : ℕ) → 8 ≤ k → values_checked stored k (8 - k) ≡ no_refusal
 unfolding values_checked
 checked_none stored k h = let e : 8 - k ≡ 0 = omega arith in rw e
+
+-- what reading the values comes to
+abbrev pub ValuesRead : List ℕ → Result (List ℕ) Refusal → Type 0
+ValuesRead stored read =
+    MatchResult read
+    (λ values. (values_checked stored 0 8 ≡ no_refusal) × ((k : ℕ) → k < 8 → get_or values k 0 ≡ value_of stored k))
+    (λ refusal. values_checked stored 0 8 ≡ Err refusal)
 
 -- the fields before field k are passed, their values are read, and the place is that of field k
 pub record ReadTo (stored values : List ℕ) (k place : ℕ) : Type 0 where

@@ -1,6 +1,6 @@
 -- The stored options: document 01, "Options" ("a bit map and then only the fields whose bit stands ... One byte each") and refusals 1 and 2.
 use Rattle.answers.specs.declared.Refusal.{Refusal}
-use Rattle.std.specs.Prelude.{◌≡◌, ℕ, zero, suc, ◌+◌, ◌<◌, ◌/◌, ◌%◌, ◌^◌, List, [], ◌∷◌, Bool, true, cond, not, ◌&&◌, length, get_or, eqb, ltb, Result, Ok, Err}
+use Rattle.std.specs.Prelude.{ℕ, zero, suc, ◌+◌, ◌/◌, ◌%◌, ◌^◌, List, [], ◌∷◌, Bool, true, cond, not, ◌&&◌, length, get_or, eqb, ltb, Result, Ok, Err}
 use Rattle.answers.specs.declared.Reason.TheVariants.{OptionsLength, OptionsValue}
 use Rattle.answers.specs.Numbers.{no_refusal, numbers_of, Checked}
 use Rattle.options.specs.Types.{options_of, Narrow}
@@ -51,12 +51,6 @@ unfoldable pub stored_options : List ℕ → FormattingOptions
 stored_options stored =
     options_of (value_of stored 0) (value_of stored 1) (value_of stored 2) (value_of stored 3) (value_of stored 4) (value_of stored 5) (value_of stored 6) (value_of stored 7)
 
--- the options of eight values in that order
-abbrev pub options_from : List ℕ → FormattingOptions
-options_from values =
-    options_of (get_or values 0 0) (get_or values 1 0) (get_or values 2 0) (get_or values 3 0)
-    (get_or values 4 0) (get_or values 5 0) (get_or values 6 0) (get_or values 7 0)
-
 -- refusal 1: "Options have no bytes, or their length is not one plus the count of standing bits; place 0."
 abbrev pub length_wrong : List ℕ → Bool
 length_wrong stored = cond (eqb (length stored) 0) true (not (eqb (length stored) (1 + standing (map_of stored) 8)))
@@ -92,8 +86,3 @@ options_numbers stored = cond (length_wrong stored) (1, 0) (values_numbers store
 abbrev pub NarrowRead : Result FormattingOptions Refusal → Type 0
 NarrowRead (Ok options) = Narrow options
 NarrowRead (Err refusal) = Unit
-
--- what holds of the eight values that were read, or of refusal 2
-abbrev pub ValuesRead : List ℕ → Result (List ℕ) Refusal → Type 0
-ValuesRead stored (Ok values) = (values_checked stored 0 8 ≡ no_refusal) × ((k : ℕ) → k < 8 → get_or values k 0 ≡ value_of stored k)
-ValuesRead stored (Err refusal) = values_checked stored 0 8 ≡ Err refusal

@@ -1,10 +1,11 @@
 // The formatting options: the types of the source, their defaults, and their stored form.
 #![tactic(auto)]
 
-ghost use Rattle.std.specs.Prelude.{◌≡◌, ◌+◌, length};
-ghost use Rattle.options.specs.Types.{casing_of, position_of, alignment_of, options_of};
-ghost use Rattle.options.specs.Stored.{standing, map_of, read_options, options_from, NarrowRead, ValuesRead};
-ghost use Rattle.options.specs.Stored.{numbers_read, options_numbers};
+ghost use Rattle.std.specs.Prelude.{◌≡◌, ℕ, ◌+◌, ◌<◌, length, get_or, MatchResult};
+ghost use Rattle.answers.specs.Numbers.{no_refusal};
+ghost use Rattle.options.specs.Types.{casing_of, position_of, alignment_of, options_of, options_from};
+ghost use Rattle.options.specs.Stored.{standing, map_of, value_of, values_checked};
+ghost use Rattle.options.specs.Stored.{read_options, NarrowRead, numbers_read, options_numbers};
 ghost use Rattle.options.specs.Casings.{cased_byte, cased};
 
 use answers::{Reason, Refusal};
@@ -184,7 +185,9 @@ impl From<[u8; 8]> for FormattingOptions {
 // The values of the eight fields in stored bytes that are as long as the map says, or refusal 2.
 fn read_values(stored: &[u8]) -> Result<[u8; 8], Refusal>
     requires { length stored.now ≡ 1 + standing (map_of stored.now) 8 }
-    ensures { ValuesRead stored.now result }
+    ensures { MatchResult result
+        (λ values. (values_checked stored.now 0 8 ≡ no_refusal) × ((k : ℕ) → k < 8 → get_or values k 0 ≡ value_of stored.now k))
+        (λ refusal. values_checked stored.now 0 8 ≡ Err refusal) }
 {
     let map = stored[0];
     let mut values = [0; 8];

@@ -1,13 +1,14 @@
 -- The returns follow the checks in the definition's order: the length, the values, and the options.
 use Rattle.std.proofs.Common.{rules, ◌≡◌, ◌<◌, length, arith, MatchResult, Ok, Err}
-use Rattle.options.specs.Stored.{map_of, options_from}
+use Rattle.options.specs.Stored.{map_of}
+use Rattle.options.specs.Types.{options_from}
 use Rattle.options.proofs.Values.{empty_wrong, length_wrong_lem, length_right, length_refused, values_answer, read_narrow, read_numbers_lem}
 use Rattle.options.proofs.read_options.Goals as goal
 
 pub returns-in_err-map : goal.returns-in_err-map
 returns-in_err-map c =
     let none : length c.args.stored.now ≡ 0 = search rules in
-    let told = length_refused c.args.stored.now (empty_wrong c.args.stored.now none) (search rules) in
+    let told = length_refused {said = c.from_residual.result} c.args.stored.now (empty_wrong c.args.stored.now none) (search rules) in
     record { answer = told.0; narrow = search rules; numbers = told.1 }
 
 pub returns-then-stored-map : goal.returns-then-stored-map
