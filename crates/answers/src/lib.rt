@@ -7,15 +7,15 @@ ghost use Rattle.answers.specs.Numbers.{number, numbers_of, numbers, answer_of, 
 // What document 01's nine numbers stand for, in checking order.
 #[derive(Clone, Copy, Debug, PartialEq, Eq)]
 pub enum Reason {
-    OptionsLength,
-    OptionsValue,
-    TreeLength,
-    TreeDepth,
-    TreeLayout,
-    ChunkLayout,
-    NotAscii,
-    WorkRoom,
-    TextRoom,
+    OptionsLength = 1,
+    OptionsValue = 2,
+    TreeLength = 3,
+    TreeDepth = 4,
+    TreeLayout = 5,
+    ChunkLayout = 6,
+    NotAscii = 7,
+    WorkRoom = 8,
+    TextRoom = 9,
 }
 
 // A refusal: its reason, and the place that goes with it (for WorkRoom and TextRoom the length that was needed).
@@ -36,17 +36,7 @@ impl Reason {
     pub fn number(self) -> usize
         ensures { result ≡ number self }
     {
-        match self {
-            Reason::OptionsLength => 1,
-            Reason::OptionsValue => 2,
-            Reason::TreeLength => 3,
-            Reason::TreeDepth => 4,
-            Reason::TreeLayout => 5,
-            Reason::ChunkLayout => 6,
-            Reason::NotAscii => 7,
-            Reason::WorkRoom => 8,
-            Reason::TextRoom => 9,
-        }
+        self as usize
     }
 }
 
@@ -79,17 +69,11 @@ impl Numbered for Answer {
     ghost both = { numbers };
 
     fn number(self) -> usize {
-        match self {
-            Ok(_) => 0,
-            Err(refusal) => refusal.number(),
-        }
+        self.err().map_or(0, |refusal| refusal.number())
     }
 
     fn value(self) -> usize {
-        match self {
-            Ok(length) => length,
-            Err(refusal) => refusal.place,
-        }
+        self.unwrap_or_else(|refusal| refusal.place)
     }
 }
 

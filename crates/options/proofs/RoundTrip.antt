@@ -23,7 +23,7 @@ use Rattle.options.specs.Stored.{bit, standing, place_of, defaults, largest, map
 use Rattle.options.specs.Forms.{bits_of, values_of, stored_form, FieldsFit, EightFields, field_at, fields_from, fields_of, chosen, field_options, AllBytes}
 use Rattle.options.specs.Forms as form
 use Rattle.options.specs.declared.FormattingOptions.{FormattingOptions}
-use Rattle.options.proofs.Values.{standing_step, passed_step}
+use Rattle.options.proofs.Values.{standing_step, standing_onward, passed_step}
 
 -- ---- bits
 
@@ -231,13 +231,6 @@ bits_back stored (suc n) k small =
     let behind : map_of stored / 2 ^ (k + 1) ≡ map_of stored / 2 ^ k / 2 = bits_behind (map_of stored) k in
     let rest = bits_back stored n (k + 1) (omega arith) in
     by_bit stored k (λ clear. rw clear (omega (arith, rest))) (λ set. rw set (omega (arith, rest)))
-
--- fields behind others stand behind them
-standing_onward : (map k n : ℕ) → standing map k ≤ standing map (k + n)
-standing_onward map k zero = let same : k + 0 ≡ k = omega arith in rw same (omega arith)
-standing_onward map k (suc n) =
-    let same : k + suc n ≡ k + n + 1 = omega arith in
-    rw (same, standing_step map (k + n)) (omega (arith, standing_onward map k n))
 
 -- the values of the fields are the bytes behind them
 values_back : (stored : List ℕ) (n k : ℕ) → length stored ≡ place_of (map_of stored) (k + n) → values_of (fields_from stored k n) ≡ drop (place_of (map_of stored) k) stored

@@ -1,5 +1,5 @@
 -- The options that eight values stand for: document 01, "Options", the bits 0 to 7 in order.
-use Rattle.std.specs.Prelude.{ℕ, ◌≤◌, cond, eqb}
+use Rattle.std.specs.Prelude.{ℕ, ◌≤◌, List, cond, get_or, eqb}
 use Rattle.options.specs.declared.Casing.{Casing}
 use Rattle.options.specs.declared.Casing.TheVariants.{Uppercase, Lowercase}
 use Rattle.options.specs.declared.BracePosition.{BracePosition}
@@ -28,6 +28,12 @@ options_of casing register_casing position indent label_margin label_alignment c
   whitespace = record { indent = indent; label_margin = label_margin; label_alignment = alignment_of label_alignment; code_margin = code_margin };
   listing = record { num_bytes_per_line = bytes_per_line };
 }
+
+-- those of a list of eight values
+abbrev pub options_from : List ℕ → FormattingOptions
+options_from values =
+    options_of (get_or values 0 0) (get_or values 1 0) (get_or values 2 0) (get_or values 3 0)
+    (get_or values 4 0) (get_or values 5 0) (get_or values 6 0) (get_or values 7 0)
 
 -- the numbers of options that were read: margins are bytes, and the indent is at most 64
 pub record Narrow (options : FormattingOptions) : Type 0 where

@@ -1,44 +1,45 @@
 // The formatting options: the types of the source, their defaults, and their stored form.
 #![tactic(auto)]
 
-ghost use Rattle.std.specs.Prelude.{◌≡◌, ◌≤◌, ◌<◌, ◌+◌, get_or};
-ghost use Rattle.options.specs.Types.{casing_of, position_of, alignment_of, options_of};
-ghost use Rattle.options.specs.Stored.{bit, place_of, defaults, largest, map_of, value_of, too_large, values_checked, stored_options, read_options, NarrowRead};
-ghost use Rattle.options.specs.Stored.{numbers_read, options_numbers};
+ghost use Rattle.std.specs.Prelude.{◌≡◌, ℕ, ◌+◌, ◌<◌, length, get_or, MatchResult};
+ghost use Rattle.answers.specs.Numbers.{no_refusal};
+ghost use Rattle.options.specs.Types.{casing_of, position_of, alignment_of, options_of, options_from};
+ghost use Rattle.options.specs.Stored.{standing, map_of, value_of, values_checked};
+ghost use Rattle.options.specs.Stored.{read_options, NarrowRead, numbers_read, options_numbers};
 ghost use Rattle.options.specs.Casings.{cased_byte, cased};
 
-use answers::{Checked, Reason, Refusal};
+use answers::{Reason, Refusal};
 
-#[derive(Clone, Copy)]
+#[derive(Clone, Copy, Debug, PartialEq, Eq)]
 pub enum Casing {
     Uppercase,
     Lowercase,
 }
 
-#[derive(Clone, Copy)]
+#[derive(Clone, Copy, Debug, PartialEq, Eq)]
 pub struct MnemonicOptions {
     pub casing: Casing,
     pub register_casing: Casing,
 }
 
-#[derive(Clone, Copy)]
+#[derive(Clone, Copy, Debug, PartialEq, Eq)]
 pub enum BracePosition {
     SameLine,
     NewLine,
 }
 
-#[derive(Clone, Copy)]
+#[derive(Clone, Copy, Debug, PartialEq, Eq)]
 pub struct BraceOptions {
     pub position: BracePosition,
 }
 
-#[derive(Clone, Copy)]
+#[derive(Clone, Copy, Debug, PartialEq, Eq)]
 pub enum Alignment {
     Left,
     Right,
 }
 
-#[derive(Clone, Copy)]
+#[derive(Clone, Copy, Debug, PartialEq, Eq)]
 pub struct WhitespaceOptions {
     pub indent: usize,
     pub label_margin: usize,
@@ -46,12 +47,12 @@ pub struct WhitespaceOptions {
     pub code_margin: usize,
 }
 
-#[derive(Clone, Copy)]
+#[derive(Clone, Copy, Debug, PartialEq, Eq)]
 pub struct ListingOptions {
     pub num_bytes_per_line: usize,
 }
 
-#[derive(Clone, Copy)]
+#[derive(Clone, Copy, Debug, PartialEq, Eq)]
 pub struct FormattingOptions {
     pub mnemonics: MnemonicOptions,
     pub braces: BraceOptions,
@@ -65,24 +66,8 @@ impl Casing {
         ensures { result ≡ cased_byte self b }
     {
         match self {
-            Casing::Uppercase => {
-                if b < 97 {
-                    return b;
-                }
-                if 122 < b {
-                    return b;
-                }
-                b - 32
-            }
-            Casing::Lowercase => {
-                if b < 65 {
-                    return b;
-                }
-                if 90 < b {
-                    return b;
-                }
-                b + 32
-            }
+            Casing::Uppercase => b.to_ascii_uppercase(),
+            Casing::Lowercase => b.to_ascii_lowercase(),
         }
     }
 
@@ -90,199 +75,139 @@ impl Casing {
     pub fn format(self, text: &mut [u8])
         ensures { text.new ≡ cased self text.old }
     {
-        let mut i = 0;
-        while i < text.len() {
-            text[i] = self.format_byte(text[i]);
-            i += 1;
+        match self {
+            Casing::Uppercase => text.make_ascii_uppercase(),
+            Casing::Lowercase => text.make_ascii_lowercase(),
         }
     }
 }
+
+// The stored value of each is 0 or 1.
+impl From<u8> for Casing {
+    ghost from_gives = { λ value casing. casing ≡ casing_of value };
+
+    fn from(value: u8) -> Self {
+        if value == 0 {
+            Casing::Uppercase
+        } else {
+            Casing::Lowercase
+        }
+    }
+}
+
+impl From<u8> for BracePosition {
+    ghost from_gives = { λ value position. position ≡ position_of value };
+
+    fn from(value: u8) -> Self {
+        if value == 0 {
+            BracePosition::SameLine
+        } else {
+            BracePosition::NewLine
+        }
+    }
+}
+
+impl From<u8> for Alignment {
+    ghost from_gives = { λ value alignment. alignment ≡ alignment_of value };
+
+    fn from(value: u8) -> Self {
+        if value == 0 {
+            Alignment::Left
+        } else {
+            Alignment::Right
+        }
+    }
+}
+
+// A field of the stored form: the largest value that it may have, and the one that it has where it is not stored.
+#[derive(Clone, Copy)]
+struct Field(u8, u8);
 
 impl FormattingOptions {
-    // The defaults, as the stored form has them.
-    pub const CASING: usize = 1;
+    // The fields in the order of the map's bits, the lowest first.
+    const FIELDS: [Field; 8] = [
+        Field(1, 1), // mnemonics.casing
+        Field(1, 1), // mnemonics.register_casing
+        Field(1, 0), // braces.position
+        Field(64, 4), // whitespace.indent
+        Field(255, 20), // whitespace.label_margin
+        Field(1, 1), // whitespace.label_alignment
+        Field(255, 30), // whitespace.code_margin
+        Field(255, 8), // listing.num_bytes_per_line
+    ];
+}
 
-    pub const REGISTER_CASING: usize = 1;
+// The options where no field is stored.
+impl Default for FormattingOptions {
+    ghost is_default = { λ options. options ≡ options_of 1 1 0 4 20 1 30 8 };
 
-    pub const BRACE_POSITION: usize = 0;
+    fn default() -> Self {
+        Self::from(Self::FIELDS.map(|Field(_, default)| default))
+    }
+}
 
-    pub const INDENT: usize = 4;
+// The values of the eight fields, stored or not, as options.
+impl From<[u8; 8]> for FormattingOptions {
+    ghost from_gives = { λ values options. options ≡ options_from values };
 
-    pub const LABEL_MARGIN: usize = 20;
-
-    pub const LABEL_ALIGNMENT: usize = 1;
-
-    pub const CODE_MARGIN: usize = 30;
-
-    pub const NUM_BYTES_PER_LINE: usize = 8;
-
-    // The options where no field is stored.
-    pub fn default() -> Self
-        ensures { result ≡ options_of 1 1 0 4 20 1 30 8 }
-    {
+    fn from(values: [u8; 8]) -> Self {
+        let [
+            casing,
+            register_casing,
+            position,
+            indent,
+            label_margin,
+            label_alignment,
+            code_margin,
+            num_bytes_per_line,
+        ] = values;
         FormattingOptions {
             mnemonics: MnemonicOptions {
-                casing: casing_of(Self::CASING),
-                register_casing: casing_of(Self::REGISTER_CASING),
+                casing: Casing::from(casing),
+                register_casing: Casing::from(register_casing),
             },
             braces: BraceOptions {
-                position: position_of(Self::BRACE_POSITION),
+                position: BracePosition::from(position),
             },
             whitespace: WhitespaceOptions {
-                indent: Self::INDENT,
-                label_margin: Self::LABEL_MARGIN,
-                label_alignment: alignment_of(Self::LABEL_ALIGNMENT),
-                code_margin: Self::CODE_MARGIN,
+                indent: usize::from(indent),
+                label_margin: usize::from(label_margin),
+                label_alignment: Alignment::from(label_alignment),
+                code_margin: usize::from(code_margin),
             },
             listing: ListingOptions {
-                num_bytes_per_line: Self::NUM_BYTES_PER_LINE,
+                num_bytes_per_line: usize::from(num_bytes_per_line),
             },
         }
     }
 }
 
-fn casing_of(value: usize) -> Casing
-    ensures { result ≡ casing_of value }
+// The values of the eight fields in stored bytes that are as long as the map says, or refusal 2.
+fn read_values(stored: &[u8]) -> Result<[u8; 8], Refusal>
+    requires { length stored.now ≡ 1 + standing (map_of stored.now) 8 }
+    ensures { MatchResult result
+        (λ values. (values_checked stored.now 0 8 ≡ no_refusal) × ((k : ℕ) → k < 8 → get_or values k 0 ≡ value_of stored.now k))
+        (λ refusal. values_checked stored.now 0 8 ≡ Err refusal) }
 {
-    if value == 0 {
-        Casing::Uppercase
-    } else {
-        Casing::Lowercase
-    }
-}
-
-fn position_of(value: usize) -> BracePosition
-    ensures { result ≡ position_of value }
-{
-    if value == 0 {
-        BracePosition::SameLine
-    } else {
-        BracePosition::NewLine
-    }
-}
-
-fn alignment_of(value: usize) -> Alignment
-    ensures { result ≡ alignment_of value }
-{
-    if value == 0 {
-        Alignment::Left
-    } else {
-        Alignment::Right
-    }
-}
-
-// Bit k of a map: 1 where it stands.
-fn bit(map: usize, k: usize) -> usize
-    requires { k < 8 }
-    ensures { (result ≡ bit map k) × (result ≤ 1) }
-{
-    (map >> k) % 2
-}
-
-// Where field k stands: behind the map and the fields before it.
-fn place_of(map: usize, k: usize) -> usize
-    requires { k ≤ 8 }
-    ensures { (result ≡ place_of map k) × (result ≤ 1 + k) }
-{
+    let map = stored[0];
+    let mut values = [0; 8];
     let mut place = 1;
-    let mut i = 0;
-    while i < k {
-        place += bit(map, i);
-        i += 1;
+    for (k, Field(largest, default)) in FormattingOptions::FIELDS.iter().enumerate() {
+        values[k] = if (map >> k) & 1 == 1 {
+            let value = stored[place];
+            if value > *largest {
+                return Err(Refusal {
+                    reason: Reason::OptionsValue,
+                    place,
+                });
+            }
+            place += 1;
+            value
+        } else {
+            *default
+        };
     }
-    place
-}
-
-// The byte at a place, or 0 past the end.
-fn byte_at(stored: &[u8], at: usize) -> usize
-    ensures { (result ≡ get_or stored.now at 0) × (result < 256) }
-{
-    if at < stored.len() {
-        return stored[at] as usize;
-    }
-    0
-}
-
-// The value of field k, whose default is given.
-fn value_of(stored: &[u8], k: usize, default: usize) -> usize
-    requires { (k < 8) × (default ≡ get_or defaults k 0) × (default < 256) }
-    ensures { (result ≡ value_of stored.now k) × (result < 256) }
-{
-    let map = byte_at(stored, 0);
-    if bit(map, k) == 1 {
-        return byte_at(stored, place_of(map, k));
-    }
-    default
-}
-
-// The largest value of each field.
-const LARGEST: [usize; 8] = [1, 1, 1, 64, 255, 1, 255, 255];
-
-// The largest value of field k.
-fn largest_of(k: usize) -> usize
-    requires { k < 8 }
-    ensures { result ≡ get_or largest k 0 }
-{
-    LARGEST[k]
-}
-
-// Whether field k is stored, and too large.
-fn too_large(stored: &[u8], map: usize, k: usize) -> bool
-    requires { (k < 8) × (map ≡ map_of stored.now) }
-    ensures { result ≡ too_large stored.now k }
-{
-    if bit(map, k) == 0 {
-        return false;
-    }
-    largest_of(k) < byte_at(stored, place_of(map, k))
-}
-
-// The first field that is stored and too large.
-fn check_values(stored: &[u8], map: usize) -> Checked
-    requires { map ≡ map_of stored.now }
-    ensures { result ≡ values_checked stored.now 0 8 }
-{
-    let mut k = 0;
-    while k < 8 {
-        if too_large(stored, map, k) {
-            return Err(Refusal {
-                reason: Reason::OptionsValue,
-                place: place_of(map, k),
-            });
-        }
-        k += 1;
-    }
-    Ok(())
-}
-
-// The options that stored bytes stand for.
-fn stored_options(stored: &[u8]) -> FormattingOptions
-    ensures answer { result ≡ stored_options stored.now }
-    ensures narrow { (result.whitespace.label_margin ≤ 255) × (result.whitespace.code_margin ≤ 255)
-        × (result.listing.num_bytes_per_line ≤ 255) }
-{
-    let indent = value_of(stored, 3, FormattingOptions::INDENT);
-    let label_margin = value_of(stored, 4, FormattingOptions::LABEL_MARGIN);
-    let code_margin = value_of(stored, 6, FormattingOptions::CODE_MARGIN);
-    let bytes = value_of(stored, 7, FormattingOptions::NUM_BYTES_PER_LINE);
-    FormattingOptions {
-        mnemonics: MnemonicOptions {
-            casing: casing_of(value_of(stored, 0, FormattingOptions::CASING)),
-            register_casing: casing_of(value_of(stored, 1, FormattingOptions::REGISTER_CASING)),
-        },
-        braces: BraceOptions {
-            position: position_of(value_of(stored, 2, FormattingOptions::BRACE_POSITION)),
-        },
-        whitespace: WhitespaceOptions {
-            indent: indent,
-            label_margin: label_margin,
-            label_alignment: alignment_of(value_of(stored, 5, FormattingOptions::LABEL_ALIGNMENT)),
-            code_margin: code_margin,
-        },
-        listing: ListingOptions {
-            num_bytes_per_line: bytes,
-        },
-    }
+    Ok(values)
 }
 
 // The options in stored bytes, or refusal 1 or 2.
@@ -291,23 +216,13 @@ pub fn read_options(stored: &[u8]) -> Result<FormattingOptions, Refusal>
     ensures narrow { NarrowRead result }
     ensures numbers { numbers_read result ≡ options_numbers stored.now }
 {
-    let length = stored.len();
-    if length == 0 {
-        return Err(Refusal {
-            reason: Reason::OptionsLength,
-            place: 0,
-        });
+    let wrong_length = Refusal {
+        reason: Reason::OptionsLength,
+        place: 0,
+    };
+    let map = stored.first().ok_or(wrong_length)?;
+    if stored.len() != 1 + map.count_ones() as usize {
+        return Err(wrong_length);
     }
-    let map = byte_at(stored, 0);
-    if length != place_of(map, 8) {
-        return Err(Refusal {
-            reason: Reason::OptionsLength,
-            place: 0,
-        });
-    }
-    let checked = check_values(stored, map);
-    if let Err(refusal) = checked {
-        return Err(refusal);
-    }
-    Ok(stored_options(stored))
+    read_values(stored).map(FormattingOptions::from)
 }

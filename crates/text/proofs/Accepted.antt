@@ -2,12 +2,10 @@
 use mathlib.Core.Path.{◌≡◌, refl, sym, ◌∙◌}
 use mathlib.Core.List.{List, [], ◌∷◌, ◌++◌}
 use mathlib.Core.Bool.{true, false, ◌&&◌}
-use Prim.Native.Nat.{ℕ, zero, suc, ◌-◌, ◌≤◌, ◌<◌, max}
+use Prim.Native.Nat.{ℕ, zero, suc, ◌-◌, ◌≤◌, ◌<◌}
 use native.Mathlib.Omega.{arith}
 use lib.ListN.{length, take, drop, take-append-drop, length-take, length-drop}
 use lib.Seq.{slice}
-use lib.Dec.{leb}
-use borrow.Author.Tests.{le-leb, lt-leb, leb-true, leb-false}
 use Rattle.text.specs.Ink.{spaces}
 use Rattle.text.specs.Accepted.{accepted_byte, accepted_text, fault_at}
 use Rattle.text.proofs.Choices.{by_test, true_false, and_true_left, and_true_right}
@@ -57,13 +55,3 @@ accepted_part from to text e =
     let left : accepted_text (take to text) ≡ true = and_true_left _ _ (sym front ∙ rw (take-append-drop to text) e) in
     let back = accepted_append (take from (take to text)) (slice from to text) in
     and_true_right (accepted_text (take from (take to text))) _ (sym back ∙ rw (take-append-drop from (take to text)) left)
-
--- bytes up to a largest one are accepted where it is, and one more where the larger of the two is
-pub accepted_larger : (largest b : ℕ) (text : List ℕ) → (leb (max largest b) 127 && accepted_text text) ≡ (leb largest 127 && accepted_text (b ∷ text))
-unfolding accepted_text accepted_byte
-accepted_larger largest b text =
-    by_test (leb largest 127)
-    (λ small. by_test (leb b 127)
-    (λ fits. rw (small, fits, le-leb (max largest b) 127 (omega (arith, leb-true largest 127 small, leb-true b 127 fits))))
-    (λ large. rw (small, large, lt-leb (max largest b) 127 (omega (arith, leb-false b 127 large)))))
-    (λ great. rw (great, lt-leb (max largest b) 127 (omega (arith, leb-false largest 127 great))))

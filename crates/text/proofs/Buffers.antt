@@ -1,21 +1,14 @@
 -- Runs of stores into a buffer.
-use mathlib.Core.Path.{◌≡◌, sym, ◌∙◌}
-use mathlib.Core.List.{List, [], ◌∷◌, ◌++◌}
+use mathlib.Core.Path.{◌≡◌, sym}
+use mathlib.Core.List.{List, [], ◌∷◌, ◌++◌, append_assoc}
 use mathlib.Core.Bool.{true}
-use Prim.Native.Nat.{ℕ, suc, ◌+◌, ◌-◌, ◌≤◌, ◌<◌}
+use Prim.Native.Nat.{ℕ, suc, ◌+◌, ◌-◌, ◌≤◌}
 use native.Mathlib.Omega.{arith}
-use lib.ListN.{length, get_or, drop, set, length-append, length-set}
-use lib.Seq.{sets, sets-eq, length-sets, drop-cons, drop-set-lt, get_or-set_same}
+use lib.ListN.{length, take, drop, set, replicate, length-replicate, length-take, length-drop, length-append}
+use lib.Seq.{sets, sets-eq, length-sets, drop-drop}
+use borrow.Rule.Slice.PartMut.{put_mid}
 use borrow.Author.Tests.{le-leb, leb-true}
-use Rattle.text.specs.Stores.{fits, stored_buffer, zeros}
-use Rattle.text.proofs.Parts.{drop_step}
-
--- one byte of a run stored, and then the bytes behind it
-pub store_step : (buffer bytes : List ℕ) (at i : ℕ) → i < length bytes
-    → sets (set buffer (at + i) (get_or bytes i 0)) (at + (i + 1)) (drop (i + 1) bytes) ≡ sets buffer (at + i) (drop i bytes)
-store_step buffer bytes at i within =
-    let next : at + (i + 1) ≡ suc (at + i) = omega arith in
-    rw (next, drop_step bytes i within)
+use Rattle.text.specs.Stores.{fits, stored_buffer}
 
 -- two runs one behind the other are one run
 pub sets_append : (buffer : List ℕ) (at : ℕ) (xs ys : List ℕ) → sets buffer at (xs ++ ys) ≡ sets (sets buffer at xs) (at + length xs) ys
@@ -41,14 +34,16 @@ stored_append buffer at xs ys e =
     let second : at + length xs + length ys ≤ length (sets buffer at xs) = omega (arith, length-append xs ys, length-sets buffer at xs) in
     rw (le-leb _ _ first, le-leb _ _ second, e) (sym (sets_append buffer at xs ys))
 
--- a buffer with zeros behind `left` places, and one more zero stored before them
-pub zeros_more : (buffer : List ℕ) (left n : ℕ) → 0 < left → left ≤ n → length buffer ≡ n → drop left buffer ≡ zeros (n - left)
-    → drop (left - 1) (set buffer (left - 1) 0) ≡ zeros (n - (left - 1))
-zeros_more buffer left n some within size behind =
-    let i : ℕ = left - 1 in
-    let here : i < length buffer = omega arith in
-    let there : i < length (set buffer i 0) = simp length-set here in
-    let next : suc i ≡ left = omega arith in
-    let count : n - i ≡ suc (n - left) = omega arith in
-    rw count
-    (drop-cons (set buffer i 0) i 0 there ∙ rw (get_or-set_same buffer i 0 0 here, drop-set-lt (suc i) buffer i 0 (omega arith), next, behind))
+-- a run written over a part of a buffer is stored there
+pub part_stored : (buffer bytes : List ℕ) (at end : ℕ) → end ≡ at + length bytes → end ≤ length buffer → put_mid at (end - at) buffer bytes ≡ stored_buffer buffer at bytes
+part_stored buffer bytes at end is within =
+    let room : at + length bytes ≤ length buffer = omega arith in
+    let size : end - at ≡ length bytes = omega arith in
+    rw (le-leb _ _ room, sets-eq bytes buffer at room, size, drop-drop (length bytes) at buffer, append_assoc)
+
+-- a part of a buffer filled with one byte is a run of it, stored there
+pub part_filled : (buffer : List ℕ) (byte at end count : ℕ) → end ≡ at + count → end ≤ length buffer
+    → put_mid at (end - at) buffer (replicate (length (take (end - at) (drop at buffer))) byte) ≡ stored_buffer buffer at (replicate count byte)
+part_filled buffer byte at end count is within =
+    let size : length (take (end - at) (drop at buffer)) ≡ count = simp (length-take, length-drop) (omega arith) in
+    rw size (part_stored buffer (replicate count byte) at end (rw length-replicate is) within)

@@ -156,18 +156,12 @@ unfolding trim_end
 ink_end_le [] = omega arith
 ink_end_le (x ∷ xs) = by_test (all_blank (x ∷ xs)) (λ q. rw q (omega arith)) (λ q. rw q (omega (arith, ink_end_le xs)))
 
-module _ (bytes : List ℕ) (end : ℕ) (some : 0 < end) (within : end ≤ length bytes) where
-  -- of a part that ends in ink nothing is cut
-  pub trim_last_ink : blank (get_or bytes (end - 1) 0) ≡ false → trim_end (take end bytes) ≡ take end bytes
-  unfolding trim_end all_blank
-  trim_last_ink e =
-      ap trim_end (take_last bytes end some within) ∙ trim_append_ink (take (end - 1) bytes) (get_or bytes (end - 1) 0 ∷ []) (rw e)
-      ∙ rw e (sym (take_last bytes end some within))
-
-  -- of a part that ends in a blank that blank is cut
-  pub trim_last_blank : blank (get_or bytes (end - 1) 0) ≡ true → trim_end (take end bytes) ≡ trim_end (take (end - 1) bytes)
-  unfolding all_blank
-  trim_last_blank e = ap trim_end (take_last bytes end some within) ∙ trim_append_blank (take (end - 1) bytes) (get_or bytes (end - 1) 0 ∷ []) (rw e)
+-- of a part that ends in ink nothing is cut
+pub trim_last_ink : (bytes : List ℕ) (end : ℕ) → 0 < end → end ≤ length bytes → blank (get_or bytes (end - 1) 0) ≡ false → trim_end (take end bytes) ≡ take end bytes
+unfolding trim_end all_blank
+trim_last_ink bytes end some within e =
+    let last : List ℕ = get_or bytes (end - 1) 0 ∷ [] in
+    ap trim_end (take_last bytes end some within) ∙ trim_append_ink (take (end - 1) bytes) last (rw e) ∙ rw e (sym (take_last bytes end some within))
 
 -- ---- leading blanks
 

@@ -6,3 +6,4 @@ pub mod Accepted
 pub mod TwoBytes
 pub mod Bytes
 pub mod Buffers
+pub mod Places

@@ -2,20 +2,14 @@
 ghost use Rattle.std.specs.Prelude.{◌≡◌};
 ghost use Rattle.text.specs.Ink.{blank};
 
-use crate::characters;
-
 // Whether a byte is blank: 9 to 13 or 32. Most bytes of a text are above 32, so that is asked first.
+#[tactic(auto, unfolding(crate::specs::Ink::blank))]
 pub fn is_blank(b: u8) -> bool
     ensures { result ≡ blank b }
 {
-    if characters::SPACE < b {
-        return false;
+    match b {
+        b'!'.. => false,
+        b'\t'..=b'\r' | b' ' => true,
+        _ => false,
     }
-    if b == characters::SPACE {
-        return true;
-    }
-    if b < 9 {
-        return false;
-    }
-    b <= 13
 }

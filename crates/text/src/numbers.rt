@@ -3,6 +3,8 @@ ghost use Rattle.std.specs.Prelude.{◌≡◌, ◌<◌, get_or};
 ghost use Rattle.text.specs.Numbers.{read_number};
 ghost use Rattle.text.specs.Stores.{number_end, number_buffer};
 
+use crate::stores;
+
 // Why a number is not stored.
 #[derive(Clone, Copy, Debug, PartialEq, Eq)]
 pub enum Unstored {
@@ -15,33 +17,22 @@ pub enum Unstored {
 pub fn wide(b: u8) -> usize
     ensures { (result ≡ b) × (result < 256) }
 {
-    b as usize
+    usize::from(b)
 }
 
 // The byte at a place; 0 past the end.
 pub fn byte_at(bytes: &[u8], at: usize) -> usize
     ensures { result ≡ get_or bytes.now at 0 }
 {
-    if bytes.len() <= at {
-        return 0;
-    }
-    wide(bytes[at])
+    bytes.get(at).map_or(0, |b| usize::from(*b))
 }
 
 // The number at a place.
 pub fn read_number(bytes: &[u8], at: usize) -> Option<usize>
     ensures { result ≡ read_number bytes.now at }
 {
-    let length = bytes.len();
-    if length < 2 {
-        return None;
-    }
-    if length - 2 < at {
-        return None;
-    }
-    let low = wide(bytes[at]);
-    let high = wide(bytes[at + 1]);
-    Some(low + 256 * high)
+    let number = bytes.get(at..)?.first_chunk()?;
+    Some(usize::from(u16::from_le_bytes(*number)))
 }
 
 // The number n, stored at a place.
@@ -49,17 +40,6 @@ pub fn store_number(buffer: &mut [u8], at: usize, n: usize) -> Result<usize, Uns
     ensures answer { result ≡ number_end buffer.old at n }
     ensures buffer { buffer.new ≡ number_buffer buffer.old at n }
 {
-    if 65535 < n {
-        return Err(Unstored::TooLarge);
-    }
-    let length = buffer.len();
-    if length < 2 {
-        return Err(Unstored::NoRoom);
-    }
-    if length - 2 < at {
-        return Err(Unstored::NoRoom);
-    }
-    buffer[at] = (n % 256) as u8;
-    buffer[at + 1] = (n / 256) as u8;
-    Ok(at + 2)
+    let number = u16::try_from(n).map_err(|_| Unstored::TooLarge)?;
+    stores::copy(&number.to_le_bytes(), buffer, at).ok_or(Unstored::NoRoom)
 }
