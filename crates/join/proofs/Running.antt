@@ -21,7 +21,7 @@ use Rattle.columns.specs.Pieces.{Piece, cut, pieces_of, pieces}
 use Rattle.columns.specs.Layout.{Line, fresh, Before, add, ends, keeps, after, with_line, kept_lines, set_line}
 use Rattle.columns.specs.Setting.{lines_kept, text_of}
 use Rattle.join.specs.Walk.{Narrow, Standing, Reached, pieces_at, First, first_line, line_at, LineWalked}
-use Rattle.join.specs.Sinks.{puts}
+use Rattle.join.specs.Sinks.{Puts, puts}
 use Rattle.join.specs.Walk.{cut_of, line_start, grown_by, front, cut_bytes, CutFits, Showing, window_to, Tried, astray}
 use Rattle.columns.specs.declared.Margins.{Margins}
 use Rattle.join.specs.declared.piece.Spot.{Spot}
@@ -159,7 +159,7 @@ module _ (past : Past) (guess : Guess) (bytes text text₁ text₂ : List ℕ) {
       ∙ rw (take-append-add before part (high - guess.low), shown, append_assoc (front past.any) (spaces guess.lead) (slice guess.low high bytes)))
 
 -- a line of which all but blanks at its end is shown stands as if all of it were
-module _ {put : List ℕ → ℕ → List ℕ → List ℕ} {before text bytes : List ℕ} (showing : Showing put before text bytes true) where
+module _ {put : Puts} {before text bytes : List ℕ} (showing : Showing put before text bytes true) where
   -- its ink is in what is shown
   shown_ink : ink_end bytes ≤ length showing.shown
   shown_ink = rw (showing.parts, trim_append_blank showing.shown showing.rest showing.blank) (ink_end_le showing.shown)

@@ -3,7 +3,7 @@ use Rattle.std.specs.Prelude.{Option, Some, None}
 use mathlib.Core.Path.{◌≡◌, refl, sym, ap, ◌∙◌}
 use mathlib.Core.List.{List, [], ◌++◌, append-nil, append_assoc}
 use mathlib.Core.Bool.{Bool, true, false, cond}
-use Prim.Native.Nat.{ℕ, ◌+◌, ◌-◌, ◌*◌, ◌≤◌, ◌<◌}
+use Prim.Native.Nat.{ℕ, ◌+◌, ◌*◌, ◌≤◌, ◌<◌}
 use native.Mathlib.Omega.{arith}
 use lib.ListN.{length, length-append}
 use lib.Dec.{eqb}
@@ -12,7 +12,7 @@ use Rattle.text.proofs.Choices.{by_test, true_false}
 use Rattle.columns.specs.Layout.{Line, fresh, add, added, ends, indent_with, indent_of}
 use Rattle.join.specs.Walk.{Standing, step_bytes, step_length, Stepped, Measured, LineWalked, pieces_at, piece_at, first_line, line_at, taken, Longer, Ran, Showing, Inked, Fits}
 use Rattle.columns.specs.declared.Margins.{Margins}
-use Rattle.join.specs.Sinks.{Writes}
+use Rattle.join.specs.Sinks.{Puts, Writes}
 use Rattle.join.specs.declared.piece.Spot.{Spot}
 use Rattle.join.specs.declared.piece.Step.{Step}
 use Rattle.join.specs.declared.line.Measure.{Measure}
@@ -100,11 +100,11 @@ walking_end walking e = walking.left ∙ rw e
 -- ---- what is given on of a line
 
 -- of an open line all is
-showing_open : {put : List ℕ → ℕ → List ℕ → List ℕ} {before text bytes : List ℕ} → Showing put before text bytes false → text ≡ put before 0 bytes
+showing_open : {put : Puts} {before text bytes : List ℕ} → Showing put before text bytes false → text ≡ put before 0 bytes
 showing_open showing = showing.written ∙ rw (showing.parts, showing.all refl, append-nil showing.shown)
 
 -- a step gives its bytes on, and leaves blanks out only where the line ends
-showing_on : {put : List ℕ → ℕ → List ℕ → List ℕ} {before text text' : List ℕ} (bytes more : List ℕ) {rest : List ℕ} {n : ℕ} {ended : Bool}
+showing_on : {put : Puts} {before text text' : List ℕ} (bytes more : List ℕ) {rest : List ℕ} {n : ℕ} {ended : Bool}
     → Writes put → text ≡ put before 0 bytes → n ≡ length bytes
     → text' ≡ put text n more → all_blank rest ≡ true → (ended ≡ false → rest ≡ []) → Showing put before text' ((bytes ++ more) ++ rest) ended
 showing_on {before = before} bytes more {rest = rest} {n = n} writes written long writ blank all =
@@ -119,14 +119,14 @@ showing_on {before = before} bytes more {rest = rest} {n = n} writes written lon
     }
 
 -- where a line has ended
-showing_end : {put : List ℕ → ℕ → List ℕ → List ℕ} {before text bytes : List ℕ} {ended : Bool} → Showing put before text bytes ended → ended ≡ true
+showing_end : {put : Puts} {before text bytes : List ℕ} {ended : Bool} → Showing put before text bytes ended → ended ≡ true
     → Showing put before text bytes true
 showing_end showing e = rw e at showing
 
 -- ---- chunks without a newline
 
 -- no chunk leaves the line as it is
-pub ran_start : (margins : Margins) (list : List ℕ) (spot : Spot) (put : List ℕ → ℕ → List ℕ → List ℕ) (text : List ℕ) (measure : Measure) (indent : Option ℕ)
+pub ran_start : (margins : Margins) (list : List ℕ) (spot : Spot) (put : Puts) (text : List ℕ) (measure : Measure) (indent : Option ℕ)
     → Writes put → Standing list spot → spot.at < length list → measure.leading ≤ measure.length → Ran margins list spot put text text measure indent measure spot
 ran_start margins list spot put text measure indent writes standing some fits = record {
   more = [];
@@ -141,7 +141,7 @@ ran_start margins list spot put text measure indent writes standing some fits = 
   written = sym (writes.none text measure.length);
 }
 
-module _ {margins : Margins} {list : List ℕ} {spot here : Spot} {put : List ℕ → ℕ → List ℕ → List ℕ} {before text : List ℕ} {measure reached : Measure} {step : Step} (n : ℕ)
+module _ {margins : Margins} {list : List ℕ} {spot here : Spot} {put : Puts} {before text : List ℕ} {measure reached : Measure} {step : Step} (n : ℕ)
     (ran : Ran margins list spot put before text measure (Some n) reached here) (stepped : Stepped margins list here reached.length step) where
   -- a step's bytes fit
   pub run_fits : measure.length ≤ 512 * spot.at → length list ≤ 1048576 → Fits reached (step_length step)
@@ -193,7 +193,7 @@ taken_more None spot = omega arith
 -- ---- the turns of the walk
 
 -- before a turn the measures and the indent are those of the line so far, which was given on
-pub record Placing (margins : Margins) (list : List ℕ) (spot : Spot) (put : List ℕ → ℕ → List ℕ → List ℕ) (before text : List ℕ) (measure : Measure) (indent : Option ℕ) (here : Spot) (ended : Bool) : Type 0 where
+pub record Placing (margins : Margins) (list : List ℕ) (spot : Spot) (put : Puts) (before text : List ℕ) (measure : Measure) (indent : Option ℕ) (here : Spot) (ended : Bool) : Type 0 where
   pub line : Line
   pub walking : Walking margins list spot line here ended
   pub measured : ended ≡ false → Measured measure line.bytes
@@ -203,7 +203,7 @@ pub record Placing (margins : Margins) (list : List ℕ) (spot : Spot) (put : Li
   pub showing : Showing put before text line.bytes ended
 
 -- a fresh line measures nothing, and nothing of it is given on
-pub placing_start : (margins : Margins) (list : List ℕ) (spot : Spot) (put : List ℕ → ℕ → List ℕ → List ℕ) (text : List ℕ) → Writes put → Standing list spot → spot.at < length list
+pub placing_start : (margins : Margins) (list : List ℕ) (spot : Spot) (put : Puts) (text : List ℕ) → Writes put → Standing list spot → spot.at < length list
     → Placing margins list spot put text text (record { length = 0; leading = 0; ink_end = 0 }) None spot false
 unfolding leading_blanks trim_end all_blank
 placing_start margins list spot put text writes standing some = record {
@@ -217,7 +217,7 @@ placing_start margins list spot put text writes standing some = record {
 }
 
 -- in the middle of a turn the indent is that of the line with the piece to come
-pub record Pausing (margins : Margins) (list : List ℕ) (spot : Spot) (put : List ℕ → ℕ → List ℕ → List ℕ) (before text : List ℕ) (measure : Measure) (indent : Option ℕ) (here : Spot) : Type 0 where
+pub record Pausing (margins : Margins) (list : List ℕ) (spot : Spot) (put : Puts) (before text : List ℕ) (measure : Measure) (indent : Option ℕ) (here : Spot) : Type 0 where
   pub line : Line
   pub walking : Walking margins list spot line here false
   pub measured : Measured measure line.bytes
@@ -226,7 +226,7 @@ pub record Pausing (margins : Margins) (list : List ℕ) (spot : Spot) (put : Li
   pub written : text ≡ put before 0 line.bytes
 
 -- the turn starts with that
-pub pausing_start : {margins : Margins} {list : List ℕ} {spot here : Spot} {put : List ℕ → ℕ → List ℕ → List ℕ} {before text : List ℕ} {measure : Measure} {indent indent' : Option ℕ}
+pub pausing_start : {margins : Margins} {list : List ℕ} {spot here : Spot} {put : Puts} {before text : List ℕ} {measure : Measure} {indent indent' : Option ℕ}
     → Placing margins list spot put before text measure indent here false → indent' ≡ taken indent here → Pausing margins list spot put before text measure indent' here
 pausing_start {here = here} placing takes = record {
   line = placing.line;
@@ -238,12 +238,12 @@ pausing_start {here = here} placing takes = record {
 }
 
 -- the line is no longer than the list has bytes for
-pub pausing_short : {margins : Margins} {list : List ℕ} {spot here : Spot} {put : List ℕ → ℕ → List ℕ → List ℕ} {before text : List ℕ} {measure : Measure} {indent : Option ℕ}
+pub pausing_short : {margins : Margins} {list : List ℕ} {spot here : Spot} {put : Puts} {before text : List ℕ} {measure : Measure} {indent : Option ℕ}
     → Pausing margins list spot put before text measure indent here → measure.length ≤ 512 * here.at
 pausing_short pausing = omega (arith, pausing.measured.length, pausing.walking.small)
 
 -- a run goes on within a turn
-pub pausing_run : {margins : Margins} {list : List ℕ} {spot here there : Spot} {put : List ℕ → ℕ → List ℕ → List ℕ} {before text text' : List ℕ} {measure reached : Measure} {indent : Option ℕ}
+pub pausing_run : {margins : Margins} {list : List ℕ} {spot here there : Spot} {put : Puts} {before text text' : List ℕ} {measure reached : Measure} {indent : Option ℕ}
     → Writes put → Pausing margins list spot put before text measure indent here → Ran margins list here put text text' measure indent reached there
     → Pausing margins list spot put before text' reached indent there
 pausing_run {here = here} {there = there} {before = before} {measure = measure} writes pausing ran =
@@ -267,7 +267,7 @@ pausing_run {here = here} {there = there} {before = before} {measure = measure} 
       written = ran.written ∙ sym (writes.more before 0 line.bytes ran.more ∙ rw (all, pausing.written));
     }
 
-module _ {margins : Margins} {list : List ℕ} {spot here : Spot} {put : List ℕ → ℕ → List ℕ → List ℕ} {before text : List ℕ} {measure : Measure} {indent : Option ℕ} {step : Step}
+module _ {margins : Margins} {list : List ℕ} {spot here : Spot} {put : Puts} {before text : List ℕ} {measure : Measure} {indent : Option ℕ} {step : Step}
     (pausing : Pausing margins list spot put before text measure indent here) (stepped : Stepped margins list here measure.length step) where
   -- a step's bytes fit
   pub pausing_fits : length list ≤ 1048576 → Fits measure (step_length step)
@@ -295,7 +295,7 @@ module _ {margins : Margins} {list : List ℕ} {spot here : Spot} {put : List �
   pausing_empty writes none =
       pausing_on writes (rw none (sym (writes.none text measure.length))) (λ bytes known. rw (none, append-nil bytes) known) pausing.fits
 
-module _ {margins : Margins} {list : List ℕ} {spot here : Spot} {put : List ℕ → ℕ → List ℕ → List ℕ} {before text : List ℕ} {measure : Measure} {indent : Option ℕ} {ended : Bool}
+module _ {margins : Margins} {list : List ℕ} {spot here : Spot} {put : Puts} {before text : List ℕ} {measure : Measure} {indent : Option ℕ} {ended : Bool}
     (placing : Placing margins list spot put before text measure indent here ended) (e : ended ≡ true) where
   -- at its end the line is measured
   pub placing_walked : {n : ℕ} → n ≡ indent_of indent → LineWalked margins list spot (record { measure = measure; indent = n; spot = here })

@@ -6,13 +6,13 @@ use Prim.Native.Nat.{ℕ, suc, ◌+◌, ◌-◌, ◌≤◌, ◌<◌, min, max}
 use native.Mathlib.Omega.{arith}
 use native.Mathlib.Nat.{le_refl, le_trans, add-le-add, min-le_left}
 use lib.ListN.{length, take, drop, set, length-append, length-replicate, replicate-append-replicate, length-take}
-use lib.Seq.{slice, sets, drop-nil, take-nil, drop_at, take_at, take_all, take-length, length-slice, slice_empty}
+use lib.Seq.{slice, sets, drop-nil, take-nil, drop_at, take_at, take_all, take-length}
 use lib.Dec.{ltb, leb}
 use borrow.Author.Tests.{ltb-true, ltb-false, leb-true, leb-false}
 use Rattle.text.specs.Ink.{spaces}
 use Rattle.text.proofs.Choices.{by_test}
 use Rattle.text.proofs.Parts.{part_slice}
-use Rattle.join.specs.Sinks.{put, puts, puts_writes, Room}
+use Rattle.join.specs.Sinks.{puts, puts_writes, Room}
 use Rattle.join.specs.Walk.{step_bytes, step_length}
 use Rattle.join.specs.declared.piece.Step.{Step}
 use Rattle.join.specs.declared.sink.Window.{Window}

@@ -3,8 +3,12 @@ use Rattle.std.specs.Prelude.{ℕ, ◌+◌, ◌-◌, ◌≤◌, ◌≡◌, List,
 use Rattle.std.proofs.Common.{suc, arith}
 use Rattle.join.specs.declared.sink.Window.{Window}
 
--- from a text, a place of the line and the bytes that stand there a text is made: these may be given at once or one part behind the other
-pub record Writes (put : List ℕ → ℕ → List ℕ → List ℕ) : Type 0 where
+-- from a text, a place of the line and the bytes that stand there a text is made
+abbrev pub Puts : Type 0
+Puts = List ℕ → ℕ → List ℕ → List ℕ
+
+-- the bytes may be given at once or one part behind the other
+pub record Writes (put : Puts) : Type 0 where
   pub none : (text : List ℕ) (at : ℕ) → put text at [] ≡ text
   pub more : (text : List ℕ) (at : ℕ) (xs ys : List ℕ) → put text at (xs ++ ys) ≡ put (put text at xs) (at + length xs) ys
 

@@ -1,5 +1,5 @@
 -- Not part of any promise of this crate: what its inner functions hand on, in terms of places in the stored list and of measures of a line.
-use Rattle.std.specs.Prelude.{ℕ, ◌+◌, ◌-◌, ◌*◌, ◌≤◌, ◌<◌, min, ◌≡◌, List, [], ◌∷◌, ◌++◌, Bool, true, false, Option, Some, None, cond, not, ◌&&◌, ◌||◌, length, get_or, set, take, eqb, ltb, leb}
+use Rattle.std.specs.Prelude.{ℕ, ◌+◌, ◌-◌, ◌*◌, ◌≤◌, ◌<◌, min, ◌≡◌, List, [], ◌∷◌, ◌++◌, Bool, true, false, Option, Some, None, cond, not, ◌&&◌, ◌||◌, length, get_or, take, eqb, ltb, leb}
 use Rattle.std.proofs.Math.Seq.{slice}
 use Rattle.text.specs.Characters as characters
 use Rattle.text.specs.Ink.{all_blank, leading_blanks, ink_end, spaces}
@@ -20,6 +20,7 @@ use Rattle.join.specs.declared.piece.Lay.{Lay}
 use Rattle.join.specs.declared.piece.Step.{Step}
 use Rattle.join.specs.declared.line.Measure.{Measure}
 use Rattle.join.specs.declared.sink.Window.{Window}
+use Rattle.join.specs.Sinks.{Puts}
 use Rattle.join.specs.declared.line.Walked.{Walked}
 use Rattle.join.specs.declared.lines.Past.{Past}
 use Rattle.join.specs.declared.lines.Cut.{Cut}
@@ -207,7 +208,7 @@ pub record Longer (margins : Margins) (list : List ℕ) (line : Line) (spot : Sp
 -- ---- a line that is given on while it is walked
 
 -- a line that is open at a spot, whichever it is, went on to another by chunks without a newline, and these were given on
-pub record Ran (margins : Margins) (list : List ℕ) (spot : Spot) (put : List ℕ → ℕ → List ℕ → List ℕ) (before text : List ℕ) (measure : Measure) (indent : Option ℕ) (reached : Measure) (here : Spot) : Type 0 where
+pub record Ran (margins : Margins) (list : List ℕ) (spot : Spot) (put : Puts) (before text : List ℕ) (measure : Measure) (indent : Option ℕ) (reached : Measure) (here : Spot) : Type 0 where
   pub more : List ℕ
   pub longer : (line : Line) → length line.bytes ≡ measure.length → taken line.indent spot ≡ indent → Longer margins list line spot more here indent
   pub measured : (bytes : List ℕ) → Measured measure bytes → Measured reached (bytes ++ more)
@@ -220,7 +221,7 @@ pub record Ran (margins : Margins) (list : List ℕ) (spot : Spot) (put : List �
   pub written : text ≡ put before measure.length more
 
 -- a line was given on, but for blanks at its end where it has ended
-pub record Showing (put : List ℕ → ℕ → List ℕ → List ℕ) (before text bytes : List ℕ) (ended : Bool) : Type 0 where
+pub record Showing (put : Puts) (before text bytes : List ℕ) (ended : Bool) : Type 0 where
   pub shown : List ℕ
   pub rest : List ℕ
   pub parts : bytes ≡ shown ++ rest

@@ -4,9 +4,9 @@ ghost use Rattle.text.specs.Ink.{spaces};
 ghost use Rattle.join.specs.Walk.{Inside, Measured, Fits, step_bytes, step_length, taken, bytes_at, LineWalked};
 ghost use Rattle.join.specs.Walk.{Ran, Showing};
 
+use crate::piece;
 use crate::piece::{Judged, Spot, Step};
 use crate::sink::Sink;
-use crate::piece;
 use text::scans;
 
 // A line's length, the blanks before its first ink, and the place behind its last ink (0 for none).
@@ -61,9 +61,9 @@ impl Measure {
         }
     }
 
-    // A step's spaces and text more, behind ink: the blanks before the first ink stay as they are. That the line has ink
-    // is known and not asked again. What is looked for is where the ink ends, since trailing blanks are cut: that scan
-    // has to start at the end.
+    // A step's spaces and text more, behind ink: the blanks before the first ink stay as they are. That the line has
+    // ink is known and not asked again. What is looked for is where the ink ends, since trailing blanks are cut: that
+    // scan has to start at the end.
     pub(crate) fn with_inked(self, step: Step) -> Measure
         requires inked { self.ink_end ≡ 0 → ⊥ }
         requires fits { Fits self (step_length step) }
@@ -92,7 +92,9 @@ impl Measure {
         if self.ink_end != 0 {
             return self.with_inked(step);
         }
-        self.with_blanks(step.before).with_text(step.text).with_blanks(step.behind)
+        self.with_blanks(step.before)
+            .with_text(step.text)
+            .with_blanks(step.behind)
     }
 }
 
@@ -127,7 +129,9 @@ pub(crate) fn pass<S: Sink>(
     requires inside { Inside judged.list.now spot }
     requires leading_le_length { (measure.leading ≤ measure.length) × (measure.length ≤ 512 * spot.at) }
     requires room { S.fits sink (length text.old) }
-    ensures { (n : ℕ) → Ran judged.entry.margins judged.entry.list.now spot (S.put sink) text.old text.new measure (Some n) result.measure result.spot }
+    ensures { let list = judged.entry.list.now in
+        ((n : ℕ) → Ran judged.entry.margins list spot (S.put sink) text.old text.new
+        measure (Some n) result.measure result.spot) }
 {
     let mut reached = measure;
     let mut here = spot;
@@ -156,7 +160,8 @@ pub(crate) fn pass_on<S: Sink>(
     requires inside { Inside judged.list.now spot }
     requires leading_le_length { (measure.leading ≤ measure.length) × (measure.length ≤ 512 * spot.at) }
     requires room { S.fits sink (length text.old) }
-    ensures { Ran judged.entry.margins judged.entry.list.now spot (S.put sink) text.old text.new measure indent result.measure result.spot }
+    ensures { Ran judged.entry.margins judged.entry.list.now spot (S.put sink) text.old text.new
+        measure indent result.measure result.spot }
 {
     match indent {
         Some(_) => pass(sink, text, judged, measure, spot),

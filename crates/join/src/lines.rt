@@ -5,7 +5,8 @@ ghost use Rattle.text.specs.Ink.{ink_end};
 ghost use Rattle.text.specs.Stores.{stored_buffer};
 ghost use Rattle.chunks.specs.Reading.{chunks_of};
 ghost use Rattle.columns.specs.Setting.{text_of};
-ghost use Rattle.join.specs.Walk.{Inside, bytes_at, LineWalked, cut_of, line_start, grown_by, front, cut_bytes, CutFits, window_to, Tried, astray};
+ghost use Rattle.join.specs.Walk.{Inside, bytes_at, LineWalked, cut_of, line_start, grown_by};
+ghost use Rattle.join.specs.Walk.{front, cut_bytes, CutFits, window_to, Tried, astray};
 ghost use Rattle.join.specs.Sinks.{Room};
 
 use crate::line::{Measure, Walked};
@@ -16,7 +17,8 @@ use chunks::stored::ChunkType;
 use columns::Margins;
 use text::{characters, stores};
 
-// The text so far: its length, whether it has a line, whether the last line kept is blank, and whether a standalone comment came last.
+// The text so far: its length, whether it has a line, whether the last line kept is blank, and whether a standalone
+// comment came last.
 #[derive(Clone, Copy)]
 pub struct Past {
     pub length: usize,
@@ -102,13 +104,7 @@ pub(crate) fn put_newline(text: &mut [u8], past: Past)
 }
 
 // Writes a kept line behind the text so far.
-pub(crate) fn write_cut(
-    text: &mut [u8],
-    judged: Judged,
-    spot: Spot,
-    past: Past,
-    cut: Cut,
-)
+pub(crate) fn write_cut(text: &mut [u8], judged: Judged, spot: Spot, past: Past, cut: Cut)
     requires inside { Inside judged.list.now spot }
     requires cut_fits { CutFits cut (ink_end (bytes_at judged.margins judged.list.now spot)) }
     requires line_in_bounds { let line = bytes_at judged.margins judged.list.now spot in
@@ -146,7 +142,8 @@ fn first_indent(spot: Spot) -> usize
     0
 }
 
-// Where the line at a spot most often stands: one that starts with a comment is standalone. Whatever is guessed, the text comes out right.
+// Where the line at a spot most often stands: one that starts with a comment is standalone. Whatever is guessed, the
+// text comes out right.
 pub(crate) fn guess_of(judged: Judged, spot: Spot) -> Guess
     requires { spot.indent ≤ 4096 }
     ensures { (result.lead ≤ 4351) × (result.low ≤ 510) }
@@ -185,7 +182,8 @@ pub(crate) fn window_of(room: usize, base: usize, low: usize) -> Window
     }
 }
 
-// Writes the line at a spot as guessed, as far as there is room, while it is walked. Blanks at its end may be written too: what follows the line overwrites them.
+// Writes the line at a spot as guessed, as far as there is room, while it is walked. Blanks at its end may be written
+// too: what follows the line overwrites them.
 pub(crate) fn try_line(
     text: &mut [u8],
     judged: Judged,
@@ -216,14 +214,7 @@ pub(crate) fn is_astray(cut: Cut, guess: Guess) -> bool
 }
 
 // Writes a line anew that went astray.
-pub(crate) fn mend(
-    text: &mut [u8],
-    judged: Judged,
-    spot: Spot,
-    past: Past,
-    cut: Cut,
-    guess: Guess,
-)
+pub(crate) fn mend(text: &mut [u8], judged: Judged, spot: Spot, past: Past, cut: Cut, guess: Guess)
     requires inside { Inside judged.list.now spot }
     requires cut_fits { CutFits cut (ink_end (bytes_at judged.margins judged.list.now spot)) }
     requires fact { let line = bytes_at judged.margins judged.list.now spot in
@@ -237,9 +228,11 @@ pub(crate) fn mend(
     }
 }
 
-// The length of the text.
+// The length of the text. (Its loop over the lines is short; one for both functions would have to say by cases what each
+// promises.)
 pub(crate) fn measure_lines(judged: Judged) -> usize
-    ensures { (result ≡ length (text_of judged.entry.margins (chunks_of judged.entry.list.now))) × (result < 4503599627370496) }
+    ensures length { result ≡ length (text_of judged.entry.margins (chunks_of judged.entry.list.now)) }
+    ensures small { result < 4503599627370496 }
 {
     let mut past = Past {
         length: 0,

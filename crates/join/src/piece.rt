@@ -1,20 +1,22 @@
 // The pieces of a chunk list: each chunk is cut after every newline. How each is laid on a line of a known length.
-ghost use Rattle.std.specs.Prelude.{◌≡◌, [], true, false, not, ◌&&◌, ◌+◌, ◌-◌, ◌≤◌, ◌<◌, ◌*◌, length, eqb, ltb, leb, Some};
+ghost use Rattle.std.specs.Prelude.{◌≡◌, [], true, false, not, ◌&&◌, ◌+◌, ◌-◌, ◌≤◌, ◌<◌, ◌*◌, length, eqb, ltb, leb};
+ghost use Rattle.std.specs.Prelude.{Some};
 ghost use Rattle.std.specs.List.{list_any, fold};
 ghost use Rattle.std.proofs.Math.Seq.{slice};
 ghost use Rattle.text.specs.Numbers.{number_at};
 ghost use Rattle.text.specs.Lines.{newline_at};
 ghost use Rattle.chunks.specs.Reading.{type_of, chunk_at, chunks_at, ChunkFits};
 ghost use Rattle.columns.specs.Pieces.{following};
-ghost use Rattle.join.specs.Walk.{Narrow, Laid, Standing, Inside, Reached, Passed, lay_label, lay_code, lay_comment, lay_of};
-ghost use Rattle.join.specs.Walk.{piece_length, Stepped, Whole, LoneNewline, step_bytes, step_length};
+ghost use Rattle.join.specs.Walk.{Narrow, Laid, Standing, Inside, Reached, Passed, piece_length};
+ghost use Rattle.join.specs.Walk.{lay_label, lay_code, lay_comment, lay_of, Stepped, Whole, LoneNewline, step_bytes, step_length};
 
 use chunks::stored::{ChunkType, StoredChunk};
 use columns::{Follows, Margins};
 use options::Alignment;
 use text::{characters, numbers, scans};
 
-// Where a walk stands: at `at` in the chunk whose text is list[start..end]; past the last chunk all three are the list's length.
+// Where a walk stands: at `at` in the chunk whose text is list[start..end]; past the last chunk all three are the list's
+// length.
 #[derive(Clone, Copy)]
 pub struct Spot {
     pub ty: ChunkType,
@@ -44,7 +46,8 @@ fn type_of(bits: usize) -> ChunkType
     ChunkType::Code
 }
 
-// The chunk at a place of a list that was judged: it is not judged again. Most chunks are code without indent, so that is asked first.
+// The chunk at a place of a list that was judged: it is not judged again. Most chunks are code without indent, so that
+// is asked first.
 pub(crate) fn chunk_in(list: &[u8], place: usize) -> StoredChunk
     requires { Laid list.now place × (place < length list.now) }
     ensures found { chunk_at list.now place ≡ Some result }
@@ -154,7 +157,8 @@ pub(crate) fn behind_chunk(list: &[u8], place: usize) -> Follows
     Follows::Other
 }
 
-// How a piece is laid: the spaces before it and behind it. Where it is ignored nothing is added.
+// How a piece is laid: the spaces before it and behind it. Where it is ignored nothing is added. (As an Option it would
+// have to be unwrapped by `step_whole`, whose pieces are never ignored.)
 #[derive(Clone, Copy)]
 pub struct Lay {
     pub before: usize,
@@ -215,7 +219,8 @@ pub(crate) fn is_newline(list: &[u8], spot: Spot) -> bool
 fn are_clear(text: &[u8]) -> bool
     ensures { result ≡ fold (λ clear b. clear && not (eqb b 10)) true text.now }
 {
-    text.iter().fold(true, |clear, b| clear & (*b != characters::NEWLINE))
+    text.iter()
+        .fold(true, |clear, b| clear & (*b != characters::NEWLINE))
 }
 
 // The same of a text of N to twice as many bytes: its first and its last N, which may overlap.
@@ -229,19 +234,20 @@ fn ends_clear<const N: usize>(text: &[u8]) -> bool
 }
 
 // The same of any text. Most are of a few bytes, and most of the others begin with the newline: so the first byte is
-// asked before the length.
+// asked before the length. By `contains` for every length the column setter took up to a tenth more instructions.
 #[inline(always)]
 fn is_clear(text: &[u8]) -> bool
     requires { 0 < length text.now }
     ensures { result ≡ true → list_any (λ b. eqb b 10) text.now ≡ false }
 {
-    text[0] != characters::NEWLINE && match text.len() {
-        ..=2 => ends_clear::<1>(text),
-        3..=4 => ends_clear::<2>(text),
-        5..=8 => ends_clear::<4>(text),
-        9..=16 => ends_clear::<8>(text),
-        _ => !text.contains(&characters::NEWLINE),
-    }
+    text[0] != characters::NEWLINE
+        && match text.len() {
+            ..=2 => ends_clear::<1>(text),
+            3..=4 => ends_clear::<2>(text),
+            5..=8 => ends_clear::<4>(text),
+            9..=16 => ends_clear::<8>(text),
+            _ => !text.contains(&characters::NEWLINE),
+        }
 }
 
 // Whether the rest of the chunk at a spot has no newline and is followed by another chunk: then it is a piece that
@@ -260,7 +266,11 @@ impl<'a> Judged<'a> {
         requires { count ≤ 1048576 }
         ensures { result ≡ lay_label self.entry.margins column count }
     {
-        let Margins { label, alignment, .. } = self.margins;
+        let Margins {
+            label,
+            alignment,
+            ..
+        } = self.margins;
         if label < column {
             return Lay {
                 before: 0,

@@ -1,4 +1,6 @@
 // What is done with the steps of a line while it is walked: nothing, or what a window shows of them is written.
+// The walk and all that its steps go through are compiled into the walk's callers (inline): else a step would be handed
+// on through memory, and the column setter took up to a fifth more instructions.
 ghost use Rattle.std.specs.Prelude.{◌≡◌, List, ℕ, ◌+◌, ◌<◌, ◌≤◌, length};
 ghost use Rattle.text.specs.Ink.{spaces};
 ghost use Rattle.join.specs.Sinks.{Writes, Room, puts};
@@ -93,7 +95,11 @@ fn put_bytes(text: &mut [u8], window: Window, at: usize, bytes: &[u8])
     let from = at.max(window.low);
     let to = (at + bytes.len()).min(window.high);
     if from < to {
-        store::store_bytes(text, window.base + (from - window.low), &bytes[from - at..to - at]);
+        store::store_bytes(
+            text,
+            window.base + (from - window.low),
+            &bytes[from - at..to - at],
+        );
     }
 }
 

@@ -5,7 +5,7 @@ ghost use Rattle.text.specs.Ink.{spaces};
 ghost use Rattle.join.specs.Walk.{step_bytes, step_length};
 
 use crate::piece::Step;
-use text::{characters, stores};
+use text::characters;
 
 // Spaces, of which there is most often none or one.
 pub(crate) fn store_spaces(text: &mut [u8], place: usize, count: usize)
@@ -19,7 +19,8 @@ pub(crate) fn store_spaces(text: &mut [u8], place: usize, count: usize)
     }
 }
 
-// One to three bytes: the first, the middle and the last. All are read before one is stored.
+// One to three bytes: the first, the middle and the last. All are read before one is stored. Most texts are so short:
+// by `store_ends` for one and for two, the column setter took up to 3 percent more instructions than by this.
 fn store_few(text: &mut [u8], place: usize, bytes: &[u8])
     requires { (0 < length bytes.now) × (length bytes.now < 4) × (place + length bytes.now ≤ length text.old) }
     ensures { text.new ≡ sets text.old place bytes.now }
@@ -44,7 +45,8 @@ fn store_ends<const N: usize>(text: &mut [u8], place: usize, bytes: &[u8])
     text[place + last..place + last + N].copy_from_slice(&bytes[last..last + N]);
 }
 
-// Any bytes. Most are few.
+// Any bytes. Most are few: by `copy_from_slice` for every length the column setter took up to a third more
+// instructions.
 #[inline(always)]
 pub(crate) fn store_bytes(text: &mut [u8], place: usize, bytes: &[u8])
     requires { place + length bytes.now ≤ length text.old }

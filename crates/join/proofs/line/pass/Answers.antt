@@ -38,9 +38,10 @@ pub loop-sink-preserved : goal.loop-sink-preserved
 loop-sink-preserved g c =
     let turn = c.loop-sink.invariant in
     let counted = c.with_step-reached.ensures in
-    let stepped = c.step_whole-step.ensures in
-    (λ n. ran_on n (turn.0 n) stepped.0 (g.met.S.Sink.writes c.args.sink) stepped.1 c.take.ensures counted.measured counted.length.0 counted.length.1,
-    c.take.auto.text ∙ turn.1)
+    let stepped = c.step_whole-step.ensures in (
+      λ n. ran_on n (turn.0 n) stepped.0 (g.met.S.Sink.writes c.args.sink) stepped.1 c.take.ensures counted.measured counted.length.0 counted.length.1,
+      c.take.auto.text ∙ turn.1,
+    )
 
 pub shape_of-text : goal.shape_of-text
 shape_of-text g c = c.loop-sink.invariant.1

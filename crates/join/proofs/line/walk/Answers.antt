@@ -54,13 +54,15 @@ loop-ended-preserved g c =
     let run = c.pass_on-run in
     let pausing = pausing_start (rw c.loop-ended-test.true at turn.invariant.0) c.takes-indent.ensures in
     let on = pausing_run writes pausing run.ensures in
-    let stepped = c.step_over-step.ensures in
-    (elim c.if-not-is_empty.branch [
-      | then-not-is_empty w ↦
-          let counted = w.with_step-measure.ensures in
-          rw (w.text-is, w.measure-is) (pausing_on on stepped writes w.take.ensures counted.measured counted.length.1)
-      | else-not-is_empty w ↦ rw (w.text-is, w.measure-is) (pausing_empty on stepped writes (c.is_empty.ensures w.if-not-is_empty.false))
-    ], c.if-not-is_empty.auto.text ∙ run.auto.text ∙ turn.invariant.1)
+    let stepped = c.step_over-step.ensures in (
+      elim c.if-not-is_empty.branch [
+        | then-not-is_empty w ↦
+            let counted = w.with_step-measure.ensures in
+            rw (w.text-is, w.measure-is) (pausing_on on stepped writes w.take.ensures counted.measured counted.length.1)
+        | else-not-is_empty w ↦ rw (w.text-is, w.measure-is) (pausing_empty on stepped writes (c.is_empty.ensures w.if-not-is_empty.false))
+      ],
+      c.if-not-is_empty.auto.text ∙ run.auto.text ∙ turn.invariant.1,
+    )
 
 pub shape_of-text : goal.shape_of-text
 shape_of-text g c = c.loop-ended.invariant.1

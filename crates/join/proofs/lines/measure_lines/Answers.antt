@@ -37,4 +37,6 @@ loop-spot-preserved c =
     ]
 
 pub returns : goal.returns
-returns c = running_length c.loop-spot.invariant c.loop-spot-test.false c.args.judged.short
+returns c =
+    let found = running_length c.loop-spot.invariant c.loop-spot-test.false c.args.judged.short in
+    record { length = found.0; small = found.1 }

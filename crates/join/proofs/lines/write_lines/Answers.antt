@@ -57,15 +57,17 @@ loop-spot-preserved c =
     let holding = turn.0 in
     let tried = c.try_line-walked in
     let found = tried.ensures.walked in
-    let narrow = c.args.judged.narrow in
-    (elim c.match-cut_of.branch [
-      | in-Some w ↦
-          let made = sym c.cut_of.ensures ∙ w.in-Some.is in
-          rw (w.past-is, w.text-is, w.grown-past.ensures)
-          (holding_kept holding.running narrow found holding.held tried.ensures.tried made w.mend.ensures (turn.1 ∙ c.requires.0) tried.auto.text)
-      | in_default w ↦
-          rw (w.past-is, w.text-is) (holding_dropped holding.running narrow found holding.held tried.ensures.tried (sym c.cut_of.ensures ∙ w.in_default.is))
-    ], c.match-cut_of.auto.text ∙ tried.auto.text ∙ turn.1)
+    let narrow = c.args.judged.narrow in (
+      elim c.match-cut_of.branch [
+        | in-Some w ↦
+            let made = sym c.cut_of.ensures ∙ w.in-Some.is in
+            rw (w.past-is, w.text-is, w.grown-past.ensures)
+            (holding_kept holding.running narrow found holding.held tried.ensures.tried made w.mend.ensures (turn.1 ∙ c.requires.0) tried.auto.text)
+        | in_default w ↦
+            rw (w.past-is, w.text-is) (holding_dropped holding.running narrow found holding.held tried.ensures.tried (sym c.cut_of.ensures ∙ w.in_default.is))
+      ],
+      c.match-cut_of.auto.text ∙ tried.auto.text ∙ turn.1,
+    )
 
 pub shape_of-text : goal.shape_of-text
 shape_of-text c = c.loop-spot.invariant.1

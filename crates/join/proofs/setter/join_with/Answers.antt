@@ -27,7 +27,7 @@ returns-then-text-length c =
     let passed = sym c.check_chunks.ensures.answer ∙ c.in_ok-check_chunks.was in
     let byte = c.type_inv.chunks in
     let faithful = text_faithful c.args.margins list c.requires.label c.requires.code (λ i. omega (arith, byte i)) passed in
-    let long = text_long (text_of c.args.margins (chunks_of list)) c.args.text.now _ c.measure_lines-length.ensures.0 c.if-text-length.true in
+    let long = text_long (text_of c.args.margins (chunks_of list)) c.args.text.now _ c.measure_lines-length.ensures.length c.if-text-length.true in
     rw passed (record { answer = long.0; buffer = long.1; demands = faithful })
 
 pub slice_bounds-write_lines-end-2 : goal.slice_bounds-write_lines-end-2
@@ -37,7 +37,7 @@ pub write_lines-requires : goal.write_lines-requires
 write_lines-requires c =
     let measured = c.measure_lines-length.ensures in
     let size = length-take-le _ _ c.if-text-length.false in
-    (size ∙ measured.0, omega (arith, size, measured.1))
+    (size ∙ measured.length, omega (arith, size, measured.small))
 
 pub returns : goal.returns
 returns c =
@@ -46,5 +46,5 @@ returns c =
     let byte = c.type_inv.chunks in
     let faithful = text_faithful c.args.margins list c.requires.label c.requires.code (λ i. omega (arith, byte i)) passed in
     let text = text_of c.args.margins (chunks_of list) in
-    let fits = text_fits_lem text c.args.text.now _ c.measure_lines-length.ensures.0 c.if-text-length.false in
+    let fits = text_fits_lem text c.args.text.now _ c.measure_lines-length.ensures.length c.if-text-length.false in
     rw (passed, c.write_lines.ensures) (record { answer = fits.0; buffer = fits.1; demands = faithful })

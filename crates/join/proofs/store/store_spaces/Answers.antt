@@ -13,5 +13,7 @@ returns-in_default c =
     let count = c.args.count in
     let text = c.args.text.now in
     let long = length-replicate {A = ℕ} count 32 in
-    let filled : c.fill.new.self ≡ spaces count = c.fill.ensures.after (λ y same. same) ∙ ap (λ (n : ℕ). spaces n) (omega (arith, length-take (place + count - place) (drop place text), length-drop place text, c.requires)) in
+    let filled : c.fill.new.self ≡ spaces count =
+    c.fill.ensures.after (λ y same. same)
+    ∙ ap (λ (n : ℕ). spaces n) (omega (arith, length-take (place + count - place) (drop place text), length-drop place text, c.requires)) in
     part_stored text (spaces count) place _ filled (omega (arith, long)) (omega (arith, long))

@@ -17,5 +17,8 @@ spot_after-requires c =
 
 pub returns : goal.returns
 returns c =
-    let given = c.requires.inside in
-    (stepped_whole _ _ _ _ _ _ c.args.self.narrow given.standing given.some c.requires.whole c.lay_piece-lay.ensures c.spot_after.ensures (part_slice c.args.spot.at c.args.spot.end c.args.self.list.now), refl)
+    let given = c.requires.inside in (
+      stepped_whole _ _ _ _ _ _ c.args.self.narrow given.standing given.some c.requires.whole
+          c.lay_piece-lay.ensures c.spot_after.ensures (part_slice c.args.spot.at c.args.spot.end c.args.self.list.now),
+      refl,
+    )
