@@ -1,7 +1,8 @@
 -- A line that has ended: by its measures and its indent, what of it is kept and how it is set.
 use mathlib.Core.Path.{◌≡◌, sym, ap, ◌∙◌}
 use mathlib.Core.List.{List, [], ◌++◌, append_assoc}
-use mathlib.Core.Bool.{true, false, not, ◌||◌, and-false}
+use mathlib.Core.Bool.{true, false, cond, ◌||◌, and-false}
+use Rattle.std.specs.Prelude.{Option, Some, None}
 use Prim.Native.Nat.{ℕ, ◌+◌, ◌≤◌}
 use native.Mathlib.Omega.{arith}
 use lib.ListN.{length, take, drop, take-append-drop, length-append, replicate-append-replicate}
@@ -91,28 +92,42 @@ set_standalone margins line inked alone =
 abbrev pub before_of : Past → Before
 before_of past = record { blank = past.blank; standalone = past.standalone }
 
--- a cut says whether the line is kept, how it is set, and what then came before the next
-pub record CutSays (margins : Margins) (past : Past) (line : Line) (cut : Cut) : Type 0 where
-  pub kept : cut.kept ≡ keeps (before_of past) line.bytes
-  pub set : cut.kept ≡ true → set_line margins line ≡ spaces cut.lead ++ slice cut.low cut.high line.bytes
+-- a kept line is set as its cut says, and the cut says what then came before the next
+pub record Kept (margins : Margins) (past : Past) (line : Line) (cut : Cut) : Type 0 where
+  pub kept : keeps (before_of past) line.bytes ≡ true
+  pub set : set_line margins line ≡ spaces cut.lead ++ slice cut.low cut.high line.bytes
   pub after : after margins (before_of past) line.bytes ≡ before_of (grown_by past cut)
   pub fits : CutFits cut (ink_end line.bytes)
+
+-- behind any other line all is as before
+pub record Dropped (margins : Margins) (past : Past) (line : Line) : Type 0 where
+  pub dropped : keeps (before_of past) line.bytes ≡ false
+  pub after : after margins (before_of past) line.bytes ≡ before_of past
+
+-- what a cut says
+abbrev pub CutSays : Margins → Past → Line → Option Cut → Type 0
+CutSays margins past line (Some cut) = Kept margins past line cut
+CutSays margins past line None = Dropped margins past line
 
 module _ (margins : Margins) (narrow : Narrow margins) (past : Past) (line : Line) (measure : Measure) (indent : ℕ)
     (inked-at : Inked measure line.bytes) (same : indent ≡ indent_of line.indent) (low : indent ≤ 4096) where
   -- of a line without ink
-  says_blank : all_blank line.bytes ≡ true → CutSays margins past line (record { kept = not (past.blank || past.standalone); standalone = false; lead = 0; low = 0; high = 0 })
+  says_blank : all_blank line.bytes ≡ true
+      → CutSays margins past line (cond (past.blank || past.standalone) None (Some (record { standalone = false; lead = 0; low = 0; high = 0 })))
   unfolding keeps after standalone
-  says_blank blank = record {
-    kept = rw blank;
-    set = λ _. set_blank margins line blank;
-    after = by_test (past.blank || past.standalone) (λ e. rw (blank, e)) (λ e. rw (blank, e));
-    fits = record { part = omega arith; within = omega arith; small = omega arith };
-  }
+  says_blank blank =
+      by_test (past.blank || past.standalone)
+      (λ e. rw e (record { dropped = rw (blank, e); after = rw (blank, e) }))
+      (λ e. rw e (record {
+        kept = rw (blank, e);
+        set = set_blank margins line blank;
+        after = rw (blank, e);
+        fits = record { part = omega arith; within = omega arith; small = omega arith };
+      }))
 
   -- of a standalone line
   says_standalone : all_blank line.bytes ≡ false → standalone margins line.bytes ≡ true
-      → CutSays margins past line (record { kept = true; standalone = true; lead = indent + margins.label; low = margins.label + margins.code; high = measure.ink_end })
+      → Kept margins past line (record { standalone = true; lead = indent + margins.label; low = margins.label + margins.code; high = measure.ink_end })
   unfolding keeps after
   says_standalone inked alone =
       let front : leb (margins.label + margins.code) (leading_blanks line.bytes) ≡ true = sym (standalone_ink margins line.bytes inked) ∙ alone in
@@ -120,7 +135,7 @@ module _ (margins : Margins) (narrow : Narrow margins) (past : Past) (line : Lin
       let end = inked-at.end in
       record {
         kept = rw inked;
-        set = λ _. rw (end, same) (set_standalone margins line inked alone);
+        set = rw (end, same) (set_standalone margins line inked alone);
         after = rw (inked, alone, ne_eqb measure.ink_end 0 (λ none. omega arith));
         fits = record {
           part = omega (arith, front_end_lem (margins.label + margins.code) line.bytes inked front);
@@ -131,14 +146,14 @@ module _ (margins : Margins) (narrow : Narrow margins) (past : Past) (line : Lin
 
   -- of any other line with ink
   says_inked : all_blank line.bytes ≡ false → standalone margins line.bytes ≡ false
-      → CutSays margins past line (record { kept = true; standalone = false; lead = indent; low = 0; high = measure.ink_end })
+      → Kept margins past line (record { standalone = false; lead = indent; low = 0; high = measure.ink_end })
   unfolding keeps after
   says_inked inked near =
       let some = ink_end_some line.bytes inked in
       let end = inked-at.end in
       record {
         kept = rw inked;
-        set = λ _. rw (end, same) (set_inked margins line inked near);
+        set = rw (end, same) (set_inked margins line inked near);
         after = rw (inked, near, ne_eqb measure.ink_end 0 (λ none. omega arith));
         fits = record { part = omega arith; within = omega arith; small = omega arith };
       }

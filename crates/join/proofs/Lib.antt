@@ -2,7 +2,6 @@ pub mod Pieces
 pub mod Places
 pub mod Lays
 pub mod Steps
-pub mod Clearing
 pub mod Measures
 pub mod Windows
 pub mod Storing

@@ -1,15 +1,17 @@
 -- Laws of the first piece of a text, and of the pieces from a spot on as the piece there and those behind it.
 use mathlib.Core.Path.{◌≡◌, refl, sym, ap, ◌∙◌}
 use mathlib.Core.List.{List, [], ◌∷◌}
-use mathlib.Core.Bool.{true, false, ◌&&◌, or-false}
+use mathlib.Core.Bool.{Bool, true, false, not, ◌&&◌, ◌||◌, or-false}
+use Rattle.std.specs.List.{list_any, fold}
+use Rattle.std.proofs.lemmas.List.Folds.{list_any-append}
 use Prim.Native.Nat.{ℕ, suc, ◌+◌, ◌-◌, ◌≤◌, ◌<◌}
 use native.Mathlib.Omega.{arith}
-use lib.ListN.{length, get_or, take, drop}
+use lib.ListN.{length, get_or, take, drop, take-append-drop}
 use lib.Seq.{slice, slice-cons, slice_empty, length-slice, drop-drop, take-take}
 use lib.Dec.{eqb, ltb}
 use borrow.Author.Tests.{lt-ltb, le-ltb, ne_eqb}
 use Rattle.text.specs.Lines.{onto, has_newline, newline_at, is_newline}
-use Rattle.text.proofs.Choices.{by_test}
+use Rattle.text.proofs.Choices.{by_test, true_false}
 use Rattle.text.proofs.Lines.{newline_at_lt, newline_at_none}
 use Rattle.text.proofs.Parts.{part_slice}
 use Rattle.columns.specs.Pieces.{Piece, cut, pieces_of}
@@ -90,6 +92,53 @@ module _ (from to : ℕ) (list : List ℕ) {count : ℕ} (order : from ≤ to) (
   -- or with the part
   pub ends_part : to - from ≤ count → (to ≡ from + piece_length (slice from to list)) × (false ≡ ltb (newline_at (slice from to list)) (to - from))
   ends_part past = (omega (arith, length-slice from to list inside, count_is), sym (rw (← count_is) (le-ltb _ _ past)))
+
+-- that so far each byte is another
+abbrev another : Bool → ℕ → Bool
+another clear b = clear && not (eqb b 10)
+
+-- once one is a newline that is no more so
+one_newline : (xs : List ℕ) → fold another false xs ≡ false
+one_newline [] = refl
+one_newline (b ∷ bs) = one_newline bs
+
+-- each byte is another where none is a newline
+all_other : (xs : List ℕ) → fold another true xs ≡ true → list_any (λ b. eqb b 10) xs ≡ false
+all_other [] e = refl
+all_other (b ∷ bs) e =
+    by_test (eqb b 10)
+    (λ q. true_false (sym (rw q at e) ∙ one_newline bs))
+    (λ q. rw q (all_other bs (rw q at e)))
+
+-- no byte is one where none of the first is and none of the last, which meet or overlap
+pub ends_other : (xs : List ℕ) (n k : ℕ) → k ≤ n → fold another true (take n xs) ≡ true → fold another true (drop k xs) ≡ true
+    → list_any (λ b. eqb b 10) xs ≡ false
+ends_other xs n k meet first last =
+    let test : ℕ → Bool = λ b. eqb b 10 in
+    let front = list_any-append test (take k (take n xs)) (drop k (take n xs)) in
+    let none : list_any test (take k xs) ≡ false =
+    or_none _ _ (sym (rw (take-append-drop k (take n xs), take-take k n xs meet) at front) ∙ all_other (take n xs) first) in
+    rw (← (take-append-drop k xs), list_any-append test (take k xs) (drop k xs), none) (all_other (drop k xs) last)
+  where
+    or_none : (a b : Bool) → (a || b) ≡ false → a ≡ false
+    or_none true b e = e
+    or_none false b e = refl
+
+-- a list of which no byte is a newline
+newline_far : (xs : List ℕ) → list_any (λ b. eqb b 10) xs ≡ false → newline_at xs ≡ length xs
+unfolding newline_at
+newline_far [] none = refl
+newline_far (b ∷ bs) none =
+    by_test (eqb b 10)
+    (λ e. true_false (rw e at none))
+    (λ e. rw e (omega (arith, newline_far bs (rw e at none))))
+
+-- a part of which none is
+pub far_newline : (from to : ℕ) (list : List ℕ) → to ≤ length list → list_any (λ b. eqb b 10) (take (to - from) (drop from list)) ≡ false
+    → ltb (newline_at (slice from to list)) (to - from) ≡ false
+far_newline from to list inside none =
+    let far = newline_far (slice from to list) (rw part_slice at none) in
+    le-ltb _ _ (omega (arith, far, length-slice from to list inside))
 
 -- ---- the piece at a spot
 

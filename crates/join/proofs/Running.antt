@@ -20,18 +20,20 @@ use Rattle.chunks.specs.Reading.{chunks_of}
 use Rattle.columns.specs.Pieces.{Piece, cut, pieces_of, pieces}
 use Rattle.columns.specs.Layout.{Line, fresh, Before, add, ends, keeps, after, with_line, kept_lines, set_line}
 use Rattle.columns.specs.Setting.{lines_kept, text_of}
-use Rattle.join.specs.Walk.{Narrow, Standing, Reached, pieces_at, First, first_line, line_at, LineWalked, puts}
+use Rattle.join.specs.Walk.{Narrow, Standing, Reached, pieces_at, First, first_line, line_at, LineWalked}
+use Rattle.join.specs.Sinks.{Puts, puts}
 use Rattle.join.specs.Walk.{cut_of, line_start, grown_by, front, cut_bytes, CutFits, Showing, window_to, Tried, astray}
 use Rattle.columns.specs.declared.Margins.{Margins}
 use Rattle.join.specs.declared.piece.Spot.{Spot}
 use Rattle.join.specs.declared.line.Walked.{Walked}
-use Rattle.join.specs.declared.line.Window.{Window}
+use Rattle.join.specs.declared.sink.Window.{Window}
 use Rattle.join.specs.declared.lines.Past.{Past}
 use Rattle.join.specs.declared.lines.Cut.{Cut}
 use Rattle.join.specs.declared.lines.Guess.{Guess}
 use Rattle.join.proofs.Places.{follows_nothing}
 use Rattle.join.proofs.Windows.{puts_slice}
-use Rattle.join.proofs.Cuts.{before_of, CutSays, cut_says}
+use Rattle.std.specs.Prelude.{Some, None}
+use Rattle.join.proofs.Cuts.{before_of, Kept, CutSays, cut_says}
 
 -- ---- where a line is put
 
@@ -63,7 +65,7 @@ pub cut_written : (past : Past) (cut : Cut) (bytes text text₁ text₂ : List �
     → past.length + length (cut_bytes past cut bytes) ≤ length text
     → text₁ ≡ stored_buffer text past.length (front past.any)
     → text₂ ≡ stored_buffer text₁ start (spaces cut.lead)
-    → text₃ ≡ puts text₂ (record { base = start + cut.lead; low = cut.low; high = cut.high }) 0 bytes
+    → text₃ ≡ puts (record { base = start + cut.lead; low = cut.low; high = cut.high }) text₂ 0 bytes
     → text₃ ≡ sets text past.length (cut_bytes past cut bytes)
 cut_written past cut bytes text text₁ text₂ start here room newline lead line =
     let n = past.length in
@@ -113,9 +115,9 @@ slice_short low high bytes = rw (← (part_slice low high bytes), length-take (h
 
 module _ (past : Past) (guess : Guess) (bytes text text₁ text₂ : List ℕ) {text₃ : List ℕ} (start : ℕ) (here : start ≡ line_start past)
     (newline : text₁ ≡ stored_buffer text past.length (front past.any)) (lead : text₂ ≡ stored_buffer text₁ start (spaces guess.lead))
-    (line : text₃ ≡ puts text₂ (window_to (length text) (start + guess.lead) guess.low) 0 bytes) where
+    (line : text₃ ≡ puts (window_to (length text) (start + guess.lead) guess.low) text₂ 0 bytes) where
   -- the window shows nothing before the line
-  window_behind : past.length ≤ start → take past.length (puts text₂ (window_to (length text) (start + guess.lead) guess.low) 0 bytes) ≡ take past.length text₂
+  window_behind : past.length ≤ start → take past.length (puts (window_to (length text) (start + guess.lead) guess.low) text₂ 0 bytes) ≡ take past.length text₂
   window_behind behind =
       let base = start + guess.lead in
       let shows : Window = record { base = base; low = guess.low; high = guess.low + (length text - base) } in
@@ -142,7 +144,7 @@ module _ (past : Past) (guess : Guess) (bytes text text₁ text₂ : List ℕ) {
       let far = guess.low + (length text - base) in
       let before = front past.any ++ spaces guess.lead in
       let part = slice guess.low far bytes in
-      let cut : Cut = record { kept = true; standalone = false; lead = guess.lead; low = guess.low; high = far } in
+      let cut : Cut = record { standalone = false; lead = guess.lead; low = guess.low; high = far } in
       let whole : before ++ part ≡ cut_bytes past cut bytes = append_assoc (front past.any) (spaces guess.lead) part in
       let before_length : length before ≡ length (front past.any) + guess.lead = length-append (front past.any) (spaces guess.lead) ∙ rw (length-replicate {A = ℕ} guess.lead 32) in
       let short = slice_short guess.low far bytes in
@@ -157,7 +159,7 @@ module _ (past : Past) (guess : Guess) (bytes text text₁ text₂ : List ℕ) {
       ∙ rw (take-append-add before part (high - guess.low), shown, append_assoc (front past.any) (spaces guess.lead) (slice guess.low high bytes)))
 
 -- a line of which all but blanks at its end is shown stands as if all of it were
-module _ {window : Window} {before text bytes : List ℕ} (showing : Showing window before text bytes true) where
+module _ {put : Puts} {before text bytes : List ℕ} (showing : Showing put before text bytes true) where
   -- its ink is in what is shown
   shown_ink : ink_end bytes ≤ length showing.shown
   shown_ink = rw (showing.parts, trim_append_blank showing.shown showing.rest showing.blank) (ink_end_le showing.shown)
@@ -170,7 +172,7 @@ module _ {window : Window} {before text bytes : List ℕ} (showing : Showing win
 -- so the line is tried
 pub line_tried : (past : Past) (guess : Guess) (bytes text text₁ text₂ : List ℕ) {text₃ : List ℕ} (start : ℕ) → start ≡ line_start past
     → text₁ ≡ stored_buffer text past.length (front past.any) → text₂ ≡ stored_buffer text₁ start (spaces guess.lead)
-    → Showing (window_to (length text) (start + guess.lead) guess.low) text₂ text₃ bytes true → Tried past guess bytes text text₃
+    → Showing (puts (window_to (length text) (start + guess.lead) guess.low)) text₂ text₃ bytes true → Tried past guess bytes text text₃
 line_tried past guess bytes text text₁ text₂ start here newline lead showing = record {
   kept = tried_kept past guess showing.shown text text₁ text₂ start here newline lead showing.written;
   shown = λ high up within room. rw (← (shown_slice showing guess.low high within))
@@ -182,7 +184,7 @@ pub cut_shown : (past : Past) (cut : Cut) (bytes text text₁ text₂ : List ℕ
     → past.length + length (cut_bytes past cut bytes) ≤ length text
     → text₁ ≡ stored_buffer text past.length (front past.any)
     → text₂ ≡ stored_buffer text₁ start (spaces cut.lead)
-    → Showing (record { base = start + cut.lead; low = cut.low; high = cut.high }) text₂ text₃ bytes true
+    → Showing (puts (record { base = start + cut.lead; low = cut.low; high = cut.high })) text₂ text₃ bytes true
     → text₃ ≡ sets text past.length (cut_bytes past cut bytes)
 cut_shown past cut bytes text text₁ text₂ start fit here room newline lead showing =
     let same = shown_slice showing cut.low cut.high fit.within in
@@ -290,125 +292,116 @@ holding_done {past = past} {text = text} holding end size =
 -- ---- a line more
 
 module _ {margins : Margins} {list all : List ℕ} {past : Past} {spot : Spot}
-    (running : Running margins list all past spot) (narrow : Narrow margins) {walked : Walked} (found : LineWalked margins list spot walked)
-    {cut : Cut} (made : cut ≡ cut_of margins past walked.measure walked.indent) where
+    (running : Running margins list all past spot) (narrow : Narrow margins) {walked : Walked} (found : LineWalked margins list spot walked) where
   -- the line at the spot
   abbrev line : Line
   line = (line_at margins list spot).line
 
-  -- the bytes that the line adds to the text where it is kept
-  abbrev bytes : List ℕ
-  bytes = cut_bytes past cut line.bytes
-
-  -- the lines behind this one
-  abbrev more : List (List ℕ)
-  more = lines_from margins list (before_of (grown_by past cut)) walked.spot
-
-  -- what the cut says of it
-  says : CutSays margins past line cut
-  says = rw made (cut_says margins narrow past line walked.measure walked.indent found.inked found.indent found.low)
-
-  -- the cut lies within the line
-  pub line_fits : CutFits cut (ink_end line.bytes)
-  line_fits = says.fits
-
-  -- the numbers of the text and of the cut do not grow large
-  pub line_small : length list ≤ 1048576 → (past.length < 4503599627370496) × CutFits cut 4294967296
-  line_small short =
-      let here = running.standing in
-      let there = found.standing in
-      let fit = line_fits in (
-        omega (arith, running.small),
-        record { part = fit.part; within = omega (arith, ink_end_le line.bytes, found.small); small = fit.small },
-      )
+  -- what its cut says
+  says : CutSays margins past line (cut_of margins past walked.measure walked.indent)
+  says = cut_says margins narrow past line walked.measure walked.indent found.inked found.indent found.low
 
   -- the lines from here on are this line, if it is kept, and the lines behind it
-  lines_here : lines_from margins list (before_of past) spot ≡ map (set_line margins) (with_line cut.kept line (kept_lines margins (before_of (grown_by past cut)) fresh (pieces_at list walked.spot)))
+  lines_here : {kept : Bool} {before : Before} → keeps (before_of past) line.bytes ≡ kept → after margins (before_of past) line.bytes ≡ before
+      → lines_from margins list (before_of past) spot ≡ map (set_line margins) (with_line kept line (kept_lines margins before fresh (pieces_at list walked.spot)))
   unfolding line_at
-  lines_here = ap (map (set_line margins)) (first_kept margins (before_of past) fresh (pieces_at list spot) found.ended) ∙ rw (says.after, ← says.kept, found.rest)
+  lines_here kept before = ap (map (set_line margins)) (first_kept margins (before_of past) fresh (pieces_at list spot) found.ended) ∙ rw (before, kept, found.rest)
 
-  -- all of the text, by a kept line
-  rest_kept : cut.kept ≡ true → all ≡ (running.done ++ bytes) ++ behind more
-  rest_kept kept =
-      running.rest
-      ∙ ap (λ (lines : List (List ℕ)). running.done ++ rest_of past.any lines) (lines_here ∙ rw kept)
-      ∙ ap (λ (rest : List ℕ). running.done ++ rest) (rest_cons past.any (set_line margins line) more)
-      ∙ ap (λ (set : List ℕ). running.done ++ ((front past.any ++ set) ++ behind more)) (says.set kept)
-      ∙ sym (append_assoc running.done bytes (behind more))
-
-  -- a kept line has room where all of the text has
-  pub line_room : cut.kept ≡ true → past.length + length bytes ≤ length all
-  line_room kept =
-      omega (arith, running.long, ap length (rest_kept kept), length-append (running.done ++ bytes) (behind more), length-append running.done bytes)
-
-  -- the same holds behind a kept line
-  on_kept : cut.kept ≡ true → Running margins list all (grown_by past cut) walked.spot
-  on_kept kept =
-      let end = cut_end past cut line.bytes line_fits in
-      let grown : (grown_by past cut).length ≡ line_start past + cut.lead + (cut.high - cut.low) = rw kept in
-      let any : (grown_by past cut).any ≡ true = rw kept in
-      let fit = line_fits in
-      record {
-        done = running.done ++ bytes;
-        long = grown ∙ omega (arith, length-append running.done bytes, running.long);
-        rest = rw any (rest_kept kept);
-        standing = found.standing;
-        small = omega (arith, start_near past, ink_end_le line.bytes, found.small, found.onward, running.small);
-      }
-
-  -- and behind a line that is not kept
-  on_dropped : cut.kept ≡ false → Running margins list all (grown_by past cut) walked.spot
-  on_dropped dropped =
-      let same : grown_by past cut ≡ past = rw dropped in
+  -- the same holds behind a line that is not kept
+  pub running_dropped : cut_of margins past walked.measure walked.indent ≡ None → Running margins list all past walked.spot
+  running_dropped made =
+      let told = rw made at says in
       record {
         done = running.done;
-        long = ap (λ (grown : Past). grown.length) same ∙ running.long;
-        rest =
-            running.rest ∙ ap (λ (lines : List (List ℕ)). running.done ++ rest_of past.any lines) (lines_here ∙ rw dropped)
-            ∙ ap (λ (grown : Past). running.done ++ rest_of grown.any more) (sym same);
+        long = running.long;
+        rest = running.rest ∙ ap (λ (lines : List (List ℕ)). running.done ++ rest_of past.any lines) (lines_here told.dropped told.after);
         standing = found.standing;
-        small = omega (arith, ap (λ (grown : Past). grown.length) same, found.onward, running.small);
+        small = omega (arith, found.onward, running.small);
       }
 
-  -- so it holds behind every line
-  pub running_on : Running margins list all (grown_by past cut) walked.spot
-  running_on = by_test cut.kept (λ kept. on_kept kept) (λ dropped. on_dropped dropped)
+  module _ {cut : Cut} (made : cut_of margins past walked.measure walked.indent ≡ Some cut) where
+    -- what it says of a kept line
+    told : Kept margins past line cut
+    told = rw made at says
+
+    -- the bytes that the line adds to the text
+    abbrev bytes : List ℕ
+    bytes = cut_bytes past cut line.bytes
+
+    -- the lines behind it
+    abbrev more : List (List ℕ)
+    more = lines_from margins list (before_of (grown_by past cut)) walked.spot
+
+    -- the cut lies within the line
+    pub line_fits : CutFits cut (ink_end line.bytes)
+    line_fits = told.fits
+
+    -- the numbers of the text and of the cut do not grow large
+    pub line_small : length list ≤ 1048576 → (past.length < 4503599627370496) × CutFits cut 4294967296
+    line_small short =
+        let here = running.standing in
+        let there = found.standing in
+        let fit = line_fits in (
+          omega (arith, running.small),
+          record { part = fit.part; within = omega (arith, ink_end_le line.bytes, found.small); small = fit.small },
+        )
+
+    -- all of the text
+    rest_kept : all ≡ (running.done ++ bytes) ++ behind more
+    rest_kept =
+        running.rest
+        ∙ ap (λ (lines : List (List ℕ)). running.done ++ rest_of past.any lines) (lines_here told.kept told.after)
+        ∙ ap (λ (rest : List ℕ). running.done ++ rest) (rest_cons past.any (set_line margins line) more)
+        ∙ ap (λ (set : List ℕ). running.done ++ ((front past.any ++ set) ++ behind more)) told.set
+        ∙ sym (append_assoc running.done bytes (behind more))
+
+    -- the line has room where all of the text has
+    pub line_room : past.length + length bytes ≤ length all
+    line_room =
+        omega (arith, running.long, ap length rest_kept, length-append (running.done ++ bytes) (behind more), length-append running.done bytes)
+
+    -- the same holds behind it
+    pub running_kept : Running margins list all (grown_by past cut) walked.spot
+    running_kept =
+        let end = cut_end past cut line.bytes line_fits in
+        let fit = line_fits in
+        record {
+          done = running.done ++ bytes;
+          long = omega (arith, length-append running.done bytes, running.long);
+          rest = rest_kept;
+          standing = found.standing;
+          small = omega (arith, start_near past, ink_end_le line.bytes, found.small, found.onward, running.small);
+        }
 
   -- ---- the line is written
 
-  -- a line that went astray has room
-  pub astray_room : (guess : Guess) → astray cut guess ≡ true → past.length + length bytes ≤ length all
-  astray_room guess e = line_room (and_true_left cut.kept _ e)
+  module _ {text text₁ : List ℕ} {guess : Guess} (held : take past.length text ≡ running.done) (tried : Tried past guess line.bytes text text₁) where
+    -- a line that is not kept leaves the text so far
+    pub holding_dropped : cut_of margins past walked.measure walked.indent ≡ None → Holding margins list all past walked.spot text₁
+    unfolding running_dropped
+    holding_dropped made = record { running = running_dropped made; held = tried.kept ∙ held }
 
-  module _ {text text₁ text₂ : List ℕ} {guess : Guess} (held : take past.length text ≡ running.done) (size : length text ≡ length all)
-      (tried : Tried past guess line.bytes text text₁) (mended : text₂ ≡ cond (astray cut guess) (sets text₁ past.length bytes) text₁)
-      (size₁ : length text₁ ≡ length text) where
-    -- a kept line stands behind the text so far, as it was guessed or mended
-    held_kept : cut.kept ≡ true → take (grown_by past cut).length text₂ ≡ running.done ++ bytes
-    held_kept kept =
-        let fit = line_fits in
-        let room = line_room kept in
-        let end = cut_end past cut line.bytes fit in
-        let grown : (grown_by past cut).length ≡ line_start past + cut.lead + (cut.high - cut.low) = rw kept in
-        by_test (eqb cut.lead guess.lead && eqb cut.low guess.low)
-        (λ same.
-        let lead = eqb-true cut.lead guess.lead (and_true_left _ _ same) in
-        let low = eqb-true cut.low guess.low (and_true_right (eqb cut.lead guess.lead) _ same) in
-        let left : text₂ ≡ text₁ = mended ∙ rw (kept, same) in
-        let whole = tried.shown cut.high (omega (arith, fit.part)) fit.within (omega arith) in
-        rw (grown, left, ← held) (rw (← lead, ← low) at whole))
-        (λ other.
-        let anew : text₂ ≡ sets text₁ past.length bytes = mended ∙ rw (kept, other) in
-        let all_of = take_stores text₁ past.length (length bytes) bytes (omega arith) (omega arith) in
-        rw (grown ∙ sym end, anew) (all_of ∙ rw (take-length bytes, tried.kept, held)))
+    module _ {cut : Cut} {text₂ : List ℕ} (made : cut_of margins past walked.measure walked.indent ≡ Some cut)
+        (mended : text₂ ≡ cond (astray cut guess) (sets text₁ past.length (bytes made)) text₁) (size : length text ≡ length all) (size₁ : length text₁ ≡ length text) where
+      -- a kept line stands behind it, as it was guessed or mended
+      held_kept : take (grown_by past cut).length text₂ ≡ running.done ++ bytes made
+      held_kept =
+          let fit = line_fits made in
+          let room = line_room made in
+          let end = cut_end past cut line.bytes fit in
+          by_test (eqb cut.lead guess.lead && eqb cut.low guess.low)
+          (λ same.
+          let lead = eqb-true cut.lead guess.lead (and_true_left _ _ same) in
+          let low = eqb-true cut.low guess.low (and_true_right (eqb cut.lead guess.lead) _ same) in
+          let left : text₂ ≡ text₁ = mended ∙ rw same in
+          let whole = tried.shown cut.high (omega (arith, fit.part)) fit.within (omega arith) in
+          rw (left, ← held) (rw (← lead, ← low) at whole))
+          (λ other.
+          let anew : text₂ ≡ sets text₁ past.length (bytes made) = mended ∙ rw other in
+          let all_of = take_stores text₁ past.length (length (bytes made)) (bytes made) (omega arith) (omega arith) in
+          rw (sym end, anew) (all_of ∙ rw (take-length (bytes made), tried.kept, held)))
 
-    -- so the buffer starts with the text behind every line
-    pub holding_on : Holding margins list all (grown_by past cut) walked.spot text₂
-    unfolding on_kept on_dropped
-    holding_on =
-        by_test cut.kept
-        (λ kept. record { running = on_kept kept; held = held_kept kept })
-        (λ dropped.
-        let same : (grown_by past cut).length ≡ past.length = rw dropped in
-        let left : text₂ ≡ text₁ = mended ∙ rw dropped in
-        record { running = on_dropped dropped; held = rw (same, left) (tried.kept ∙ held) })
+      -- so the buffer starts with the text behind it
+      pub holding_kept : Holding margins list all (grown_by past cut) walked.spot text₂
+      unfolding running_kept
+      holding_kept = record { running = running_kept made; held = held_kept }

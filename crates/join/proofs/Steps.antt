@@ -5,7 +5,7 @@ use mathlib.Core.Bool.{Bool, true, false, not, ◌&&◌, ◌||◌, and-true, and
 use Prim.Native.Nat.{ℕ, ◌+◌, ◌-◌, ◌≤◌, ◌<◌}
 use native.Mathlib.Omega.{arith}
 use lib.ListN.{length, length-append, length-replicate}
-use lib.Seq.{slice, slice_empty, length-slice}
+use lib.Seq.{slice, length-slice}
 use lib.Dec.{eqb, leb, ltb}
 use borrow.Author.Tests.{leb-false, ltb-true, ltb-false, lt-ltb, le-leb, lt-leb}
 use Rattle.text.specs.Ink.{all_blank, spaces}
@@ -19,7 +19,8 @@ use Rattle.text.specs.Lines.{newline_at}
 use Rattle.chunks.specs.Reading.{chunks_at}
 use Rattle.columns.specs.Pieces.{following}
 use Rattle.columns.specs.Layout.{ignored, laid, added, ends}
-use Rattle.join.specs.Walk.{Narrow, Standing, Passed, lay_aligned, lay_of, piece_at, Stepped, Whole, LoneNewline}
+use Rattle.join.specs.Walk.{Narrow, Standing, Passed, lay_aligned, lay_of, piece_at, step_bytes, step_length, Stepped, Whole, LoneNewline}
+use denote.Ref.{Bor}
 use Rattle.columns.specs.declared.Margins.{Margins}
 use Rattle.columns.specs.declared.Follows.{Follows}
 use Rattle.columns.specs.declared.Follows.TheVariants.{Nothing, Newline, Other}
@@ -58,12 +59,12 @@ module _ (margins : Margins) (list : List ℕ) (spot : Spot) (n : ℕ) (piece : 
       rw (lays_at.ignored ∙ e, last_is list spot.end standing.laid, newline ∙ piece_newline_is list spot standing inside)
 
   -- the step, by what is written of the piece
-  stepped : (step : Step) (skipped : Bool) (rest : List ℕ) → lay.ignored ≡ skipped → step.spot ≡ behind → step.from ≡ spot.at → step.from ≤ step.to → step.to ≤ piece.end
-      → step.before + (step.to - step.from) + step.behind + length rest ≤ 511 + (piece.end - spot.at)
-      → added margins n (piece_at list spot) ≡ (spaces step.before ++ (slice step.from step.to list ++ spaces step.behind)) ++ rest
+  stepped : (step : Step) (skipped : Bool) (rest : List ℕ) → lay.ignored ≡ skipped → step.spot ≡ behind
+      → step_length step + length rest ≤ 511 + (piece.end - spot.at)
+      → added margins n (piece_at list spot) ≡ step_bytes step ++ rest
       → all_blank rest ≡ true → (step.ends ≡ false → rest ≡ [])
       → step.ends ≡ (leb (length list) spot.end || (piece.newline && not skipped)) → Stepped margins list spot n step
-  stepped step skipped rest known there from part within few bytes blank all ended =
+  stepped step skipped rest known there few bytes blank all ended =
       let some : spot.at < piece.end = omega (arith, piece_some list spot standing inside, end) in
       let to : piece.end ≤ spot.end = omega (arith, piece_within list spot standing inside, end) in
       let onward : piece.end ≤ step.spot.at = rw there passed.onward in
@@ -75,20 +76,17 @@ module _ (margins : Margins) (list : List ℕ) (spot : Spot) (n : ℕ) (piece : 
         ends = ended ∙ sym (ends_at skipped known);
         pieces = rw there (pieces_cons list spot standing inside behind (rw end at passed));
         standing = rw there passed.standing;
-        part = part;
-        inside = omega (arith, standing.inside);
         onward = omega arith;
         more = λ on. rw there (passed.more (omega (arith, leb-false (length list) spot.end (or_left _ _ (sym ended ∙ on)))));
         small = omega arith;
       }
 
   -- a piece that is ignored
-  pub stepped_ignored : {last : Bool} → lay.ignored ≡ true → last ≡ leb (length list) spot.end
-      → Stepped margins list spot n (record { before = 0; from = spot.at; to = spot.at; behind = 0; ends = last; spot = behind })
+  pub stepped_ignored : {last : Bool} {text : Bor (List ℕ)} → text.now ≡ [] → lay.ignored ≡ true → last ≡ leb (length list) spot.end
+      → Stepped margins list spot n (record { before = 0; text = text; behind = 0; ends = last; spot = behind })
   unfolding added all_blank
-  stepped_ignored skipped last =
-      stepped _ true [] skipped refl refl (omega arith) (omega (arith, piece_some list spot standing inside, end)) (omega arith)
-      (rw (lays_at.ignored ∙ skipped, slice_empty spot.at list)) refl (λ _. refl)
+  stepped_ignored none skipped last =
+      stepped _ true [] skipped refl (rw none (omega arith)) (rw (lays_at.ignored ∙ skipped, none)) refl (λ _. refl)
       (last ∙ rw (and-false piece.newline) (sym (or-false (leb (length list) spot.end))))
 
   -- what any other adds
@@ -97,18 +95,19 @@ module _ (margins : Margins) (list : List ℕ) (spot : Spot) (n : ℕ) (piece : 
   added_kept kept = rw (lays_at.ignored ∙ kept, end) (lays_at.bytes kept)
 
   -- any other
-  pub stepped_kept : {ended : Bool} → lay.ignored ≡ false → ended ≡ (leb (length list) spot.end || piece.newline)
-      → Stepped margins list spot n (record { before = lay.before; from = spot.at; to = piece.end; behind = lay.behind; ends = ended; spot = behind })
+  pub stepped_kept : {ended : Bool} {text : Bor (List ℕ)} → text.now ≡ slice spot.at piece.end list → lay.ignored ≡ false → ended ≡ (leb (length list) spot.end || piece.newline)
+      → Stepped margins list spot n (record { before = lay.before; text = text; behind = lay.behind; ends = ended; spot = behind })
   unfolding all_blank
-  stepped_kept kept ended =
-      stepped _ false [] kept refl refl (omega (arith, piece_some list spot standing inside, end)) (omega arith) (omega (arith, lays_at.small))
-      (added_kept kept ∙ sym (append-nil _)) refl (λ _. refl)
+  stepped_kept part kept ended =
+      let to : piece.end ≤ length list = omega (arith, piece_within list spot standing inside, end, standing.inside) in
+      stepped _ false [] kept refl (rw part (omega (arith, lays_at.small, length-slice spot.at piece.end list to)))
+      (rw part (added_kept kept ∙ sym (append-nil _))) refl (λ _. refl)
       (rw (and-true piece.newline) ended)
 
   -- a newline that ends the line, of which nothing is laid
-  pub stepped_none : lay.ignored ≡ false → piece.newline ≡ true → slice spot.at piece.end list ≡ 10 ∷ []
-      → Stepped margins list spot n (record { before = 0; from = spot.at; to = spot.at; behind = 0; ends = true; spot = behind })
-  stepped_none kept newlined one =
+  pub stepped_none : {none : Bor (List ℕ)} → none.now ≡ [] → lay.ignored ≡ false → piece.newline ≡ true → slice spot.at piece.end list ≡ 10 ∷ []
+      → Stepped margins list spot n (record { before = 0; text = none; behind = 0; ends = true; spot = behind })
+  stepped_none empty kept newlined one =
       let text = slice spot.at piece.end list in
       let adds = added_kept kept in
       let size : length (added margins n (piece_at list spot)) ≡ lay.before + (1 + lay.behind) =
@@ -122,9 +121,9 @@ module _ (margins : Margins) (list : List ℕ) (spot : Spot) (n : ℕ) (piece : 
         spaces_blank lay.behind,
         newline_blank,
       ) in
-      stepped _ false (added margins n (piece_at list spot)) kept refl refl (omega arith) (omega (arith, piece_some list spot standing inside, end))
-      (omega (arith, lays_at.small, size, piece_some list spot standing inside, end))
-      (rw (slice_empty spot.at list)) blank (λ e. true_false e)
+      stepped _ false (added margins n (piece_at list spot)) kept refl
+      (rw empty (omega (arith, lays_at.small, size, piece_some list spot standing inside, end)))
+      (rw empty) blank (λ e. true_false e)
       (rw newlined (sym (or-true (leb (length list) spot.end))))
 
 -- ---- a piece without a newline, of a chunk that another follows
@@ -145,12 +144,13 @@ module _ (margins : Margins) (list : List ℕ) (spot : Spot) (n : ℕ) (lay : La
     (narrow : Narrow margins) (standing : Standing list spot) (inside : spot.at < length list) (whole : Whole list spot)
     (is : lay ≡ lay_at margins list spot n (record { end = spot.end; newline = false })) (passed : Passed list spot spot.end behind) where
   -- it is all of the rest of its chunk, and the line goes on behind it
-  pub stepped_whole : Stepped margins list spot n (record { before = lay.before; from = spot.at; to = spot.end; behind = lay.behind; ends = false; spot = behind })
-  stepped_whole =
+  pub stepped_whole : {text : Bor (List ℕ)} → text.now ≡ slice spot.at spot.end list
+      → Stepped margins list spot n (record { before = lay.before; text = text; behind = lay.behind; ends = false; spot = behind })
+  stepped_whole part =
       let far = ltb-false (newline_at (rest_at list spot)) (spot.end - spot.at) whole.plain in
       let end : spot.end ≡ piece_end list spot = omega (arith, length-slice spot.at spot.end list standing.inside, standing.within) in
       let kept : lay.ignored ≡ false = rw is (lay_plain margins spot.ty n (spot.end - spot.at) (following (chunks_at list spot.end))) in
-      stepped_kept margins list spot n (record { end = spot.end; newline = false }) lay behind narrow standing inside end (sym whole.plain) is passed kept
+      stepped_kept margins list spot n (record { end = spot.end; newline = false }) lay behind narrow standing inside end (sym whole.plain) is passed part kept
       (sym (rw (lt-leb (length list) spot.end whole.more)))
 
 -- ---- a lone newline
@@ -162,10 +162,10 @@ module _ (margins : Margins) (list : List ℕ) (spot : Spot) (n : ℕ) (behind :
   lone_text = slice_one spot.at spot.end list lone.one standing.inside ∙ rw lone.newline
 
   -- so nothing of it is laid, whether it ends the line or is ignored
-  pub stepped_newline : {ended : Bool} → ended ≡ not (ltb 0 n && leb n margins.label)
-      → Stepped margins list spot n (record { before = 0; from = spot.at; to = spot.at; behind = 0; ends = ended; spot = behind })
+  pub stepped_newline : {ended : Bool} {none : Bor (List ℕ)} → none.now ≡ [] → ended ≡ not (ltb 0 n && leb n margins.label)
+      → Stepped margins list spot n (record { before = 0; text = none; behind = 0; ends = ended; spot = behind })
   unfolding newline_at
-  stepped_newline told =
+  stepped_newline empty told =
       let piece : PieceEnd = record { end = spot.end; newline = true } in
       let lay = lay_at margins list spot n piece in
       let end : spot.end ≡ piece_end list spot = rw lone_text (omega (arith, lone.one)) in
@@ -173,11 +173,11 @@ module _ (margins : Margins) (list : List ℕ) (spot : Spot) (n : ℕ) (behind :
       by_test (ltb 0 n && leb n margins.label)
       (λ skips.
       let skipped : lay.ignored ≡ true = rw (lone.code, lone.one, skips) in
-      stepped_ignored margins list spot n piece lay behind narrow standing inside end newline refl passed skipped
+      stepped_ignored margins list spot n piece lay behind narrow standing inside end newline refl passed empty skipped
       (told ∙ ap not skips ∙ sym (lt-leb (length list) spot.end lone.more)))
       (λ keeps.
       let kept : lay.ignored ≡ false = rw (lone.code, lone.one, keeps) in
-      rw (told ∙ ap not keeps) (stepped_none margins list spot n piece lay behind narrow standing inside end newline refl passed kept refl lone_text))
+      rw (told ∙ ap not keeps) (stepped_none margins list spot n piece lay behind narrow standing inside end newline refl passed empty kept refl lone_text))
 
 -- a line that has bytes keeps it where it is longer than the label margin
 pub keeps_is : (n label : ℕ) → 0 < n → ltb label n ≡ not (ltb 0 n && leb n label)

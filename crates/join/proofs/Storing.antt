@@ -1,20 +1,23 @@
--- Runs that are stored one over the other.
+-- Runs that are stored one behind the other.
 use mathlib.Core.Path.{◌≡◌, refl, sym, ap, ◌∙◌}
 use mathlib.Core.List.{List, [], ◌∷◌, ◌++◌}
-use Prim.Native.Nat.{ℕ, zero, suc, ◌+◌, ◌-◌, ◌/◌, ◌≤◌, ◌<◌}
+use Prim.Native.Nat.{ℕ, suc, ◌+◌, ◌-◌, ◌*◌, ◌/◌, ◌≤◌, ◌<◌}
 use native.Mathlib.Omega.{arith}
 use lib.ListN.{length, get_or, take, drop, set, take-append-drop, length-replicate}
-use lib.Seq.{slice, sets, sets-eq, length-sets, length-slice, length-take-le, take_all, take-take, take-suc, take-set-le, drop-set-lt, drop-append-le}
-use borrow.Author.Tests.{le-leb}
+use lib.Seq.{slice, sets, sets-eq, length-sets, length-slice, length-take-le, take_all, take-take, take-set-le, drop-set-lt}
+use Rattle.std.proofs.lemmas.Slice.{take-put_mid, drop-put_mid}
+use borrow.Rule.Slice.PartMut.{put_mid}
 use Rattle.text.specs.Ink.{spaces}
-use Rattle.text.specs.Stores.{stored_buffer}
-use Rattle.text.proofs.Buffers.{sets_append}
 use Rattle.text.proofs.Parts.{part_slice}
-use Rattle.join.specs.Walk.{puts}
+use Rattle.text.proofs.Buffers.{sets_append}
+use Rattle.join.specs.Sinks.{puts}
+use Rattle.join.specs.Walk.{step_bytes, step_length}
 use Rattle.join.specs.declared.piece.Step.{Step}
-use Rattle.join.specs.declared.line.Window.{Window}
+use Rattle.join.specs.declared.sink.Window.{Window}
 use Rattle.join.proofs.Pieces.{slice_one}
-use Rattle.join.proofs.Windows.{step_bytes, puts_slice, step_length}
+use Rattle.join.proofs.Windows.{puts_slice, step_count}
+
+-- ---- runs that are stored one over the other
 
 -- what stands before a run is left
 take_sets : (bytes text : List ℕ) (at n : ℕ) → n ≤ at → take n (sets text at bytes) ≡ take n text
@@ -89,58 +92,58 @@ few_stored text bytes place some few room =
       set_on text bytes place last (middle + 1) (last + 1) (omega arith) (omega arith) refl (omega arith) (omega arith),
     ) (ap (sets text place) (take_all (last + 1) bytes (omega arith)))
 
--- bytes stored one behind the other: `count` behind the first
-abbrev pub one_by_one : List ℕ → ℕ → List ℕ → ℕ → ℕ → List ℕ
-one_by_one text place bytes at zero = set text place (get_or bytes at 0)
-one_by_one text place bytes at (suc count) = set (one_by_one text place bytes at count) (place + suc count) (get_or bytes (at + suc count) 0)
+-- ---- parts
 
--- a part with one byte more
-slice_more : (from to : ℕ) (list : List ℕ) → from ≤ to → to < length list → slice from (suc to) list ≡ slice from to list ++ (get_or list to 0 ∷ [])
-slice_more from to list order inside =
-    rw (take-suc list to 0 inside) (drop-append-le from (take to list) (get_or list to 0 ∷ []) (omega (arith, length-take-le to list (omega arith))))
+-- a part of a text that was written over is a run stored in it
+pub part_stored : (text bytes : List ℕ) (place count : ℕ) {part : List ℕ} → part ≡ bytes → count ≡ length bytes → place + length bytes ≤ length text
+    → put_mid place count text part ≡ sets text place bytes
+part_stored text bytes place count {part} same size room =
+    let n = place + length bytes in
+    let whole : put_mid place count text bytes ≡ sets text place bytes =
+    sym (take-append-drop n (put_mid place count text bytes))
+    ∙ rw (
+      take-put_mid place count text bytes n refl (omega arith),
+      drop-put_mid place count text bytes n (omega arith) (omega arith) (sym size),
+      sets-eq bytes text place room,
+    ) in
+    rw same whole
 
--- they are a run
-pub run_stored : (text : List ℕ) (place : ℕ) (bytes : List ℕ) (at count : ℕ) → at + suc count ≤ length bytes
-    → one_by_one text place bytes at count ≡ sets text place (slice at (at + suc count) bytes)
-run_stored text place bytes at zero inside = sym (ap (sets text place) (slice_one at (at + 1) bytes (omega arith) inside))
-run_stored text place bytes at (suc count) inside =
-    let to : ℕ = at + suc count in
-    let part = slice at to bytes in
-    let next : at + suc (suc count) ≡ suc to = omega arith in
-    let size : length part ≡ suc count = omega (arith, length-slice at to bytes (omega arith)) in
-    rw (run_stored text place bytes at count (omega arith), next, slice_more at to bytes (omega arith) (omega arith))
-    (sym (sets_append text place part (get_or bytes to 0 ∷ []) ∙ rw size))
+-- the first bytes and the last ones, which meet or overlap, are all of them
+pub ends_stored : (text bytes : List ℕ) (place n : ℕ) {front back : List ℕ} → n ≤ length bytes → length bytes ≤ 2 * n → place + length bytes ≤ length text
+    → front ≡ take n bytes → back ≡ take (length bytes - n + n - (length bytes - n)) (drop (length bytes - n) bytes)
+    → put_mid (place + (length bytes - n)) (place + (length bytes - n) + n - (place + (length bytes - n))) (put_mid place (place + n - place) text front) back
+    ≡ sets text place bytes
+ends_stored text bytes place n {front} {back} some few room first last =
+    let start = length bytes - n in
+    let end : start + n ≡ length bytes = omega arith in
+    let tail : back ≡ slice start (start + n) bytes = last ∙ part_slice start (start + n) bytes in
+    let count : length (take n bytes) ≡ n = length-take-le n bytes some in
+    let count' : length (slice start (start + n) bytes) ≡ n = omega (arith, length-slice start (start + n) bytes (omega arith)) in
+    let base : put_mid place (place + n - place) text front ≡ sets text place (take n bytes) = part_stored text (take n bytes) place (place + n - place) first (omega arith) (omega arith) in
+    let long = length-sets text place (take n bytes) in
+    rw base (part_stored (sets text place (take n bytes)) (slice start (start + n) bytes) (place + start) (place + start + n - (place + start)) tail (omega arith) (omega arith)
+    ∙ sets_rest text bytes place start n (start + n) (omega arith) (omega arith) end (omega arith))
 
--- ---- a step
-
--- spaces that have room are all stored
-pub spaces_stored : (text : List ℕ) (place count : ℕ) → place + count ≤ length text → stored_buffer text place (spaces count) ≡ sets text place (spaces count)
-spaces_stored text place count room =
-    let fits : place + length (spaces count) ≤ length text = rw (length-replicate {A = ℕ} count 32) room in
-    rw (le-leb _ _ fits)
-
--- its spaces before, its text and its spaces behind, stored one behind the other
-pub sets_step : (text : List ℕ) (place : ℕ) (list : List ℕ) (step : Step) {padded laid stored : List ℕ} → step.to ≤ length list
+-- the spaces before, the text and the spaces behind of a step, stored one behind the other
+pub sets_step : (text : List ℕ) (place : ℕ) (step : Step) {padded laid stored : List ℕ}
     → padded ≡ sets text place (spaces step.before)
-    → laid ≡ sets padded (place + step.before) (take (step.to - step.from) (drop step.from list))
-    → stored ≡ sets laid (place + step.before + (step.to - step.from)) (spaces step.behind)
-    → stored ≡ sets text place (step_bytes list step)
-sets_step text place list step inside e f g =
-    let part = slice step.from step.to list in
-    let behind = sets_append (sets text place (spaces step.before)) (place + step.before) part (spaces step.behind) in
-    rw (g, f, e, part_slice step.from step.to list, ← (length-slice step.from step.to list inside))
-    (sym (sets_append text place (spaces step.before) (part ++ spaces step.behind) ∙ rw (length-replicate {A = ℕ} step.before 32) behind))
+    → laid ≡ sets padded (place + step.before) step.text.now
+    → stored ≡ sets laid (place + step.before + length step.text.now) (spaces step.behind)
+    → stored ≡ sets text place (step_bytes step)
+sets_step text place step e f g =
+    let behind = sets_append (sets text place (spaces step.before)) (place + step.before) step.text.now (spaces step.behind) in
+    rw (g, f, e)
+    (sym (sets_append text place (spaces step.before) (step.text.now ++ spaces step.behind) ∙ rw (length-replicate {A = ℕ} step.before 32) behind))
 
 -- bytes of which the window shows all are stored as they are
 puts_all : (text : List ℕ) (window : Window) (at : ℕ) (bytes : List ℕ) → window.low ≤ at → at + length bytes ≤ window.high
-    → sets text (window.base + (at - window.low)) bytes ≡ puts text window at bytes
+    → sets text (window.base + (at - window.low)) bytes ≡ puts window text at bytes
 puts_all text window at bytes before within =
     let none : window.low - at ≡ 0 = omega arith in
     sym (puts_slice text window at bytes ∙ rw (none, take_all (window.high - at) bytes (omega arith)))
 
 -- so is a step
-pub step_shown : (text : List ℕ) (window : Window) (at : ℕ) (list : List ℕ) (step : Step) {stored : List ℕ} → step.to ≤ length list → window.low ≤ at
-    → at + step.before + (step.to - step.from) + step.behind ≤ window.high
-    → stored ≡ sets text (window.base + (at - window.low)) (step_bytes list step) → stored ≡ puts text window at (step_bytes list step)
-step_shown text window at list step inside before within e =
-    e ∙ puts_all text window at (step_bytes list step) before (omega (arith, step_length list step inside))
+pub step_shown : (text : List ℕ) (window : Window) (at : ℕ) (step : Step) {stored : List ℕ} → window.low ≤ at → at + step_length step ≤ window.high
+    → stored ≡ sets text (window.base + (at - window.low)) (step_bytes step) → stored ≡ puts window text at (step_bytes step)
+step_shown text window at step before within e =
+    e ∙ puts_all text window at (step_bytes step) before (omega (arith, step_count step))

@@ -6,30 +6,20 @@ use Prim.Native.Nat.{ℕ, suc, ◌+◌, ◌-◌, ◌≤◌, ◌<◌, min, max}
 use native.Mathlib.Omega.{arith}
 use native.Mathlib.Nat.{le_refl, le_trans, add-le-add, min-le_left}
 use lib.ListN.{length, take, drop, set, length-append, length-replicate, replicate-append-replicate, length-take}
-use lib.Seq.{slice, sets, drop-nil, take-nil, drop_at, take_at, take_all, take-length, length-slice, slice_empty}
+use lib.Seq.{slice, sets, drop-nil, take-nil, drop_at, take_at, take_all, take-length}
 use lib.Dec.{ltb, leb}
 use borrow.Author.Tests.{ltb-true, ltb-false, leb-true, leb-false}
 use Rattle.text.specs.Ink.{spaces}
 use Rattle.text.proofs.Choices.{by_test}
 use Rattle.text.proofs.Parts.{part_slice}
-use Rattle.join.specs.Walk.{put, puts, Room, Empty}
+use Rattle.join.specs.Sinks.{puts, puts_writes, Room}
+use Rattle.join.specs.Walk.{step_bytes, step_length}
 use Rattle.join.specs.declared.piece.Step.{Step}
-use Rattle.join.specs.declared.line.Window.{Window}
-
--- bytes and then more behind them are written at once
-pub puts_append : (text : List ℕ) (window : Window) (at : ℕ) (xs ys : List ℕ)
-    → puts text window at (xs ++ ys) ≡ puts (puts text window at xs) window (at + length xs) ys
-unfolding puts
-puts_append text window at [] ys =
-    let same : at + 0 ≡ at = omega arith in
-    rw same
-puts_append text window at (x ∷ xs) ys =
-    let same : at + suc (length xs) ≡ at + 1 + length xs = omega arith in
-    rw same (puts_append (put text window at x) window (at + 1) xs ys)
+use Rattle.join.specs.declared.sink.Window.{Window}
 
 -- bytes at a place of a line, written through a window, are one run: the part that the window shows
 pub puts_slice : (text : List ℕ) (window : Window) (at : ℕ) (bytes : List ℕ)
-    → puts text window at bytes ≡ sets text (window.base + (at - window.low)) (slice (window.low - at) (window.high - at) bytes)
+    → puts window text at bytes ≡ sets text (window.base + (at - window.low)) (slice (window.low - at) (window.high - at) bytes)
 unfolding puts
 puts_slice text window at [] = rw (take-nil {A = ℕ} (window.high - at), drop-nil {A = ℕ} (window.low - at))
 puts_slice text window at (b ∷ bytes) =
@@ -88,20 +78,20 @@ shown_room window at n room first last some fits = omega arith
 
 module _ (text : List ℕ) (window : Window) (at : ℕ) (bytes : List ℕ) {from to : ℕ} (first : from ≡ max at window.low) (last : to ≡ min (at + length bytes) window.high) where
   -- the part that the window shows, as the code counts it
-  puts_part : puts text window at bytes ≡ sets text (window.base + (from - window.low)) (take (to - at - (from - at)) (drop (from - at) bytes))
+  puts_part : puts window text at bytes ≡ sets text (window.base + (from - window.low)) (take (to - at - (from - at)) (drop (from - at) bytes))
   puts_part =
       let start = later at window.low from first in
       let end : to - at ≡ min (window.high - at) (length bytes) = omega arith in
       puts_slice text window at bytes ∙ rw (part_slice (from - at) (to - at) bytes, start.0, start.1, end, take_clipped (window.high - at) bytes)
 
   -- bytes of which the window shows none leave the text as it is
-  pub puts_hidden : to ≤ from → text ≡ puts text window at bytes
+  pub puts_hidden : to ≤ from → text ≡ puts window text at bytes
   puts_hidden none =
       let nothing : to - at - (from - at) ≡ 0 = omega arith in
       sym (puts_part ∙ rw nothing)
 
   -- bytes of which the window shows some are stored as that part of them
-  pub puts_shown : sets text (window.base + (from - window.low)) (take (to - at - (from - at)) (drop (from - at) bytes)) ≡ puts text window at bytes
+  pub puts_shown : sets text (window.base + (from - window.low)) (take (to - at - (from - at)) (drop (from - at) bytes)) ≡ puts window text at bytes
   puts_shown = sym puts_part
 
   -- which has room
@@ -114,7 +104,7 @@ module _ (text : List ℕ) (window : Window) (at : ℕ) (bytes : List ℕ) {from
 
 -- spaces of which the window shows some are stored as so many spaces
 pub spaces_shown : (text : List ℕ) (window : Window) (at count : ℕ) {from to : ℕ} → from ≡ max at window.low → to ≡ min (at + count) window.high
-    → from < to → sets text (window.base + (from - window.low)) (spaces (to - from)) ≡ puts text window at (spaces count)
+    → from < to → sets text (window.base + (from - window.low)) (spaces (to - from)) ≡ puts window text at (spaces count)
 spaces_shown text window at count {from} {to} first last some =
     let within : from - at + (to - from) ≤ count = omega arith in
     rw (← (spaces_part (from - at) (to - from) count within), ← (part_count at from to (omega arith)))
@@ -122,29 +112,17 @@ spaces_shown text window at count {from} {to} first last some =
 
 -- ---- a step
 
--- the bytes of a step
-abbrev pub step_bytes : List ℕ → Step → List ℕ
-step_bytes list step = spaces step.before ++ (slice step.from step.to list ++ spaces step.behind)
-
--- how many these are
-pub step_length : (list : List ℕ) (step : Step) → step.to ≤ length list → length (step_bytes list step) ≡ step.before + (step.to - step.from) + step.behind
-step_length list step inside = simp (length-append, length-replicate, length-slice step.from step.to list inside) (omega arith)
+-- how many bytes a step has
+pub step_count : (step : Step) → length (step_bytes step) ≡ step_length step
+step_count step = simp (length-append, length-replicate) (omega arith)
 
 -- its spaces before, its text and its spaces behind, written one behind the other
-pub puts_step : (text : List ℕ) (window : Window) (at : ℕ) (list : List ℕ) (step : Step) {padded laid written : List ℕ} → step.to ≤ length list
-    → padded ≡ puts text window at (spaces step.before)
-    → laid ≡ puts padded window (at + step.before) (take (step.to - step.from) (drop step.from list))
-    → written ≡ puts laid window (at + step.before + (step.to - step.from)) (spaces step.behind)
-    → written ≡ puts text window at (step_bytes list step)
-puts_step text window at list step inside e f g =
-    let part = slice step.from step.to list in
-    let behind = puts_append (puts text window at (spaces step.before)) window (at + step.before) part (spaces step.behind) in
-    rw (g, f, e, part_slice step.from step.to list, ← (length-slice step.from step.to list inside))
-    (sym (puts_append text window at (spaces step.before) (part ++ spaces step.behind) ∙ rw (length-replicate {A = ℕ} step.before 32) behind))
-
--- an empty step has none
-pub step_none : (list : List ℕ) (step : Step) → Empty step → step_bytes list step ≡ []
-step_none list step empty =
-    ap (λ (n : ℕ). spaces n ++ (slice step.from step.to list ++ spaces step.behind)) empty.before
-    ∙ ap (λ (n : ℕ). slice step.from step.to list ++ spaces n) empty.behind
-    ∙ ap (λ (from : ℕ). slice from step.to list ++ []) empty.none ∙ rw (slice_empty step.to list)
+pub puts_step : (text : List ℕ) (window : Window) (at : ℕ) (step : Step) {padded laid written : List ℕ}
+    → padded ≡ puts window text at (spaces step.before)
+    → laid ≡ puts window padded (at + step.before) step.text.now
+    → written ≡ puts window laid (at + step.before + length step.text.now) (spaces step.behind)
+    → written ≡ puts window text at (step_bytes step)
+puts_step text window at step e f g =
+    let behind = (puts_writes window).more (puts window text at (spaces step.before)) (at + step.before) step.text.now (spaces step.behind) in
+    rw (g, f, e)
+    (sym ((puts_writes window).more text at (spaces step.before) (step.text.now ++ spaces step.behind) ∙ rw (length-replicate {A = ℕ} step.before 32) behind))

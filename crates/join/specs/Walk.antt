@@ -1,5 +1,5 @@
 -- Not part of any promise of this crate: what its inner functions hand on, in terms of places in the stored list and of measures of a line.
-use Rattle.std.specs.Prelude.{ℕ, ◌+◌, ◌-◌, ◌*◌, ◌≤◌, ◌<◌, min, ◌≡◌, List, [], ◌∷◌, ◌++◌, Bool, true, false, cond, not, ◌&&◌, ◌||◌, length, get_or, set, take, eqb, ltb, leb, Option, Some, None}
+use Rattle.std.specs.Prelude.{ℕ, ◌+◌, ◌-◌, ◌*◌, ◌≤◌, ◌<◌, min, ◌≡◌, List, [], ◌∷◌, ◌++◌, Bool, true, false, Option, Some, None, cond, not, ◌&&◌, ◌||◌, length, get_or, take, eqb, ltb, leb}
 use Rattle.std.proofs.Math.Seq.{slice}
 use Rattle.text.specs.Characters as characters
 use Rattle.text.specs.Ink.{all_blank, leading_blanks, ink_end, spaces}
@@ -19,7 +19,8 @@ use Rattle.join.specs.declared.piece.Spot.{Spot}
 use Rattle.join.specs.declared.piece.Lay.{Lay}
 use Rattle.join.specs.declared.piece.Step.{Step}
 use Rattle.join.specs.declared.line.Measure.{Measure}
-use Rattle.join.specs.declared.line.Window.{Window}
+use Rattle.join.specs.declared.sink.Window.{Window}
+use Rattle.join.specs.Sinks.{Puts}
 use Rattle.join.specs.declared.line.Walked.{Walked}
 use Rattle.join.specs.declared.lines.Past.{Past}
 use Rattle.join.specs.declared.lines.Cut.{Cut}
@@ -44,6 +45,11 @@ pub record Standing (list : List ℕ) (spot : Spot) : Type 0 where
   pub within : spot.at ≤ spot.end
   pub small : spot.indent ≤ 4096
   pub laid : Laid list spot.end
+
+-- a spot in the text of a chunk
+pub record Inside (list : List ℕ) (spot : Spot) : Type 0 where
+  pub standing : Standing list spot
+  pub some : spot.at < length list
 
 -- the pieces from a spot on
 unfoldable pub pieces_at : List ℕ → Spot → List Piece
@@ -113,35 +119,31 @@ pub record LoneNewline (list : List ℕ) (spot : Spot) : Type 0 where
   pub newline : get_or list spot.at 0 ≡ characters.newline
   pub more : spot.end < length list
 
+-- the bytes of a step
+abbrev pub step_bytes : Step → List ℕ
+step_bytes step = spaces step.before ++ (step.text.now ++ spaces step.behind)
+
+-- how many these are
+abbrev pub step_length : Step → ℕ
+step_length step = step.before + length step.text.now + step.behind
+
 -- a step over the piece at a spot, on a line of n bytes. Where it ends the line it may leave blanks out, which are cut in any case.
 pub record Stepped (margins : Margins) (list : List ℕ) (spot : Spot) (n : ℕ) (step : Step) : Type 0 where
   pub rest : List ℕ
-  pub bytes : added margins n (piece_at list spot) ≡ (spaces step.before ++ (slice step.from step.to list ++ spaces step.behind)) ++ rest
+  pub bytes : added margins n (piece_at list spot) ≡ step_bytes step ++ rest
   pub blank : all_blank rest ≡ true
   pub all : step.ends ≡ false → rest ≡ []
   pub ends : step.ends ≡ ends margins n (piece_at list spot)
   pub pieces : pieces_at list spot ≡ piece_at list spot ∷ pieces_at list step.spot
   pub standing : Standing list step.spot
-  pub part : step.from ≤ step.to
-  pub inside : step.to ≤ length list
   pub onward : spot.at < step.spot.at
   pub more : step.ends ≡ false → step.spot.at < length list
-  pub small : step.before + (step.to - step.from) + step.behind + length rest ≤ 512 * (step.spot.at - spot.at)
-
--- no byte between two places is a newline
-abbrev pub Clear : List ℕ → ℕ → ℕ → Type 0
-Clear list from to = (i : ℕ) → from ≤ i → i < to → get_or list i 0 ≡ characters.newline → ⊥
+  pub small : step_length step + length rest ≤ 512 * (step.spot.at - spot.at)
 
 -- the rest of the chunk at a spot has no newline, and another chunk follows
 pub record Whole (list : List ℕ) (spot : Spot) : Type 0 where
   pub more : spot.end < length list
   pub plain : ltb (newline_at (slice spot.at spot.end list)) (spot.end - spot.at) ≡ false
-
--- a step that adds nothing
-pub record Empty (step : Step) : Type 0 where
-  pub before : step.before ≡ 0
-  pub behind : step.behind ≡ 0
-  pub none : step.from ≡ step.to
 
 -- ---- a line by its measures
 
@@ -182,6 +184,10 @@ first_line margins line (piece ∷ pieces) =
 unfoldable pub line_at : Margins → List ℕ → Spot → First
 line_at margins list spot = first_line margins fresh (pieces_at list spot)
 
+-- its bytes
+abbrev pub bytes_at : Margins → List ℕ → Spot → List ℕ
+bytes_at margins list spot = (line_at margins list spot).line.bytes
+
 -- what the walk of a line finds
 pub record LineWalked (margins : Margins) (list : List ℕ) (spot : Spot) (walked : Walked) : Type 0 where
   pub inked : Inked walked.measure (line_at margins list spot).line.bytes
@@ -199,8 +205,10 @@ pub record Longer (margins : Margins) (list : List ℕ) (line : Line) (spot : Sp
   pub takes : taken indent here ≡ taken-there
   pub left : first_line margins line (pieces_at list spot) ≡ first_line margins (record { bytes = line.bytes ++ more; indent = indent }) (pieces_at list here)
 
--- a line that is open at a spot, whichever it is, went on to another by chunks without a newline
-pub record Ran (margins : Margins) (list : List ℕ) (spot : Spot) (measure : Measure) (indent : Option ℕ) (reached : Measure) (here : Spot) : Type 0 where
+-- ---- a line that is given on while it is walked
+
+-- a line that is open at a spot, whichever it is, went on to another by chunks without a newline, and these were given on
+pub record Ran (margins : Margins) (list : List ℕ) (spot : Spot) (put : Puts) (before text : List ℕ) (measure : Measure) (indent : Option ℕ) (reached : Measure) (here : Spot) : Type 0 where
   pub more : List ℕ
   pub longer : (line : Line) → length line.bytes ≡ measure.length → taken line.indent spot ≡ indent → Longer margins list line spot more here indent
   pub measured : (bytes : List ℕ) → Measured measure bytes → Measured reached (bytes ++ more)
@@ -210,52 +218,34 @@ pub record Ran (margins : Margins) (list : List ℕ) (spot : Spot) (measure : Me
   pub some : here.at < length list
   pub onward : spot.at ≤ here.at
   pub small : reached.length + 512 * spot.at ≤ measure.length + 512 * here.at
+  pub written : text ≡ put before measure.length more
 
--- ---- bytes written through a window: byte `at` of a line, where it is one of low to high
-
-abbrev pub put : List ℕ → Window → ℕ → ℕ → List ℕ
-put text window at b = cond (leb window.low at && ltb at window.high) (set text (window.base + (at - window.low)) b) text
-
-unfoldable pub puts : List ℕ → Window → ℕ → List ℕ → List ℕ
-puts text window at [] = text
-puts text window at (b ∷ bs) = puts (put text window at b) window (at + 1) bs
-
--- what the window shows of a line is written, but for blanks at its end where it has ended
-pub record Showing (window : Window) (before text bytes : List ℕ) (ended : Bool) : Type 0 where
+-- a line was given on, but for blanks at its end where it has ended
+pub record Showing (put : Puts) (before text bytes : List ℕ) (ended : Bool) : Type 0 where
   pub shown : List ℕ
   pub rest : List ℕ
   pub parts : bytes ≡ shown ++ rest
   pub blank : all_blank rest ≡ true
   pub all : ended ≡ false → rest ≡ []
-  pub written : text ≡ puts before window 0 shown
-
--- what the window shows of a line that went on is written
-pub record RanShown (margins : Margins) (list : List ℕ) (spot : Spot) (window : Window) (before text : List ℕ) (measure : Measure) (indent : Option ℕ) (reached : Measure) (here : Spot) : Type 0 where
-  pub ran : Ran margins list spot measure indent reached here
-  pub written : text ≡ puts before window measure.length ran.more
-
--- the window lies within a text of n bytes
-abbrev pub Room : Window → ℕ → Type 0
-Room window n = window.base + (window.high - window.low) ≤ n
+  pub written : text ≡ put before 0 shown
 
 -- ---- the text so far, and a line that is set behind it
 
-abbrev pub cut_of : Margins → Past → Measure → ℕ → Cut
+-- how an ended line is set, if it is kept
+abbrev pub cut_of : Margins → Past → Measure → ℕ → Option Cut
 cut_of margins past measure indent =
     cond (eqb measure.ink_end 0)
-    (record { kept = not (past.blank || past.standalone); standalone = false; lead = 0; low = 0; high = 0 })
+    (cond (past.blank || past.standalone) None (Some (record { standalone = false; lead = 0; low = 0; high = 0 })))
     (cond (leb (margins.label + margins.code) measure.leading)
-    (record { kept = true; standalone = true; lead = indent + margins.label; low = margins.label + margins.code; high = measure.ink_end })
-    (record { kept = true; standalone = false; lead = indent; low = 0; high = measure.ink_end }))
+    (Some (record { standalone = true; lead = indent + margins.label; low = margins.label + margins.code; high = measure.ink_end }))
+    (Some (record { standalone = false; lead = indent; low = 0; high = measure.ink_end })))
 
 abbrev pub line_start : Past → ℕ
 line_start past = cond past.any (past.length + 1) past.length
 
 abbrev pub grown_by : Past → Cut → Past
 grown_by past cut =
-    cond cut.kept
-    (record { length = line_start past + cut.lead + (cut.high - cut.low); any = true; blank = eqb cut.high 0; standalone = cut.standalone })
-    past
+    record { length = line_start past + cut.lead + (cut.high - cut.low); any = true; blank = eqb cut.high 0; standalone = cut.standalone }
 
 -- a newline goes before each line but the first
 abbrev pub front : Bool → List ℕ
@@ -286,6 +276,6 @@ pub record Tried (past : Past) (guess : Guess) (bytes before text : List ℕ) : 
       → take (line_start past + guess.lead + (high - guess.low)) text
       ≡ take past.length before ++ (front past.any ++ (spaces guess.lead ++ slice guess.low high bytes))
 
--- a line is kept and stands elsewhere than was guessed
+-- a kept line stands elsewhere than was guessed
 abbrev pub astray : Cut → Guess → Bool
-astray cut guess = cut.kept && not (eqb cut.lead guess.lead && eqb cut.low guess.low)
+astray cut guess = not (eqb cut.lead guess.lead && eqb cut.low guess.low)

@@ -5,16 +5,20 @@ ghost use Rattle.text.specs.Ink.{ink_end};
 ghost use Rattle.text.specs.Stores.{stored_buffer};
 ghost use Rattle.chunks.specs.Reading.{chunks_of};
 ghost use Rattle.columns.specs.Setting.{text_of};
-ghost use Rattle.join.specs.Walk.{Narrow, Laid, Standing, line_at, LineWalked, cut_of, line_start, grown_by, front, cut_bytes, CutFits, Room, window_to, Tried, astray};
+ghost use Rattle.join.specs.Walk.{Inside, bytes_at, LineWalked, cut_of, line_start, grown_by};
+ghost use Rattle.join.specs.Walk.{front, cut_bytes, CutFits, window_to, Tried, astray};
+ghost use Rattle.join.specs.Sinks.{Room};
 
-use crate::line::{Measure, Walked, Window};
-use crate::piece::Spot;
+use crate::line::{Measure, Walked};
+use crate::piece::{Judged, Spot};
+use crate::sink::{Unwritten, Window};
 use crate::{line, piece};
 use chunks::stored::ChunkType;
 use columns::Margins;
 use text::{characters, stores};
 
-// The text so far: its length, whether it has a line, whether the last line kept is blank, and whether a standalone comment came last.
+// The text so far: its length, whether it has a line, whether the last line kept is blank, and whether a standalone
+// comment came last.
 #[derive(Clone, Copy)]
 pub struct Past {
     pub length: usize,
@@ -23,47 +27,47 @@ pub struct Past {
     pub standalone: bool,
 }
 
-// How an ended line is set: `lead` spaces, then its bytes from `low` to `high`.
+// How a kept line is set: `lead` spaces, then its bytes from `low` to `high`.
 #[derive(Clone, Copy)]
 pub struct Cut {
-    pub kept: bool,
     pub standalone: bool,
     pub lead: usize,
     pub low: usize,
     pub high: usize,
 }
 
-// What becomes of an ended line.
-pub(crate) fn cut_of(margins: Margins, past: Past, measure: Measure, indent: usize) -> Cut
-    requires { Narrow margins × (indent ≤ 4096) }
-    ensures { result ≡ cut_of margins past measure indent }
+// How an ended line is set, if it is kept.
+pub(crate) fn cut_of(judged: Judged, past: Past, measure: Measure, indent: usize) -> Option<Cut>
+    requires { indent ≤ 4096 }
+    ensures { result ≡ cut_of judged.entry.margins past measure indent }
 {
+    let Margins { label, code, .. } = judged.margins;
     if measure.ink_end == 0 {
-        return Cut {
-            kept: !past.blank && !past.standalone,
+        if past.blank || past.standalone {
+            return None;
+        }
+        return Some(Cut {
             standalone: false,
             lead: 0,
             low: 0,
             high: 0,
-        };
+        });
     }
-    let both = margins.label + margins.code;
+    let both = label + code;
     if both <= measure.leading {
-        return Cut {
-            kept: true,
+        return Some(Cut {
             standalone: true,
-            lead: indent + margins.label,
+            lead: indent + label,
             low: both,
             high: measure.ink_end,
-        };
+        });
     }
-    Cut {
-        kept: true,
+    Some(Cut {
         standalone: false,
         lead: indent,
         low: 0,
         high: measure.ink_end,
-    }
+    })
 }
 
 // Where the next line starts: a newline goes before each line but the first.
@@ -77,49 +81,35 @@ pub(crate) fn line_start(past: Past) -> usize
     past.length
 }
 
-// The text with an ended line.
+// The text with a kept line.
 pub(crate) fn grown(past: Past, cut: Cut) -> Past
     requires { (past.length < 4503599627370496) × CutFits cut 4294967296 }
     ensures { result ≡ grown_by past cut }
 {
-    if cut.kept {
-        return Past {
-            length: line_start(past) + cut.lead + (cut.high - cut.low),
-            any: true,
-            blank: cut.high == 0,
-            standalone: cut.standalone,
-        };
+    Past {
+        length: line_start(past) + cut.lead + (cut.high - cut.low),
+        any: true,
+        blank: cut.high == 0,
+        standalone: cut.standalone,
     }
-    past
 }
 
 // The newline that goes before each line but the first.
 pub(crate) fn put_newline(text: &mut [u8], past: Past)
     ensures { text.new ≡ stored_buffer text.old past.length (front past.any) }
 {
-    let length = past.length;
-    if past.any {
-        if length < text.len() {
-            text[length] = characters::NEWLINE;
-        }
+    if past.any && past.length < text.len() {
+        text[past.length] = characters::NEWLINE;
     }
 }
 
 // Writes a kept line behind the text so far.
-pub(crate) fn write_cut(
-    text: &mut [u8],
-    list: &[u8],
-    margins: Margins,
-    spot: Spot,
-    past: Past,
-    cut: Cut,
-)
-    requires narrow { Narrow margins × Standing list.now spot × (spot.at < length list.now)
-        × (length list.now ≤ 1048576) }
-    requires cut_fits { CutFits cut (ink_end (line_at margins list.now spot).line.bytes) }
-    requires line_in_bounds { let line = (line_at margins list.now spot).line.bytes in
+pub(crate) fn write_cut(text: &mut [u8], judged: Judged, spot: Spot, past: Past, cut: Cut)
+    requires inside { Inside judged.list.now spot }
+    requires cut_fits { CutFits cut (ink_end (bytes_at judged.margins judged.list.now spot)) }
+    requires line_in_bounds { let line = bytes_at judged.margins judged.list.now spot in
         past.length + length (cut_bytes past cut line) ≤ length text.old }
-    ensures { let line = (line_at margins list.now spot).line.bytes in
+    ensures { let line = bytes_at judged.entry.margins judged.entry.list.now spot in
         text.new ≡ sets text.old past.length (cut_bytes past cut line) }
 {
     let start = line_start(past);
@@ -127,11 +117,11 @@ pub(crate) fn write_cut(
     put_newline(text, past);
     stores::fill(text, start, cut.lead, characters::SPACE);
     let window = Window {
-        base: base,
+        base,
         low: cut.low,
         high: cut.high,
     };
-    line::write_line(text, window, list, margins, spot);
+    line::walk(window, text, judged, spot);
 }
 
 // Where a line is taken to stand before it was walked: behind `lead` spaces, from its byte `low` on.
@@ -152,23 +142,20 @@ fn first_indent(spot: Spot) -> usize
     0
 }
 
-// Where the line at a spot most often stands: one that starts with a comment is standalone. Whatever is guessed, the text comes out right.
-pub(crate) fn guess_of(margins: Margins, spot: Spot) -> Guess
-    requires { Narrow margins × (spot.indent ≤ 4096) }
+// Where the line at a spot most often stands: one that starts with a comment is standalone. Whatever is guessed, the
+// text comes out right.
+pub(crate) fn guess_of(judged: Judged, spot: Spot) -> Guess
+    requires { spot.indent ≤ 4096 }
     ensures { (result.lead ≤ 4351) × (result.low ≤ 510) }
 {
+    let Margins { label, code, .. } = judged.margins;
     let indent = first_indent(spot);
-    let ty = spot.ty;
-    match ty {
+    match spot.ty {
         ChunkType::Comment => Guess {
-            lead: indent + margins.label,
-            low: margins.label + margins.code,
+            lead: indent + label,
+            low: label + code,
         },
-        ChunkType::Code => Guess {
-            lead: indent,
-            low: 0,
-        },
-        ChunkType::Label => Guess {
+        ChunkType::Code | ChunkType::Label => Guess {
             lead: indent,
             low: 0,
         },
@@ -183,8 +170,8 @@ pub(crate) fn window_of(room: usize, base: usize, low: usize) -> Window
 {
     if base <= room {
         return Window {
-            base: base,
-            low: low,
+            base,
+            low,
             high: low + (room - base),
         };
     }
@@ -195,21 +182,20 @@ pub(crate) fn window_of(room: usize, base: usize, low: usize) -> Window
     }
 }
 
-// Writes the line at a spot as guessed, as far as there is room, while it is walked. Blanks at its end may be written too: what follows the line overwrites them.
+// Writes the line at a spot as guessed, as far as there is room, while it is walked. Blanks at its end may be written
+// too: what follows the line overwrites them.
 pub(crate) fn try_line(
     text: &mut [u8],
-    list: &[u8],
-    margins: Margins,
+    judged: Judged,
     spot: Spot,
     past: Past,
     guess: Guess,
 ) -> Walked
-    requires narrow { Narrow margins × Standing list.now spot × (spot.at < length list.now)
-        × (length list.now ≤ 1048576) }
+    requires inside { Inside judged.list.now spot }
     requires length_bound { (past.length < 4503599627370496) × (length text.old < 4503599627370496)
         × (guess.lead ≤ 4351) × (guess.low ≤ 510) }
-    ensures walked { LineWalked margins list.now spot result }
-    ensures tried { let line = (line_at margins list.now spot).line.bytes in
+    ensures walked { LineWalked judged.entry.margins judged.entry.list.now spot result }
+    ensures tried { let line = bytes_at judged.entry.margins judged.entry.list.now spot in
         Tried past guess line text.old text.new }
 {
     let start = line_start(past);
@@ -217,50 +203,36 @@ pub(crate) fn try_line(
     put_newline(text, past);
     stores::fill(text, start, guess.lead, characters::SPACE);
     let window = window_of(text.len(), base, guess.low);
-    line::walk_line(text, window, list, margins, spot)
+    line::walk(window, text, judged, spot)
 }
 
-// Whether a line is kept and stands elsewhere than was guessed.
+// Whether a kept line stands elsewhere than was guessed.
 pub(crate) fn is_astray(cut: Cut, guess: Guess) -> bool
     ensures { result ≡ astray cut guess }
 {
-    if !cut.kept {
-        return false;
-    }
-    if cut.lead != guess.lead {
-        return true;
-    }
-    cut.low != guess.low
+    cut.lead != guess.lead || cut.low != guess.low
 }
 
 // Writes a line anew that went astray.
-pub(crate) fn mend(
-    text: &mut [u8],
-    list: &[u8],
-    margins: Margins,
-    spot: Spot,
-    past: Past,
-    cut: Cut,
-    guess: Guess,
-)
-    requires narrow { Narrow margins × Standing list.now spot × (spot.at < length list.now)
-        × (length list.now ≤ 1048576) }
-    requires cut_fits { CutFits cut (ink_end (line_at margins list.now spot).line.bytes) }
-    requires fact { let line = (line_at margins list.now spot).line.bytes in
+pub(crate) fn mend(text: &mut [u8], judged: Judged, spot: Spot, past: Past, cut: Cut, guess: Guess)
+    requires inside { Inside judged.list.now spot }
+    requires cut_fits { CutFits cut (ink_end (bytes_at judged.margins judged.list.now spot)) }
+    requires fact { let line = bytes_at judged.margins judged.list.now spot in
         (astray cut guess ≡ true → past.length + length (cut_bytes past cut line) ≤ length text.old) }
-    ensures { let line = (line_at margins list.now spot).line.bytes in
+    ensures { let line = bytes_at judged.entry.margins judged.entry.list.now spot in
         text.new ≡ cond (astray cut guess)
         (sets text.old past.length (cut_bytes past cut line)) text.old }
 {
     if is_astray(cut, guess) {
-        write_cut(text, list, margins, spot, past, cut);
+        write_cut(text, judged, spot, past, cut);
     }
 }
 
-// The length of the text.
-pub(crate) fn measure_lines(list: &[u8], margins: Margins) -> usize
-    requires { Narrow margins × Laid list.now 0 × (length list.now ≤ 1048576) }
-    ensures { (result ≡ length (text_of margins (chunks_of list.now))) × (result < 4503599627370496) }
+// The length of the text. (Its loop over the lines is short; one for both functions would have to say by cases what each
+// promises.)
+pub(crate) fn measure_lines(judged: Judged) -> usize
+    ensures length { result ≡ length (text_of judged.entry.margins (chunks_of judged.entry.list.now)) }
+    ensures small { result < 4503599627370496 }
 {
     let mut past = Past {
         length: 0,
@@ -268,23 +240,22 @@ pub(crate) fn measure_lines(list: &[u8], margins: Margins) -> usize
         blank: false,
         standalone: false,
     };
-    let mut spot = piece::spot_at(list, 0);
-    while spot.at < list.len() {
-        let walked = line::measure_line(list, margins, spot);
-        let measure = walked.measure;
-        let cut = cut_of(margins, past, measure, walked.indent);
-        past = grown(past, cut);
+    let mut spot = piece::spot_at(judged.list, 0);
+    while spot.at < judged.list.len() {
+        let walked = line::walk(Unwritten, &mut [], judged, spot);
+        if let Some(cut) = cut_of(judged, past, walked.measure, walked.indent) {
+            past = grown(past, cut);
+        }
         spot = walked.spot;
     }
     past.length
 }
 
 // Writes the text to a buffer of its length.
-pub(crate) fn write_lines(text: &mut [u8], list: &[u8], margins: Margins)
-    requires narrow { Narrow margins × Laid list.now 0 × (length list.now ≤ 1048576) }
-    requires text_len { (length text.old ≡ length (text_of margins (chunks_of list.now)))
+pub(crate) fn write_lines(text: &mut [u8], judged: Judged)
+    requires { (length text.old ≡ length (text_of judged.margins (chunks_of judged.list.now)))
         × (length text.old < 4503599627370496) }
-    ensures { text.new ≡ text_of margins (chunks_of list.now) }
+    ensures { text.new ≡ text_of judged.entry.margins (chunks_of judged.entry.list.now) }
 {
     let mut past = Past {
         length: 0,
@@ -292,14 +263,14 @@ pub(crate) fn write_lines(text: &mut [u8], list: &[u8], margins: Margins)
         blank: false,
         standalone: false,
     };
-    let mut spot = piece::spot_at(list, 0);
-    while spot.at < list.len() {
-        let guess = guess_of(margins, spot);
-        let walked = try_line(text, list, margins, spot, past, guess);
-        let measure = walked.measure;
-        let cut = cut_of(margins, past, measure, walked.indent);
-        mend(text, list, margins, spot, past, cut, guess);
-        past = grown(past, cut);
+    let mut spot = piece::spot_at(judged.list, 0);
+    while spot.at < judged.list.len() {
+        let guess = guess_of(judged, spot);
+        let walked = try_line(text, judged, spot, past, guess);
+        if let Some(cut) = cut_of(judged, past, walked.measure, walked.indent) {
+            mend(text, judged, spot, past, cut, guess);
+            past = grown(past, cut);
+        }
         spot = walked.spot;
     }
 }

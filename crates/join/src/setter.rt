@@ -9,7 +9,8 @@ ghost use Rattle.columns.specs.Promise.{Promised};
 ghost use Rattle.join.specs.Walk.{Narrow};
 
 use crate::lines;
-use answers::{Answer, Checked, Reason, Refusal};
+use crate::piece::Judged;
+use answers::{Answer, Reason, Refusal};
 use chunks::list;
 use columns::Margins;
 
@@ -26,18 +27,19 @@ pub(crate) fn join_with(chunks: &[u8], margins: Margins, text: &mut [u8]) -> Ans
         let outcome = unless_failed (chunks_checked list) (text_of margins (chunks_of list)) in
         Promised (chunks_of list) outcome }
 {
-    let checked = list::check_chunks(chunks);
-    if let Err(refusal) = checked {
-        return Err(refusal);
-    }
-    let length = lines::measure_lines(chunks, margins);
+    list::check_chunks(chunks)?;
+    let judged = Judged {
+        list: chunks,
+        margins,
+    };
+    let length = lines::measure_lines(judged);
     if text.len() < length {
         return Err(Refusal {
             reason: Reason::TextRoom,
             place: length,
         });
     }
-    lines::write_lines(&mut text[..length], chunks, margins);
+    lines::write_lines(&mut text[..length], judged);
     Ok(length)
 }
 
@@ -52,9 +54,6 @@ pub fn join_chunks(chunks: &[u8], options: &[u8], text: &mut [u8]) -> Answer
     ensures numbers { let outcome = join_outcome chunks.now options.now in
         numbers result ≡ numbers_in outcome (length text.old) }
 {
-    let read = options::read_options(options);
-    match read {
-        Ok(options) => join_with(chunks, columns::margins_of(options), text),
-        Err(refusal) => Err(refusal),
-    }
+    let options = options::read_options(options)?;
+    join_with(chunks, columns::margins_of(options), text)
 }

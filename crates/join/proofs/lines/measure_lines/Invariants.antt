@@ -7,7 +7,7 @@ use Rattle.join.proofs.Running.{Running}
 use Rattle.join.proofs.lines.measure_lines.Given as goal
 
 abbrev pub invariant-loop-spot : goal.invariant-loop-spot
-invariant-loop-spot l = Running l.margins l.list (text_of l.margins (chunks_of l.list)) l.past l.spot
+invariant-loop-spot l = Running l.judged.margins l.judged.list.now (text_of l.judged.margins (chunks_of l.judged.list.now)) l.past l.spot
 
 abbrev pub decreases-loop-spot : goal.decreases-loop-spot
-decreases-loop-spot l = length l.list - l.spot.at
+decreases-loop-spot l = length l.judged.list.now - l.spot.at

@@ -7,8 +7,8 @@ use Rattle.join.proofs.lines.try_line.Goals as goal
 pub overflow_add-base : goal.overflow_add-base
 overflow_add-base c = omega (arith, start_near c.args.past)
 
-pub walk_line-requires : goal.walk_line-requires
-walk_line-requires c = record { narrow = c.requires.narrow; room = c.window_of-window.ensures.within }
+pub walk-requires : goal.walk-requires
+walk-requires c = record { inside = c.requires.inside; room = c.window_of-window.ensures.within }
 
 pub returns : goal.returns
 returns c =
@@ -16,7 +16,7 @@ returns c =
     let newlined = c.put_newline in
     let led = c.fill in
     let window = c.window_of-window.ensures.answer in
-    let walked = c.walk_line.ensures in
+    let walked = c.walk.ensures in
     let size = led.auto.buffer ∙ newlined.auto.text in
     record {
       walked = walked.walked;

@@ -7,12 +7,12 @@ use Rattle.join.proofs.lines.write_cut.Goals as goal
 pub overflow_add-base : goal.overflow_add-base
 overflow_add-base c = omega (arith, start_near c.args.past)
 
-pub write_line-requires : goal.write_line-requires
-write_line-requires c =
+pub walk-requires : goal.walk-requires
+walk-requires c =
     let args = c.args in
-    let end = cut_end args.past args.cut (line_at args.margins args.list.now args.spot).line.bytes c.requires.cut_fits in
+    let end = cut_end args.past args.cut (line_at args.judged.margins args.judged.list.now args.spot).line.bytes c.requires.cut_fits in
     record {
-      narrow = c.requires.narrow;
+      inside = c.requires.inside;
       room = omega (arith, c.line_start-start.ensures, c.put_newline.auto.text, c.fill.auto.buffer);
     }
 
@@ -21,4 +21,4 @@ returns c =
     let started = c.line_start-start.ensures in
     let newlined = c.put_newline.ensures in
     let led = c.fill.ensures.buffer in
-    cut_shown c.args.past c.args.cut _ _ _ _ _ c.requires.cut_fits started c.requires.line_in_bounds newlined led c.write_line.ensures
+    cut_shown c.args.past c.args.cut _ _ _ _ _ c.requires.cut_fits started c.requires.line_in_bounds newlined led c.walk.ensures.showing

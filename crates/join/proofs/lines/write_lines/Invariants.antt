@@ -8,7 +8,7 @@ use Rattle.join.proofs.Running.{Holding}
 use Rattle.join.proofs.lines.write_lines.Given as goal
 
 abbrev pub invariant-loop-spot : goal.invariant-loop-spot
-invariant-loop-spot l = Holding l.margins l.list (text_of l.margins (chunks_of l.list)) l.past l.spot l.text × (length l.text ≡ length l.initial.text)
+invariant-loop-spot l = Holding l.judged.margins l.judged.list.now (text_of l.judged.margins (chunks_of l.judged.list.now)) l.past l.spot l.text × (length l.text ≡ length l.initial.text)
 
 abbrev pub decreases-loop-spot : goal.decreases-loop-spot
-decreases-loop-spot l = length l.list - l.spot.at
+decreases-loop-spot l = length l.judged.list.now - l.spot.at

@@ -4,6 +4,4 @@ use Rattle.join.proofs.store.store_step.Goals as goal
 
 pub returns : goal.returns
 returns c =
-    let padded = c.store_spaces.ensures in
-    let laid = c.store_bytes.ensures in
-    sets_step c.args.text.now c.args.place c.args.list.now c.args.step c.requires.from_le_to.1 padded laid c.store_spaces-2.ensures
+    sets_step c.args.text.now c.args.place c.args.step c.store_spaces.ensures c.store_bytes.ensures c.store_spaces-2.ensures
