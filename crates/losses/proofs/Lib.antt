@@ -1,6 +1,7 @@
 pub mod Table
 pub mod Along
 pub mod Comments
+pub mod Letters
 pub mod Steps
 pub mod Records
 pub mod Passed
@@ -8,9 +9,3 @@ pub mod Marks
 pub mod HeadFound
 pub mod Operands
 pub mod Shown
-pub mod Searching
-pub mod Answered
-pub mod Telling
-pub mod Listing
-pub mod Numbers
-pub mod Inside
