@@ -2,13 +2,13 @@
 use Rattle.std.specs.Prelude.{Option, Some, None, min}
 use Rattle.std.specs.List.{filter_map, reduce}
 use Rattle.std.specs.Option.{option_eq}
-use Rattle.std.proofs.Common.{◌≡◌, ℕ, suc, ◌+◌, ◌*◌, ◌^◌, ◌<◌, ◌≤◌, List, [], ◌∷◌, Bool, cond, length, drop, get_or, nat_eq, refl, ap, sym, ◌∙◌, arith}
-use Rattle.std.proofs.Math.Nat.{pow-suc, pow-le-pow_right}
+use Rattle.std.proofs.Common.{◌≡◌, ℕ, zero, suc, ◌+◌, ◌*◌, ◌^◌, ◌<◌, ◌≤◌, List, [], ◌∷◌, Bool, cond, length, drop, get_or, nat_eq, refl, ap, sym, ◌∙◌, arith}
+use Rattle.std.proofs.Math.Nat.{pow-suc, pow-succ', pow-le-pow_right}
 use Rattle.std.proofs.Math.Seq.{drop-cons}
 use Rattle.std.proofs.lemmas.List.{drop_all}
-use lib.Dec.{ltb}
-use borrow.Author.Tests.{ltb-true, ltb-false}
-use Rattle.text.proofs.Choices.{by_test, cond_both}
+use lib.Dec.{eqb, ltb}
+use borrow.Author.Tests.{eq-eqb, ltb-true, ltb-false}
+use Rattle.text.proofs.Choices.{by_test}
 use Rattle.losses.specs.Lost.{Firsts, lesser_of, least_of, bit_at, bits_from}
 
 -- ---- the least
@@ -38,6 +38,11 @@ least_lem (Some first ∷ firsts) = reduced first (filter_map (λ (first : Optio
 
 -- ---- the letters
 
+-- a bit is there or not
+bit_most : (at : ℕ) (first : Option ℕ) (bit : ℕ) → bit_at at first bit ≤ bit
+bit_most at None bit = omega arith
+bit_most at (Some place) bit = by_test (eqb place at) (λ q. rw q (omega arith)) (λ q. rw q (omega arith))
+
 -- those of the places up to an index, whose bit is a power of two
 pub record LettersSoFar (firsts : Firsts) (at index bit letters : ℕ) : Type 0 where
   pub power : bit ≡ 2 ^ index
@@ -65,14 +70,13 @@ module _ {firsts : Firsts} {at index bit letters : ℕ} (so_far : LettersSoFar f
   letters_on {next} test inside tested is =
       let first : Option ℕ = get_or firsts index None in
       let shown : cond test bit 0 ≡ bit_at at first bit = rw tested (tested_bit first at bit) in
-      let least : cond test bit 0 ≤ bit = cond_both (λ (more : ℕ). more ≤ bit) test bit 0 (λ yes_way. omega arith) (λ no_way. omega arith) in
       let twice : bit * 2 ≡ 2 * bit = omega arith in
       let step : index + 1 ≡ suc index = omega arith in
       let others : bits_from at bit (drop index firsts) ≡ bit_at at first bit + bits_from at (2 * bit) (drop (index + 1) firsts) =
       rw (step, drop-cons firsts index None inside) refl in
       record {
         power = rw (so_far.power, step) (sym (pow-suc 2 index));
-        below = omega (arith, so_far.below);
+        below = omega (arith, so_far.below, shown, bit_most at first bit);
         rest = rw twice (omega (arith, so_far.rest, others, shown));
       }
 
@@ -81,3 +85,21 @@ module _ {firsts : Firsts} {at index bit letters : ℕ} (so_far : LettersSoFar f
   letters_end none =
       let nothing : drop index firsts ≡ [] = drop_all index firsts none in
       omega (arith, rw nothing at so_far.rest)
+
+-- ---- how large they are
+
+-- they stand below the bit behind the last
+pub bits_most : (at index : ℕ) (firsts : Firsts) → bits_from at (2 ^ index) firsts + 2 ^ index ≤ 2 ^ (index + length firsts)
+bits_most at index [] = let same : index + 0 ≡ index = omega arith in rw same (omega arith)
+bits_most at index (first ∷ firsts) =
+    let rest = rw (pow-succ' 2 index) at (bits_most at (suc index) firsts) in
+    let same : index + suc (length firsts) ≡ suc index + length firsts = omega arith in
+    rw same (omega (arith, rest, bit_most at first (2 ^ index)))
+
+-- and one is among them where a record stands there
+pub bits_some : (at : ℕ) (firsts : Firsts) (number bit : ℕ) → get_or firsts number None ≡ Some at → bit ≤ bits_from at bit firsts
+bits_some at [] number bit never = let zero_one : ◌≡◌ {A = ℕ} 0 1 = cc in absurd (omega arith)
+bits_some at (first ∷ firsts) zero bit here =
+    let same : bit_at at first bit ≡ bit = rw (here, eq-eqb at at refl) refl in
+    omega (arith, same)
+bits_some at (first ∷ firsts) (suc number) bit later = omega (arith, bits_some at firsts number (2 * bit) later)

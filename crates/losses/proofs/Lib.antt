@@ -9,3 +9,9 @@ pub mod Marks
 pub mod HeadFound
 pub mod Operands
 pub mod Shown
+pub mod Searching
+pub mod Answered
+pub mod Telling
+pub mod Listing
+pub mod Numbers
+pub mod Inside

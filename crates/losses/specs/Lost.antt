@@ -1,5 +1,5 @@
 -- `lost`: the first record at or after an offset that uses one of the eight places, with the letters of the places that it uses.
-use Rattle.std.specs.Prelude.{ℕ, ◌+◌, ◌*◌, ◌≤◌, List, [], ◌∷◌, false, cond, eqb, ltb, Option, Result, Some, None, Ok, Err}
+use Rattle.std.specs.Prelude.{ℕ, ◌+◌, ◌*◌, ◌≤◌, List, [], ◌∷◌, map, false, cond, eqb, ltb, Option, Result, Some, None, Ok, Err}
 use Rattle.answers.specs.declared.Refusal.{Refusal}
 use Rattle.answers.specs.Numbers.{numbers, unless_refused, Answer, Checked}
 use Rattle.tree.specs.Tree.{Tree}
@@ -33,12 +33,13 @@ first_in from spot tree = first_from from spot None (places_in false tree)
 abbrev pub Firsts : Type 0
 Firsts = List (Option ℕ)
 
--- for each of the places (a) to (h)
+-- the places (a) to (h)
+abbrev pub spots : List Spot
+spots =
+    opening_brace ∷ label_colon ∷ value_head ∷ import_path ∷ path_item ∷ register_letter ∷ expression_head ∷ closing_character ∷ []
+
 abbrev pub firsts_in : ℕ → Tree → Firsts
-firsts_in from tree =
-    first_in from opening_brace tree ∷ first_in from label_colon tree ∷ first_in from value_head tree ∷ first_in from import_path tree
-    ∷ first_in from path_item tree ∷ first_in from register_letter tree ∷ first_in from expression_head tree
-    ∷ first_in from closing_character tree ∷ []
+firsts_in from tree = map (λ (spot : Spot). first_in from spot tree) spots
 
 -- ---- the least of the eight, with its letters
 
