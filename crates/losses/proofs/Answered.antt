@@ -1,33 +1,33 @@
 -- The answer of `lost`, of what the search of the whole tree found.
-use Rattle.std.specs.Prelude.{Option, Result, Some, None, Ok, Err, map, replicate}
-use Rattle.std.specs.List.{range_with_len}
-use Rattle.std.proofs.lemmas.List.{ext_get_or, get_or-map}
+use Rattle.std.specs.Prelude.{Option, Result, None, Ok, Err, map}
+use Rattle.std.proofs.lemmas.List.{ext_get_or, get_or-map, get_or-replicate}
 use Rattle.std.proofs.lemmas.List.FromFn.{get_or-range_with_len}
 use Rattle.answers.specs.Numbers.{no_refusal, Checked}
 use mathlib.Core.Path.{◌≡◌, refl, sym, ap, ◌∙◌}
 use mathlib.Core.List.{List}
 use mathlib.Core.Bool.{false}
-use Prim.Native.Nat.{ℕ, ◌<◌}
+use Prim.Native.Nat.{ℕ, ◌+◌, ◌<◌}
 use native.Mathlib.Omega.{arith}
 use lib.ListN.{length, get_or}
 use Rattle.answers.specs.declared.Refusal.{Refusal}
-use Rattle.answers.proofs.Cases.{failed_passed}
 use Rattle.tree.specs.Checking.{read_file, batch_checked}
 use Rattle.tree.specs.Tree.{Tree}
 use Rattle.tree.specs.declared.grammar.Class.TheVariants.{Tokens}
 use Rattle.tree.proofs.Readings.{file_passed}
-use Rattle.reading.specs.Places.{Spot, spot_number, opening_brace, places_in}
-use Rattle.losses.specs.Lost.{Firsts, spots, first_from, first_in, firsts_in, least_of, Lost, answer_with, lost_on, lost_from}
+use Rattle.reading.specs.Places.{Spot, spot_number, opening_brace}
+use Rattle.losses.specs.Lost.{Firsts, spots, first_in, firsts_in, least_of, answer_with, lost_on, lost_from}
 use Rattle.losses.specs.Visits.{first_of, no_firsts, seen_in, TakesAll, Searches}
 use Rattle.losses.specs.declared.firsts.Search.{Search}
 use Rattle.losses.proofs.Passed.{next_unskipped}
+use Rattle.losses.proofs.Steps.{spot_below}
 
 -- ---- the first records, place by place
 
 -- the place of a number
 number_back : (number : ℕ) → number < 8 → spot_number (get_or spots number opening_brace) ≡ number
 number_back number below =
-    sym (get_or-map spot_number spots number opening_brace 0 below) ∙ get_or-range_with_len 0 8 number 0 below
+    let plain : 0 + number ≡ number = omega arith in
+    sym (get_or-map spot_number spots number opening_brace 0 below) ∙ get_or-range_with_len 0 8 number 0 below ∙ plain
 
 -- eight first records are those of the places
 firsts_same : (of : Spot → Option ℕ) (firsts : Firsts) → length firsts ≡ 8 → ((spot : Spot) → first_of firsts spot ≡ of spot)
@@ -39,7 +39,7 @@ firsts_same of firsts eight each =
     rw (number_back number inside) at (each (get_or spots number opening_brace)) ∙ sym (get_or-map of spots number opening_brace None inside))
 
 none_first : (spot : Spot) → first_of no_firsts spot ≡ None
-none_first spot = ?
+none_first spot = get_or-replicate 8 (spot_number spot) None None (spot_below spot)
 
 -- ---- the answer
 

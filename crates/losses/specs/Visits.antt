@@ -1,5 +1,5 @@
 -- Not part of the promise: the places as the search meets them, record by record, each by the class of the field that it stands in.
-use Rattle.std.specs.Prelude.{ℕ, ◌-◌, ◌≡◌, List, [], ◌∷◌, ◌++◌, Bool, true, false, cond, not, ◌&&◌, ◌||◌, eqb, ltb, get_or, replicate, Option, Result, Some, None, Ok, Err}
+use Rattle.std.specs.Prelude.{ℕ, ◌-◌, ◌≡◌, List, [], ◌∷◌, ◌++◌, Bool, true, false, cond, not, ◌&&◌, ◌||◌, eqb, ltb, get_or, replicate, Option, Result, Some, None, Ok}
 use Rattle.answers.specs.declared.Refusal.{Refusal}
 use Rattle.answers.specs.Numbers.{no_refusal, and_then, Checked}
 use Rattle.tree.specs.Kinds as kinds

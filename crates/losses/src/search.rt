@@ -1,9 +1,10 @@
 // The search of a tree for the first record that uses a place.
-ghost use Rattle.std.specs.Prelude.{◌≡◌};
-ghost use Rattle.losses.specs.Lost.{lost_from, numbers_lost, lost_numbers, Narrow};
+ghost use Rattle.std.specs.Prelude.{◌≡◌, length};
+ghost use Rattle.losses.specs.Lost.{least_of, answer_with, lost_from, numbers_lost, lost_numbers, Narrow};
 ghost use Rattle.losses.specs.Visits.{listed_below, Searches};
 
 use crate::firsts::Search;
+use crate::places::PLACES;
 use answers::{Answer, Refusal};
 use text::numbers;
 use tree::grammar::Class;
@@ -57,6 +58,17 @@ impl Search {
         }
         Ok(place)
     }
+
+    // The first record that was found, with its letters.
+    fn loss(&self) -> Option<Loss>
+        ensures loss { result ≡ answer_with self.now.firsts (least_of self.now.firsts) }
+        ensures places { length self.now.firsts ≡ PLACES }
+    {
+        self.least().map(|place| Loss {
+            place,
+            letters: self.letters_at(place),
+        })
+    }
 }
 
 // The first record at or after an offset that uses one of the eight places, or the refusal of the tree. Called again
@@ -69,10 +81,5 @@ pub fn lost(tree: &[u8], from: usize) -> Lost
     check::check_tree(tree)?;
     let mut search = Search::new(from);
     search.search(tree, 0, Class::Tokens, LEVELS, false)?;
-    Ok(
-        search.least().map(|place| Loss {
-            place,
-            letters: search.letters_at(place),
-        }),
-    )
+    Ok(search.loss())
 }

@@ -1,5 +1,4 @@
 -- A head that is missing or was not read, which cannot be where the token passed; and its own bytes.
-use Rattle.std.proofs.Common.{refl}
 use Rattle.losses.proofs.HeadFound.{head_missed, head_unread, head_taken}
 use Rattle.losses.proofs.firsts.Search.head_use.Goals as goal
 

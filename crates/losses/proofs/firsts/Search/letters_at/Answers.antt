@@ -14,7 +14,7 @@ pub overflow_mul-bit : goal.overflow_mul-bit
 overflow_mul-bit c = omega (arith, bit_small c.loop-first.invariant c.loop-first-test.true)
 
 pub loop-first-preserved : goal.loop-first-preserved
-loop-first-preserved c = 
+loop-first-preserved c =
     letters_on c.loop-first.invariant c.eq.result (omega arith) c.eq.ensures
     (elim c.if-eq.branch [ then-eq w ↦ rw (w.letters-is, w.if-eq.true) refl | else-eq w ↦ rw (w.letters-is, w.if-eq.false) (omega arith) ])
 

@@ -1,5 +1,5 @@
 -- A head that was refused, which cannot be where the record passed; a record that is an operand, and any other.
-use Rattle.losses.proofs.Shown.{head_stopped, operand_shown, record_shown}
+use Rattle.losses.proofs.Shown.{operand_shown, record_shown}
 use Rattle.losses.proofs.firsts.Search.record_uses.Goals as goal
 
 pub returns-then-number-eq-OPERAND : goal.returns-then-number-eq-OPERAND
