@@ -4,7 +4,7 @@
 -- And both parts can be read off every packed number whose second part is below 2^32.
 --   parts_read : .. Small answer → (packed_of answer / 4294967296 ≡ (numbers answer).0)
 --       × (packed_of answer % 4294967296 ≡ (numbers answer).1)
-use Rattle.std.specs.Prelude.{Ok, Err}
+use Rattle.std.specs.Prelude.{Some, None, Ok, Err}
 use Prim.Native.Nat.{ℕ, ◌/◌, ◌%◌}
 use mathlib.Core.Path.{◌≡◌, refl}
 use mathlib.Core.List.{List, [], ◌∷◌, map}
@@ -13,12 +13,14 @@ use Rattle.answers.specs.Numbers.{numbers, Answer}
 use Rattle.answers.specs.declared.Reason.{Reason}
 use Rattle.answers.specs.declared.Reason.TheVariants.{OptionsLength, OptionsValue, TreeLength, TreeDepth, TreeLayout}
 use Rattle.answers.specs.declared.Reason.TheVariants.{ChunkLayout, NotAscii, WorkRoom, TextRoom}
-use Rattle.losses.specs.declared.search.Loss.TheVariants as loss
-use Rattle.losses.specs.Lost.{loss_answer}
+use Rattle.losses.specs.Lost.{Lost, loss_answer}
 use Rattle.exports.specs.Packed.{packed_of, Small}
 
 abbrev refused : Reason → ℕ → Answer
 refused reason place = Err (record { reason = reason; place = place })
+
+abbrev told : ℕ → ℕ → Lost
+told place letters = Ok (Some (record { place = place; letters = letters }))
 
 -- an answer and its packed number
 abbrev pub rows : List (Answer × ℕ)
@@ -37,13 +39,13 @@ rows =
     ∷ (refused TextRoom 23, 38654705687)
     ∷ (refused TextRoom 4294967295, 42949672959)
     -- a comment at offset 0 and at 65,535: at place (a), at place (h), and at all eight
-    ∷ (loss_answer (loss.Used 0 1), 65536)
-    ∷ (loss_answer (loss.Used 65535 1), 131071)
-    ∷ (loss_answer (loss.Used 0 128), 8388608)
-    ∷ (loss_answer (loss.Used 20 5), 327700)
-    ∷ (loss_answer (loss.Used 65535 255), 16777215)
-    ∷ (loss_answer loss.Unused, 0)
-    ∷ (loss_answer (loss.Refused (record { reason = TreeLayout; place = 4 })), 21474836484)
+    ∷ (loss_answer (told 0 1), 65536)
+    ∷ (loss_answer (told 65535 1), 131071)
+    ∷ (loss_answer (told 0 128), 8388608)
+    ∷ (loss_answer (told 20 5), 327700)
+    ∷ (loss_answer (told 65535 255), 16777215)
+    ∷ (loss_answer (Ok None), 0)
+    ∷ (loss_answer (Err (record { reason = TreeLayout; place = 4 })), 21474836484)
     ∷ []
 
 abbrev found : Answer × ℕ → ℕ

@@ -24,10 +24,8 @@ use Rattle.printing.specs.Holding.{Held, held, refused}
 use Rattle.tokens.specs.Chunks.{chunks_held, chunks_answer, RoomHolds}
 use Rattle.formatting.specs.Formatting.{outcome_of, formatted}
 use Rattle.formatting.specs.Demands.{LessonUnder, Lesson}
-use Rattle.losses.specs.Lost.{firsts_in, least_of, answer_with, lost_on, lost_from, loss_answer, Narrow}
-use Rattle.losses.specs.declared.firsts.Firsts.{Firsts}
+use Rattle.losses.specs.Lost.{Firsts, firsts_in, least_of, Lost, answer_with, lost_on, lost_from, loss_answer, Narrow}
 use Rattle.losses.specs.declared.search.Loss.{Loss}
-use Rattle.losses.specs.declared.search.Loss.TheVariants.{Used}
 use Rattle.exports.specs.Packed.{Small}
 use Rattle.exports.proofs.Within.{Within}
 use Rattle.exports.proofs.ListPlaces.{ReadWithin, list_within, options_within}
@@ -87,10 +85,10 @@ join_answer answer list options room is promised = rw is (join_small list (read_
 -- ---- a loss
 
 -- the offset and the letters of one
-pub used_narrow : {loss : Loss} {at letters : ℕ} → Narrow loss → loss ≡ Used at letters → (at ≤ 65535) × (1 ≤ letters) × (letters ≤ 255)
-used_narrow narrow is = rw is at narrow
+pub loss_narrow : {lost : Lost} {loss : Loss} → Narrow lost → lost ≡ Ok (Some loss) → (loss.place ≤ 65535) × (1 ≤ loss.letters) × (loss.letters ≤ 255)
+loss_narrow narrow is = rw is at narrow
 
-loss_small : (firsts : Firsts) (least : Option ℕ) → Narrow (answer_with firsts least) → Small (loss_answer (answer_with firsts least))
+loss_small : (firsts : Firsts) (least : Option ℕ) → Narrow (Ok (answer_with firsts least)) → Small (loss_answer (Ok (answer_with firsts least)))
 loss_small firsts None narrow = omega arith
 loss_small firsts (Some at) narrow = omega (arith, narrow.0, narrow.2)
 
@@ -98,8 +96,8 @@ lost_on_small : (from : ℕ) (tree : Tree) (checked : Checked) → Within 65535 
 lost_on_small from tree (Ok tt) within narrow = loss_small (firsts_in from tree) (least_of (firsts_in from tree)) narrow
 lost_on_small from tree (Err why) within narrow = omega (arith, within)
 
-pub lost_answer : (from : ℕ) (bytes : List ℕ) (loss : Loss) → loss ≡ lost_from from bytes → Narrow loss → Small (loss_answer loss)
+pub lost_answer : (from : ℕ) (bytes : List ℕ) (lost : Lost) → lost ≡ lost_from from bytes → Narrow lost → Small (loss_answer lost)
 unfolding lost_from
-lost_answer from bytes loss is narrow =
+lost_answer from bytes lost is narrow =
     let same : Narrow (lost_from from bytes) = rw (sym is) narrow in
     rw is (lost_on_small from (read_file 64 bytes).tree (batch_checked bytes) (tree_within bytes) same)

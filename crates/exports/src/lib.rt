@@ -19,17 +19,21 @@ ghost use Rattle.losses.specs.Lost.{lost_from, loss_answer, Narrow};
 ghost use Rattle.exports.specs.Packed.{packed_of, Small};
 
 use answers::{Answer, Numbered};
-use losses::search::Loss;
+use losses::Lost;
 use text::scans;
+
+// What one stands for in a packed answer's number, whose value is below it.
+const NUMBER: usize = 4294967296;
+
+// What one stands for in a loss's letters, whose offset is below it.
+const LETTER: usize = 65536;
 
 // An answer as one number.
 fn packed(answer: Answer) -> u64
     requires { Small answer }
     ensures { result ≡ packed_of answer }
 {
-    let number = answer.number();
-    let value = answer.value();
-    (4294967296 * number + value) as u64
+    (NUMBER * answer.number() + answer.value()) as u64
 }
 
 // `join::join_chunks`: the text of a stored chunk list, or refusal 1, 2, 6, 7 or 9.
@@ -84,14 +88,13 @@ pub fn felgutrosa_format(tree: &[u8], options: &[u8], work: &mut [u8], text: &mu
 }
 
 // A record that uses a place, as an answer: 65,536 times its letters plus its offset, and 0 where there is none.
-fn loss_answer(loss: Loss) -> Answer
-    requires { Narrow loss }
-    ensures { result ≡ loss_answer loss }
+fn loss_answer(lost: Lost) -> Answer
+    requires { Narrow lost }
+    ensures { result ≡ loss_answer lost }
 {
-    match loss {
-        Loss::Used(at, letters) => Ok(65536 * letters + at),
-        Loss::Unused => Ok(0),
-        Loss::Refused(refusal) => Err(refusal),
+    match lost? {
+        Some(loss) => Ok(LETTER * loss.letters + loss.place),
+        None => Ok(0),
     }
 }
 
@@ -101,8 +104,7 @@ pub fn felgutrosa_lost(tree: &[u8], from: usize) -> u64
     ensures small { Small (loss_answer (lost_from from tree.now)) }
     ensures narrow { Narrow (lost_from from tree.now) }
 {
-    let loss = losses::lost(tree, from);
-    packed(loss_answer(loss))
+    packed(loss_answer(losses::lost(tree, from)))
 }
 
 // `text::scans::has_ink`: whether a line has a byte that is not blank. It reads no further than the first.

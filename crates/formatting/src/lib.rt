@@ -20,14 +20,12 @@ fn format_in(tree: &[u8], options: &[u8], work: &mut [u8], text: &mut [u8]) -> A
     ensures demands { let lesson = formatted tree.now options.now (length work.old) in
         Lesson tree.now options.now lesson }
 {
-    let walked = tokens::chunks_in_one_pass(tree, options, work);
-    let Ok(used) = walked else {
-        return walked;
-    };
+    let used = tokens::chunks_in_one_pass(tree, options, work)?;
     join::join_chunks(&work[..used], options, text)
 }
 
-// The text of a stored tree under stored options, at the text buffer's start; or refusal 1, 2, 3, 4, 5, 7, 8 or 9. The work room is all zeros afterwards.
+// The text of a stored tree under stored options, at the text buffer's start; or refusal 1, 2, 3, 4, 5, 7, 8 or 9. The
+// work room is all zeros afterwards.
 pub fn format(tree: &[u8], options: &[u8], work: &mut [u8], text: &mut [u8]) -> Answer
     ensures answer { let lesson = formatted tree.now options.now (length work.old) in
         result ≡ answer_in lesson (length text.old) }

@@ -1,7 +1,7 @@
 -- The head of a token that was read without refusal is found in the bytes, and its own bytes hold its trivia.
 use Rattle.std.specs.Prelude.{Result, Ok, Err}
 use Rattle.answers.specs.Numbers.{no_refusal}
-use mathlib.Core.Path.{◌≡◌, sym, ◌∙◌}
+use mathlib.Core.Path.{◌≡◌, refl, sym, ◌∙◌}
 use mathlib.Core.List.{List}
 use Prim.Native.Nat.{ℕ}
 use Rattle.answers.specs.declared.Refusal.{Refusal}
@@ -20,9 +20,8 @@ use Rattle.leaves.specs.Items.{items_at}
 use Rattle.leaves.proofs.Leaves.{own_items}
 use Rattle.reading.specs.Places.{has_comment}
 use Rattle.losses.specs.Visits.{TokenClass, TakesIf, TakesHead}
-use Rattle.losses.specs.declared.firsts.Firsts.{Firsts}
+use Rattle.losses.specs.declared.firsts.Search.{Search}
 use Rattle.events.proofs.Passed.{head_passed}
-use Rattle.losses.proofs.Passed.{shows_it}
 use Rattle.losses.proofs.Records.{node_read}
 
 module _ (levels : ℕ) (bytes : List ℕ) (class : Class) (at : ℕ) {place : Result Head Refusal} (same : place ≡ head_at levels bytes class at) where
@@ -42,11 +41,11 @@ module _ (levels : ℕ) (bytes : List ℕ) (class : Class) (at : ℕ) {place : R
         failed_passed (sym (head_refused bytes class token.0 token.1 levels at head why (sym same ∙ is) (sym read-own ∙ refused)) ∙ none_met passed)
 
     -- and hold its trivia
-    pub head_taken : {after before : Firsts} {from spot : ℕ} (own : Own) → Fits bytes head.place found → found ≡ Ok own
-        → TakesIf after before from head.place spot (has_comment (items_at bytes own.trivia own.trivia_count))
-        → TakesHead (Ok after) before from levels bytes class at spot
+    pub head_taken : {after before : Search} {spot : ℕ} (own : Own) → Fits bytes head.place found → found ≡ Ok own
+        → TakesIf after before head.place spot (has_comment (items_at bytes own.trivia own.trivia_count))
+        → TakesHead no_refusal after before levels bytes class at spot
     unfolding view
     head_taken own fits held takes passed token =
         let head_tree = head_is bytes class token.0 token.1 levels at head (sym same ∙ is)
         ∙ node_read head.levels bytes head.class head.place own (sym read-own ∙ held) in
-        shows_it (rw head_tree (rw (own_items bytes head.place own fits held) at takes))
+        (refl, rw head_tree (rw (own_items bytes head.place own fits held) at takes))

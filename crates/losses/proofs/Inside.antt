@@ -1,6 +1,6 @@
 -- Every record that uses a place stands within the bytes; so the offset and the letters of an answer are small.
---   narrow_lost : loss ≡ lost_from from bytes → (loss ≡ lost_from from bytes) × (Narrow loss × (numbers_lost loss ≡ lost_numbers from bytes))
-use Rattle.std.specs.Prelude.{Option, Result, Some, None, Ok, Err}
+--   narrow_lost : lost ≡ lost_from from bytes → (lost ≡ lost_from from bytes) × (Narrow lost × (numbers_lost lost ≡ lost_numbers from bytes))
+use Rattle.std.specs.Prelude.{Option, Result, Some, None, Ok, Err, map}
 use Rattle.tree.specs.declared.parts.Head.{Head}
 use Rattle.answers.specs.declared.Refusal.{Refusal}
 use Rattle.tree.specs.declared.own.Own.{Own}
@@ -8,12 +8,11 @@ use Rattle.answers.specs.Numbers.{no_refusal, Checked}
 use mathlib.Core.Path.{◌≡◌, refl, sym, ap, subst, ◌∙◌}
 use mathlib.Core.List.{List, [], ◌∷◌, ◌++◌}
 use mathlib.Core.Bool.{Bool, true, false, not, ◌&&◌, ◌||◌}
-use Prim.Native.Nat.{ℕ, zero, suc, ◌-◌, ◌≤◌, ◌<◌}
+use Prim.Native.Nat.{ℕ, zero, suc, ◌-◌, ◌<◌}
 use native.Mathlib.Omega.{arith}
 use lib.ListN.{length, get_or}
 use lib.Dec.{eqb}
-use borrow.Author.Tests.{eq-eqb}
-use Rattle.text.proofs.Choices.{cond_both, by_test}
+use Rattle.text.proofs.Choices.{cond_both}
 use Rattle.tree.specs.Tree.{Tree, absent}
 use Rattle.tree.specs.Own.{read_own}
 use Rattle.tree.specs.Parts.{head_at}
@@ -31,15 +30,14 @@ use Rattle.events.proofs.OwnParts.{record_headed}
 use Rattle.events.proofs.Heads.{head_is}
 use Rattle.leaves.proofs.Records.{read_record}
 use Rattle.reading.specs.Places.{Spot, Use, opening_brace, label_colon, value_head, import_path, path_item, register_letter, expression_head, closing_character}
-use Rattle.reading.specs.Places.{has_comment, mark, at_closing_character}
-use Rattle.losses.specs.Lost.{firsts_in, least_of, bit_at, letters_at, lost_from, numbers_lost, lost_numbers, Narrow}
-use Rattle.losses.specs.Visits.{first_of, seen_in, own_marks, head_marks, closing_marks, own_uses, listed_below, uses_along, checked_along, part_trees, TokenClass}
-use Rattle.losses.specs.declared.firsts.Firsts.{Firsts}
+use Rattle.reading.specs.Places.{has_comment, spot_number, mark, at_closing_character}
+use Rattle.losses.specs.Lost.{Firsts, spots, first_in, firsts_in, least_of, letters_at, Lost, lost_from, numbers_lost, lost_numbers, Narrow}
+use Rattle.losses.specs.Visits.{seen_in, own_marks, head_marks, closing_marks, own_uses, listed_below, uses_along, checked_along, part_trees, TokenClass}
 use Rattle.losses.specs.declared.search.Loss.{Loss}
-use Rattle.losses.specs.declared.search.Loss.TheVariants.{Used}
 use Rattle.losses.proofs.Along.{parts_checked}
 use Rattle.losses.proofs.HeadFound.{head_missed}
-use Rattle.losses.proofs.Listing.{least_one, told_used}
+use Rattle.losses.proofs.Letters.{bits_some, bits_most}
+use Rattle.losses.proofs.Listing.{least_one, first_of_lem, told_used}
 use Rattle.losses.proofs.Numbers.{lost_numbers_lem}
 use Rattle.losses.proofs.Passed.{own_unread}
 use Rattle.losses.proofs.Records.{token_class_lem, record_uses}
@@ -179,48 +177,12 @@ unfolding Below
 one_below limit [] used behind below = below.0
 one_below limit (other ∷ before) used behind below = one_below limit before used behind below.1
 
-told_below : (from : ℕ) (bytes : List ℕ) (at letters : ℕ) → batch_checked bytes ≡ no_refusal → lost_from from bytes ≡ Used at letters → at < length bytes
-told_below from bytes at letters passed told =
-    let found = (told_used from bytes at letters passed told).1 in
+told_below : (from : ℕ) (bytes : List ℕ) (loss : Loss) → batch_checked bytes ≡ no_refusal → lost_from from bytes ≡ Ok (Some loss) → loss.place < length bytes
+told_below from bytes loss passed told =
+    let found = (told_used from bytes loss passed told).1 in
     let below = uses_below bytes 64 Tokens 0 false (file_passed 65535 64 bytes passed).layout in
     subst (λ (place : ℕ). place < length bytes) found.stands
     (one_below (length bytes) found.before found.used found.behind (subst (Below (length bytes)) found.split below))
-
--- ---- its letters are those of the places that have a first record there, so one at least
-
--- a bit is there or not
-bit_most : (at : ℕ) (first : Option ℕ) (bit : ℕ) → bit_at at first bit ≤ bit
-bit_most at None bit = omega arith
-bit_most at (Some place) bit = by_test (eqb place at) (λ q. rw q (omega arith)) (λ q. rw q (omega arith))
-
--- it is there where the first record is
-bit_here : {at : ℕ} {first : Option ℕ} → first ≡ Some at → (bit : ℕ) → bit_at at first bit ≡ bit
-bit_here {at} {first} is bit = rw (is, eq-eqb at at refl) refl
-
-module _ (firsts : Firsts) (at : ℕ) where
-  letters_most : letters_at firsts at ≤ 255
-  letters_most =
-      omega (
-        arith,
-        bit_most at firsts.opening_brace 1,
-        bit_most at firsts.label_colon 2,
-        bit_most at firsts.value_head 4,
-        bit_most at firsts.import_path 8,
-        bit_most at firsts.path_item 16,
-        bit_most at firsts.register_letter 32,
-        bit_most at firsts.expression_head 64,
-        bit_most at firsts.closing_character 128,
-      )
-
-  letters_some : (spot : Spot) → first_of firsts spot ≡ Some at → 1 ≤ letters_at firsts at
-  letters_some opening_brace is = omega (arith, bit_here is 1)
-  letters_some label_colon is = omega (arith, bit_here is 2)
-  letters_some value_head is = omega (arith, bit_here is 4)
-  letters_some import_path is = omega (arith, bit_here is 8)
-  letters_some path_item is = omega (arith, bit_here is 16)
-  letters_some register_letter is = omega (arith, bit_here is 32)
-  letters_some expression_head is = omega (arith, bit_here is 64)
-  letters_some closing_character is = omega (arith, bit_here is 128)
 
 -- ---- the answer
 
@@ -230,15 +192,16 @@ unfolding lost_from
 lost_on_narrow from bytes (Err refusal) least is here = rw is tt
 lost_on_narrow from bytes (Ok tt) None is here = rw (is, here) tt
 lost_on_narrow from bytes (Ok tt) (Some at) is here =
-    let firsts : Firsts = firsts_in from (read_file 64 bytes).tree in
-    let spot = least_one firsts at here in
-    let below = told_below from bytes at (letters_at firsts at) is (rw (is, here) refl) in
+    let of : Spot → Option ℕ = λ spot. first_in from spot (read_file 64 bytes).tree in
+    let firsts : Firsts = map of spots in
+    let spot = least_one of at spots here in
+    let below = told_below from bytes (record { place = at; letters = letters_at firsts at }) is (rw (is, here) refl) in
     let short = length_passed 65535 bytes (file_passed 65535 64 bytes is).size in
-    rw (is, here) (omega (arith, below, short), letters_some firsts at spot.0 spot.1, letters_most firsts at)
+    rw (is, here) (omega (arith, below, short), bits_some at firsts (spot_number spot.0) 1 (first_of_lem of spot.0 ∙ spot.1), omega (arith, bits_most at 0 firsts))
 
 -- an answer that is what the definition says is small, and has document 01's numbers
-pub narrow_lost : (loss : Loss) (from : ℕ) (bytes : List ℕ) → loss ≡ lost_from from bytes
-    → (loss ≡ lost_from from bytes) × (Narrow loss × (numbers_lost loss ≡ lost_numbers from bytes))
-narrow_lost loss from bytes is =
+pub narrow_lost : (lost : Lost) (from : ℕ) (bytes : List ℕ) → lost ≡ lost_from from bytes
+    → (lost ≡ lost_from from bytes) × (Narrow lost × (numbers_lost lost ≡ lost_numbers from bytes))
+narrow_lost lost from bytes is =
     let narrow : Narrow (lost_from from bytes) = lost_on_narrow from bytes (batch_checked bytes) (least_of (firsts_in from (read_file 64 bytes).tree)) refl refl in
     (is, (rw is narrow, lost_numbers_lem from bytes is))

@@ -1,6 +1,7 @@
 pub mod Table
 pub mod Along
 pub mod Comments
+pub mod Letters
 pub mod Steps
 pub mod Records
 pub mod Passed

@@ -1,14 +1,15 @@
 -- Called again behind each of its answers, `lost` lists every use of a place and nothing else.
 --   every_use_told : a use at or after `from` is told by the answer from there, or a record before it is
 --   told_used : what is told is a use
-use Rattle.std.specs.Prelude.{Option, Some, None}
+use Rattle.std.specs.Prelude.{Option, Some, None, Ok, map}
 use Rattle.answers.specs.Numbers.{no_refusal}
 use mathlib.Core.Path.{◌≡◌, refl, sym, ap, subst, ◌∙◌}
 use mathlib.Core.Logic.{◌⊎◌, inl, inr, ⊎_elim}
 use mathlib.Core.List.{List, [], ◌∷◌, ◌++◌}
 use mathlib.Core.Bool.{Bool, true, false, cond}
-use Prim.Native.Nat.{ℕ, ◌≤◌}
+use Prim.Native.Nat.{ℕ, zero, suc, ◌≤◌}
 use native.Mathlib.Omega.{arith}
+use lib.ListN.{get_or}
 use lib.Dec.{eqb, ltb}
 use borrow.Author.Tests.{le-ltb, ltb-false, ltb-true, eq-eqb, eqb-true}
 use Rattle.text.proofs.Choices.{by_test}
@@ -16,10 +17,9 @@ use Rattle.tree.specs.Tree.{Tree}
 use Rattle.tree.specs.Checking.{read_file, batch_checked}
 use Rattle.reading.specs.Places.{Spot, Use, opening_brace, label_colon, value_head, import_path, path_item, register_letter, expression_head, closing_character}
 use Rattle.reading.specs.Places.{spot_number, places_in}
-use Rattle.losses.specs.Lost.{earlier_of, first_with, first_from, first_in, firsts_in, lesser_of, least_of, letters_at, answer_with, lost_on, lost_from}
+use Rattle.losses.specs.Lost.{Firsts, spots, earlier_of, first_with, first_from, first_in, firsts_in, lesser_of, least_of, letters_at, Lost, answer_with, lost_on, lost_from}
 use Rattle.losses.specs.Visits.{first_of}
-use Rattle.losses.specs.declared.firsts.Firsts.{Firsts}
-use Rattle.losses.specs.declared.search.Loss.TheVariants.{Used}
+use Rattle.losses.specs.declared.search.Loss.{Loss}
 use Rattle.losses.proofs.Telling.{at_never}
 
 -- ---- a first record within bounds
@@ -87,7 +87,7 @@ use_up_to from first [] used behind here =
 use_up_to from first (other ∷ others) used behind here =
     use_up_to from (cond (eqb (spot_number used.spot) (spot_number other.spot)) (first_with from first other.place) first) others used behind here
 
--- ---- the first of two, and of the eight
+-- ---- the first of two, and of several
 
 lesser_left : (limit : ℕ) (one other : Option ℕ) → UpTo limit one → UpTo limit (lesser_of one other)
 lesser_left limit None other none = absurd none
@@ -109,81 +109,39 @@ lesser_one at None other e = inr e
 lesser_one at (Some place) None e = inl e
 lesser_one at (Some place) (Some other) e = by_test (ltb other place) (λ q. inr (rw q at e)) (λ q. inl (rw q at e))
 
--- the first record of a place, of a tree
-first_of_lem : (from : ℕ) (spot : Spot) (tree : Tree) → first_of (firsts_in from tree) spot ≡ first_in from spot tree
-first_of_lem from opening_brace tree = refl
-first_of_lem from label_colon tree = refl
-first_of_lem from value_head tree = refl
-first_of_lem from import_path tree = refl
-first_of_lem from path_item tree = refl
-first_of_lem from register_letter tree = refl
-first_of_lem from expression_head tree = refl
-first_of_lem from closing_character tree = refl
+-- the least is not behind any of them
+least_up_to : (limit : ℕ) (firsts : Firsts) (number : ℕ) → UpTo limit (get_or firsts number None) → UpTo limit (least_of firsts)
+least_up_to limit [] number none = absurd none
+least_up_to limit (first ∷ firsts) zero within = lesser_left limit first (least_of firsts) within
+least_up_to limit (first ∷ firsts) (suc number) within = lesser_right limit first (least_of firsts) (least_up_to limit firsts number within)
 
-module _ (firsts : Firsts) where
-  abbrev of : Spot → Option ℕ
-  of spot = first_of firsts spot
-
-  -- the lesser of the first two, of the next two, and so on; then of four
-  abbrev ab : Option ℕ
-  ab = lesser_of (of opening_brace) (of label_colon)
-
-  abbrev cd : Option ℕ
-  cd = lesser_of (of value_head) (of import_path)
-
-  abbrev ef : Option ℕ
-  ef = lesser_of (of path_item) (of register_letter)
-
-  abbrev gh : Option ℕ
-  gh = lesser_of (of expression_head) (of closing_character)
-
-  first_half : (limit : ℕ) → UpTo limit (lesser_of ab cd) → UpTo limit (least_of firsts)
-  first_half limit within = lesser_left limit (lesser_of ab cd) (lesser_of ef gh) within
-
-  second_half : (limit : ℕ) → UpTo limit (lesser_of ef gh) → UpTo limit (least_of firsts)
-  second_half limit within = lesser_right limit (lesser_of ab cd) (lesser_of ef gh) within
-
-  -- the least is not behind any of them
-  least_up_to : (limit : ℕ) (spot : Spot) → UpTo limit (first_of firsts spot) → UpTo limit (least_of firsts)
-  least_up_to limit opening_brace within = first_half limit (lesser_left limit ab cd (lesser_left limit (of opening_brace) (of label_colon) within))
-  least_up_to limit label_colon within = first_half limit (lesser_left limit ab cd (lesser_right limit (of opening_brace) (of label_colon) within))
-  least_up_to limit value_head within = first_half limit (lesser_right limit ab cd (lesser_left limit (of value_head) (of import_path) within))
-  least_up_to limit import_path within = first_half limit (lesser_right limit ab cd (lesser_right limit (of value_head) (of import_path) within))
-  least_up_to limit path_item within = second_half limit (lesser_left limit ef gh (lesser_left limit (of path_item) (of register_letter) within))
-  least_up_to limit register_letter within = second_half limit (lesser_left limit ef gh (lesser_right limit (of path_item) (of register_letter) within))
-  least_up_to limit expression_head within = second_half limit (lesser_right limit ef gh (lesser_left limit (of expression_head) (of closing_character) within))
-  least_up_to limit closing_character within = second_half limit (lesser_right limit ef gh (lesser_right limit (of expression_head) (of closing_character) within))
-
-  least_onward : (from : ℕ) → ((spot : Spot) → Onward from (first_of firsts spot)) → Onward from (least_of firsts)
-  least_onward from each =
-      lesser_onward from (lesser_of ab cd) (lesser_of ef gh)
-      (lesser_onward from ab cd
-      (lesser_onward from (of opening_brace) (of label_colon) (each opening_brace) (each label_colon))
-      (lesser_onward from (of value_head) (of import_path) (each value_head) (each import_path)))
-      (lesser_onward from ef gh
-      (lesser_onward from (of path_item) (of register_letter) (each path_item) (each register_letter))
-      (lesser_onward from (of expression_head) (of closing_character) (each expression_head) (each closing_character)))
+module _ (of : Spot → Option ℕ) where
+  least_onward : (from : ℕ) → ((spot : Spot) → Onward from (of spot)) → (some : List Spot) → Onward from (least_of (map of some))
+  least_onward from each [] = tt
+  least_onward from each (spot ∷ some) = lesser_onward from (of spot) (least_of (map of some)) (each spot) (least_onward from each some)
 
   -- and is one of them
-  pub least_one : (at : ℕ) → least_of firsts ≡ Some at → (spot : Spot) × (first_of firsts spot ≡ Some at)
-  least_one at e =
-      ⊎_elim
-      (λ half. ⊎_elim
-      (λ two. ⊎_elim (λ is. (opening_brace, is)) (λ is. (label_colon, is)) (lesser_one at (of opening_brace) (of label_colon) two))
-      (λ two. ⊎_elim (λ is. (value_head, is)) (λ is. (import_path, is)) (lesser_one at (of value_head) (of import_path) two))
-      (lesser_one at ab cd half))
-      (λ half. ⊎_elim
-      (λ two. ⊎_elim (λ is. (path_item, is)) (λ is. (register_letter, is)) (lesser_one at (of path_item) (of register_letter) two))
-      (λ two. ⊎_elim (λ is. (expression_head, is)) (λ is. (closing_character, is)) (lesser_one at (of expression_head) (of closing_character) two))
-      (lesser_one at ef gh half))
-      (lesser_one at (lesser_of ab cd) (lesser_of ef gh) e)
+  pub least_one : (at : ℕ) (some : List Spot) → least_of (map of some) ≡ Some at → (spot : Spot) × (of spot ≡ Some at)
+  least_one at [] e = at_never (sym e)
+  least_one at (spot ∷ some) e = ⊎_elim (λ is. (spot, is)) (λ rest. least_one at some rest) (lesser_one at (of spot) (least_of (map of some)) e)
+
+  -- each stands at its number
+  pub first_of_lem : (spot : Spot) → first_of (map of spots) spot ≡ of spot
+  first_of_lem opening_brace = refl
+  first_of_lem label_colon = refl
+  first_of_lem value_head = refl
+  first_of_lem import_path = refl
+  first_of_lem path_item = refl
+  first_of_lem register_letter = refl
+  first_of_lem expression_head = refl
+  first_of_lem closing_character = refl
 
 -- ---- every use is told
 
 -- the answer from an offset at or before a use: a record at or before it; where it is the use's own, the use's place is among its letters, since its first record is this one
 pub record Told (from : ℕ) (bytes : List ℕ) (used : Use) : Type 0 where
   pub at : ℕ
-  pub answer : lost_from from bytes ≡ Used at (letters_at (firsts_in from (read_file 64 bytes).tree) at)
+  pub answer : lost_from from bytes ≡ Ok (Some (record { place = at; letters = letters_at (firsts_in from (read_file 64 bytes).tree) at }))
   pub onward : from ≤ at
   pub reached : at ≤ used.place
   pub letter : at ≡ used.place → first_in from used.spot (read_file 64 bytes).tree ≡ Some at
@@ -202,13 +160,14 @@ every_use_told from bytes before used behind passed places here =
     let own : UpTo used.place (first_in from used.spot tree) =
     subst (λ (uses : List Use). UpTo used.place (first_from from used.spot None uses)) (sym places) (use_up_to from None before used behind here) in
     let first = there used.place (first_in from used.spot tree) own in
-    let is : first_of firsts used.spot ≡ Some first.0 = first_of_lem from used.spot tree ∙ first.1.0 in
-    let least = there first.0 (least_of firsts) (least_up_to firsts first.0 used.spot (subst (λ (one : Option ℕ). UpTo first.0 one) (sym is) (omega arith))) in
-    let lower : Onward from (least_of firsts) =
-    least_onward firsts from (λ spot. subst (λ (one : Option ℕ). Onward from one) (sym (first_of_lem from spot tree)) (from_onward from spot None (places_in false tree) tt)) in
+    let of : Spot → Option ℕ = λ spot. first_in from spot tree in
+    let is : first_of firsts used.spot ≡ Some first.0 = first_of_lem of used.spot ∙ first.1.0 in
+    let least = there first.0 (least_of firsts)
+    (least_up_to first.0 firsts (spot_number used.spot) (subst (λ (one : Option ℕ). UpTo first.0 one) (sym is) (omega arith))) in
+    let lower : Onward from (least_of firsts) = least_onward of from (λ spot. from_onward from spot None (places_in false tree) tt) spots in
     record {
       at = least.0;
-      answer = ap (lost_on from tree) passed ∙ ap (answer_with firsts) least.1.0;
+      answer = ap (lost_on from tree) passed ∙ ap (λ (least : Option ℕ). Ok (answer_with firsts least)) least.1.0;
       onward = subst (λ (one : Option ℕ). Onward from one) least.1.0 lower;
       reached = omega (arith, least.1.1, first.1.1);
       letter = λ same. first.1.0 ∙ ap (λ (place : ℕ). Some place) (omega (arith, least.1.1, first.1.1, same));
@@ -257,16 +216,19 @@ from_occurs from at spot first (used ∷ others) e =
     (from_occurs from at spot (earlier_of first used.place) others (rw (q, r) at e))))
     (λ q. ⊎_elim (λ is. inl is) (λ found. inr (occurs_on at spot used others found)) (from_occurs from at spot first others (rw q at e)))
 
-answer_used : (firsts : Firsts) (least : Option ℕ) (at letters : ℕ) → answer_with firsts least ≡ Used at letters → least ≡ Some at
-answer_used firsts None at letters e = let zero_one : ◌≡◌ {A = ℕ} 0 1 = cc in absurd (omega arith)
-answer_used firsts (Some place) at letters e = let same : place ≡ at = cc in ap (λ (place : ℕ). Some place) same
+answer_used : (firsts : Firsts) (least : Option ℕ) (loss : Loss) → answer_with firsts least ≡ Some loss → least ≡ Some loss.place
+answer_used firsts None loss e = let zero_one : ◌≡◌ {A = ℕ} 0 1 = cc in absurd (omega arith)
+answer_used firsts (Some at) loss e =
+    let same : ◌≡◌ {A = Loss} (record { place = at; letters = letters_at firsts at }) loss = cc in
+    ap (λ (loss : Loss). Some loss.place) same
 
-pub told_used : (from : ℕ) (bytes : List ℕ) (at letters : ℕ) → batch_checked bytes ≡ no_refusal → lost_from from bytes ≡ Used at letters
-    → (spot : Spot) × Occurs at spot (places_in false (read_file 64 bytes).tree)
+pub told_used : (from : ℕ) (bytes : List ℕ) (loss : Loss) → batch_checked bytes ≡ no_refusal → lost_from from bytes ≡ Ok (Some loss)
+    → (spot : Spot) × Occurs loss.place spot (places_in false (read_file 64 bytes).tree)
 unfolding lost_from
-told_used from bytes at letters passed told =
+told_used from bytes loss passed told =
     let tree : Tree = (read_file 64 bytes).tree in
     let firsts : Firsts = firsts_in from tree in
-    let least = answer_used firsts (least_of firsts) at letters (sym (ap (lost_on from tree) passed) ∙ told) in
-    let one = least_one firsts at least in
-    (one.0, ⊎_elim (λ none. at_never (sym none)) (λ found. found) (from_occurs from at one.0 None (places_in false tree) (sym (first_of_lem from one.0 tree) ∙ one.1)))
+    let said : ◌≡◌ {A = Lost} (Ok (answer_with firsts (least_of firsts))) (Ok (Some loss)) = sym (ap (lost_on from tree) passed) ∙ told in
+    let answered : answer_with firsts (least_of firsts) ≡ Some loss = cc in
+    let one = least_one (λ spot. first_in from spot tree) loss.place spots (answer_used firsts (least_of firsts) loss answered) in
+    (one.0, ⊎_elim (λ none. at_never (sym none)) (λ found. found) (from_occurs from loss.place one.0 None (places_in false tree) one.1))

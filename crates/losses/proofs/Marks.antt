@@ -1,6 +1,6 @@
 -- What the first records become with the uses that a record shows.
 use Rattle.std.specs.Prelude.{Option}
-use mathlib.Core.Path.{◌≡◌, refl, sym, ap, ◌∙◌}
+use mathlib.Core.Path.{◌≡◌, refl, sym, ◌∙◌}
 use mathlib.Core.List.{List, [], ◌∷◌, ◌++◌, append-nil}
 use mathlib.Core.Bool.{Bool, true, false, cond, ◌&&◌, ◌||◌}
 use Prim.Native.Nat.{ℕ}
@@ -12,7 +12,7 @@ use Rattle.tree.specs.declared.grammar.Class.{Class}
 use Rattle.reading.specs.Places.{Spot, Use, spot_number, opening_brace, label_colon, value_head, import_path, path_item, register_letter, expression_head, mark}
 use Rattle.losses.specs.Lost.{first_with, first_from}
 use Rattle.losses.specs.Visits.{first_of, TakesIf, TakesAll, kind_spot, own_spot, head_spot, own_marks, head_marks}
-use Rattle.losses.specs.declared.firsts.Firsts.{Firsts}
+use Rattle.losses.specs.declared.firsts.Search.{Search}
 use Rattle.losses.proofs.Steps.{no_spot_lem}
 
 -- ---- uses behind others
@@ -24,42 +24,42 @@ from_append from spot first [] others = refl
 from_append from spot first (used ∷ some) others =
     from_append from spot (cond (eqb (spot_number spot) (spot_number used.spot)) (first_with from first used.place) first) some others
 
-module _ {after middle before : Firsts} {from : ℕ} {some others : List Use} where
-  pub all_then : TakesAll middle before from some → TakesAll after middle from others → TakesAll after before from (some ++ others)
+module _ {after middle before : Search} {some others : List Use} where
+  pub all_then : TakesAll middle before some → TakesAll after middle others → TakesAll after before (some ++ others)
   all_then first second = record {
-    each = λ spot.
-        second.each spot ∙ ap (λ (first : Option ℕ). first_from from spot first others) (first.each spot) ∙ sym (from_append from spot (first_of before spot) some others);
+    from = second.from ∙ first.from;
+    each = λ spot. second.each spot ∙ rw (first.from, first.each spot) (sym (from_append before.from spot (first_of before.firsts spot) some others));
   }
 
 -- none
-pub all_none : {before : Firsts} {from : ℕ} → TakesAll before before from []
+pub all_none : {before : Search} → TakesAll before before []
 unfolding first_from
-all_none = record { each = λ spot. refl }
+all_none = record { from = refl; each = λ spot. refl }
 
 -- ---- a place that may be used
 
-module _ {after before : Firsts} {from at number : ℕ} {used : Bool} (takes : TakesIf after before from at number used) where
+module _ {after before : Search} {at number : ℕ} {used : Bool} (takes : TakesIf after before at number used) where
   -- it is one of the eight
-  pub one_used : (spot : Spot) → number ≡ spot_number spot → TakesAll after before from (mark at spot used)
+  pub one_used : (spot : Spot) → number ≡ spot_number spot → TakesAll after before (mark at spot used)
   unfolding first_from
   one_used spot is =
       by_test used
-      (λ q. record { each = λ other. rw q (rw (q, is) at (takes.each other)) })
-      (λ q. record { each = λ other. rw q (rw q at (takes.each other)) })
+      (λ q. record { from = takes.from; each = λ other. rw q (rw (q, is) at (takes.each other)) })
+      (λ q. record { from = takes.from; each = λ other. rw q (rw q at (takes.each other)) })
 
   -- it is none
-  pub none_used : number ≡ 8 → TakesAll after before from []
+  pub none_used : number ≡ 8 → TakesAll after before []
   unfolding first_from
   none_used is =
       by_test used
-      (λ q. record { each = λ other. rw (q, is, no_spot_lem other) at (takes.each other) })
-      (λ q. record { each = λ other. rw q at (takes.each other) })
+      (λ q. record { from = takes.from; each = λ other. rw (q, is, no_spot_lem other) at (takes.each other) })
+      (λ q. record { from = takes.from; each = λ other. rw q at (takes.each other) })
 
 -- ---- a record's own place, and its head's
 
-module _ {after before : Firsts} {from at spot : ℕ} {used : Bool} (takes : TakesIf after before from at spot used) (class : Class) (number : ℕ) (listed : Bool) where
+module _ {after before : Search} {at spot : ℕ} {used : Bool} (takes : TakesIf after before at spot used) (class : Class) (number : ℕ) (listed : Bool) where
   -- by its kind
-  kind_used : spot ≡ kind_spot number → TakesAll after before from (mark at import_path (eqb number 41 && used) ++ mark at path_item (eqb number 26 && used))
+  kind_used : spot ≡ kind_spot number → TakesAll after before (mark at import_path (eqb number 41 && used) ++ mark at path_item (eqb number 26 && used))
   kind_used is =
       by_test (eqb number 41)
       (λ import.
@@ -70,7 +70,7 @@ module _ {after before : Firsts} {from at spot : ℕ} {used : Bool} (takes : Tak
       (λ item. rw (import, item) (none_used takes (rw (import, item) at is))))
 
   -- by its field
-  pub own_used : spot ≡ own_spot class number listed → TakesAll after before from (own_marks class number listed at used)
+  pub own_used : spot ≡ own_spot class number listed → TakesAll after before (own_marks class number listed at used)
   own_used is =
       by_test (eqb (class_number class) 3)
       (λ brace. by_test listed
@@ -84,7 +84,7 @@ module _ {after before : Firsts} {from at spot : ℕ} {used : Bool} (takes : Tak
 
   -- a token's head
   pub head_used : (eqb (class_number class) 20 || eqb (class_number class) 21) ≡ true → spot ≡ head_spot class number listed
-      → TakesAll after before from (head_marks class number listed at used)
+      → TakesAll after before (head_marks class number listed at used)
   head_used token is =
       by_test (eqb number 9)
       (λ nine. by_test listed

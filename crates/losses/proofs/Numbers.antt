@@ -1,5 +1,5 @@
 -- The answer of `lost` has the number and value of document 01.
---   lost_numbers_lem : loss ≡ lost_from from bytes → numbers_lost loss ≡ lost_numbers from bytes
+--   lost_numbers_lem : lost ≡ lost_from from bytes → numbers_lost lost ≡ lost_numbers from bytes
 use Rattle.std.specs.Prelude.{Option, Some, None, Ok, Err}
 use mathlib.Core.Path.{◌≡◌, refl, ap, ◌∙◌}
 use mathlib.Core.List.{List}
@@ -9,12 +9,10 @@ use Rattle.answers.proofs.Numbers.{refused_number}
 use Rattle.tree.specs.Checking.{read_file, batch_checked}
 use Rattle.tree.specs.Tree.{Tree}
 use Rattle.tree.proofs.Numbers.{tree_numbers_lem}
-use Rattle.losses.specs.Lost.{firsts_in, least_of, answer_with, lost_on, lost_from, numbers_lost, loss_value, lost_numbers}
-use Rattle.losses.specs.declared.firsts.Firsts.{Firsts}
-use Rattle.losses.specs.declared.search.Loss.{Loss}
+use Rattle.losses.specs.Lost.{Firsts, firsts_in, least_of, Lost, answer_with, lost_on, lost_from, numbers_lost, loss_value, lost_numbers}
 
 -- of the record that is found
-value_numbers : (firsts : Firsts) (least : Option ℕ) → numbers_lost (answer_with firsts least) ≡ (0, loss_value firsts least)
+value_numbers : (firsts : Firsts) (least : Option ℕ) → numbers_lost (Ok (answer_with firsts least)) ≡ (0, loss_value firsts least)
 value_numbers firsts None = refl
 value_numbers firsts (Some at) = refl
 
@@ -25,7 +23,7 @@ checked_numbers from tree (Ok tt) = value_numbers (firsts_in from tree) (least_o
 checked_numbers from tree (Err refusal) = rw (refused_number refusal.reason) refl
 
 -- so an answer that is known has them
-pub lost_numbers_lem : {loss : Loss} (from : ℕ) (bytes : List ℕ) → loss ≡ lost_from from bytes → numbers_lost loss ≡ lost_numbers from bytes
+pub lost_numbers_lem : {lost : Lost} (from : ℕ) (bytes : List ℕ) → lost ≡ lost_from from bytes → numbers_lost lost ≡ lost_numbers from bytes
 unfolding lost_from lost_numbers
 lost_numbers_lem from bytes is =
     let tree : Tree = (read_file 64 bytes).tree in

@@ -1,6 +1,6 @@
 -- The closing character of an operand that was read without refusal: where it stands, and whether it is printed.
 use Rattle.std.specs.Prelude.{Result, Some, Ok, Err}
-use Rattle.answers.specs.Numbers.{no_refusal}
+use Rattle.answers.specs.Numbers.{no_refusal, Checked}
 use mathlib.Core.Path.{◌≡◌, refl, sym, ap, ◌∙◌}
 use mathlib.Core.Logic.{⊎_elim}
 use mathlib.Core.List.{List, [], ◌∷◌}
@@ -33,10 +33,10 @@ use Rattle.leaves.proofs.Records.{read_record}
 use Rattle.leaves.proofs.Fielded.{standing_range}
 use Rattle.reading.specs.Places.{at_closing_character}
 use Rattle.losses.specs.Visits.{behind_field, index_in, part_trees, Takes, TakesIf, Shows, TakesClosing}
-use Rattle.losses.specs.declared.firsts.Firsts.{Firsts}
+use Rattle.losses.specs.declared.firsts.Search.{Search}
 use Rattle.losses.proofs.Steps.{takes_used, takes_unused}
 use Rattle.losses.proofs.Records.{node_read, inner_number}
-use Rattle.losses.proofs.Passed.{next_unskipped, same_next, own_unread, passed_at, passed_skip, shows_it}
+use Rattle.losses.proofs.Passed.{next_unskipped, same_next, own_unread, passed_at, passed_skip}
 
 -- ---- fields, one behind the other
 
@@ -234,15 +234,15 @@ module _ (levels : ℕ) (bytes : List ℕ) (own : Own) where
   Held trees = OperandRead (read below bytes) (own.map / 2) own.end trees
 
   -- by what is read of its fields
-  by_parts : {seen : Result Firsts Refusal} {before : Firsts} {from : ℕ}
-      → ((trees : List Tree) → Held trees → Shows seen (λ after. TakesIf after before from (stands_at (get_or trees 2 absent)) 7
-      (at_closing_character (index_of (get_or trees 3 absent)) (get_or trees 2 absent)))) → TakesClosing seen before from levels bytes own
+  by_parts : {seen : Checked} {after before : Search}
+      → ((trees : List Tree) → Held trees → Shows seen (TakesIf after before (stands_at (get_or trees 2 absent)) 7
+      (at_closing_character (index_of (get_or trees 3 absent)) (get_or trees 2 absent)))) → TakesClosing seen after before levels bytes own
   by_parts shows class at is operand passed = shows (part_trees levels bytes class own) (parts_held levels bytes class at own is operand passed)
 
   -- where it does not stand
-  pub takes_no_closing : {before : Firsts} {from : ℕ} {there : Bool} → there ≡ bit_at 2 (own.map / 2) → there ≡ false
-      → TakesClosing (Ok before) before from levels bytes own
-  takes_no_closing same none = by_parts (λ trees held. shows_it (takes_unused (closing_absent below bytes held (sym same ∙ none))))
+  pub takes_no_closing : {before : Search} {there : Bool} → there ≡ bit_at 2 (own.map / 2) → there ≡ false
+      → TakesClosing no_refusal before before levels bytes own
+  takes_no_closing same none = by_parts (λ trees held. (refl, takes_unused (closing_absent below bytes held (sym same ∙ none))))
 
   -- where it does: nothing that is read on the way to it and to the mode is refused
   module _ {there : Bool} (stands-third : there ≡ bit_at 2 (own.map / 2)) (yes-there : there ≡ true)
@@ -250,7 +250,7 @@ module _ (levels : ℕ) (bytes : List ℕ) (own : Own) where
     it_stands : bit_at 2 (own.map / 2) ≡ true
     it_stands = sym stands-third ∙ yes-there
 
-    pub no_expression : {seen : Result Firsts Refusal} {before : Firsts} {from : ℕ} {why : Refusal} → expression ≡ Err why → TakesClosing seen before from levels bytes own
+    pub no_expression : {seen : Checked} {after before : Search} {why : Refusal} → expression ≡ Err why → TakesClosing seen after before levels bytes own
     no_expression none = by_parts (λ trees held. next_unskipped (sym (expression_skipped below bytes held) ∙ sym expression-is ∙ none))
 
     module _ {lchar : ℕ} (lchar-is : expression ≡ Ok lchar) {second : Bool} (stands-second : second ≡ bit_at 1 (own.map / 2))
@@ -260,7 +260,7 @@ module _ (levels : ℕ) (bytes : List ℕ) (own : Own) where
           let same = same_next (sym lchar-is ∙ expression-is ∙ expression_skipped below bytes held) in
           opening-is ∙ rw (same, stands-second) (opening_skipped below bytes held)
 
-      pub no_opening : {seen : Result Firsts Refusal} {before : Firsts} {from : ℕ} {why : Refusal} → opening ≡ Err why → TakesClosing seen before from levels bytes own
+      pub no_opening : {seen : Checked} {after before : Search} {why : Refusal} → opening ≡ Err why → TakesClosing seen after before levels bytes own
       no_opening none = by_parts (λ trees held. next_unskipped (sym (opening_there held) ∙ none))
 
       module _ {rchar : ℕ} (rchar-is : opening ≡ Ok rchar) {closing : Result ℕ Refusal} (closing-is : closing ≡ skipped below bytes Char rchar) where
@@ -270,7 +270,7 @@ module _ (levels : ℕ) (bytes : List ℕ) (own : Own) where
         closing_there : {trees : List Tree} (held : Held trees) → closing ≡ Ok (printed below bytes held)
         closing_there held = closing-is ∙ rw (rchar_there held) (closing_skipped below bytes held it_stands)
 
-        pub no_closing : {seen : Result Firsts Refusal} {before : Firsts} {from : ℕ} {why : Refusal} → closing ≡ Err why → TakesClosing seen before from levels bytes own
+        pub no_closing : {seen : Checked} {after before : Search} {why : Refusal} → closing ≡ Err why → TakesClosing seen after before levels bytes own
         no_closing none = by_parts (λ trees held. next_unskipped (sym (closing_there held) ∙ none))
 
         module _ {mode : ℕ} (mode-is : closing ≡ Ok mode) {found : Result Own Refusal} (found-is : found ≡ read_own bytes mode AddressingMode below) where
@@ -278,7 +278,7 @@ module _ (levels : ℕ) (bytes : List ℕ) (own : Own) where
           mode_there held =
               sym (found-is ∙ ap (λ (place : ℕ). read_own bytes place AddressingMode below) (same_next (sym mode-is ∙ closing_there held)))
 
-          pub no_mode : {seen : Result Firsts Refusal} {before : Firsts} {from : ℕ} {why : Refusal} → found ≡ Err why → TakesClosing seen before from levels bytes own
+          pub no_mode : {seen : Checked} {after before : Search} {why : Refusal} → found ≡ Err why → TakesClosing seen after before levels bytes own
           no_mode none = by_parts (λ trees held. own_unread below bytes AddressingMode (printed below bytes held) held.mode (mode_there held ∙ none))
 
           -- the index that the leaf holds tells whether it counts
@@ -289,12 +289,12 @@ module _ (levels : ℕ) (bytes : List ℕ) (own : Own) where
                 closing_used below bytes held it_stands leaf (mode_there held ∙ leaf-is) ∙ ap (λ (index : ℕ). not (eqb index 3 || eqb index 4)) (sym index_is)
 
             -- the mode prints it
-            pub takes_printed : {before : Firsts} {from : ℕ} → (eqb index 3 || eqb index 4) ≡ true → TakesClosing (Ok before) before from levels bytes own
-            takes_printed prints = by_parts (λ trees held. shows_it (takes_unused (used_there held ∙ ap not prints)))
+            pub takes_printed : {before : Search} → (eqb index 3 || eqb index 4) ≡ true → TakesClosing no_refusal before before levels bytes own
+            takes_printed prints = by_parts (λ trees held. (refl, takes_unused (used_there held ∙ ap not prints)))
 
             -- or not
-            pub takes_closing : {after before : Firsts} {from : ℕ} → (eqb index 3 || eqb index 4) ≡ false → Takes after before from rchar 7
-                → TakesClosing (Ok after) before from levels bytes own
+            pub takes_closing : {after before : Search} → (eqb index 3 || eqb index 4) ≡ false → Takes after before rchar 7
+                → TakesClosing no_refusal after before levels bytes own
             takes_closing omits takes =
                 by_parts
-                (λ trees held. shows_it (rw (closing_at below bytes held it_stands ∙ sym (rchar_there held)) (takes_used (used_there held ∙ ap not omits) takes)))
+                (λ trees held. (refl, rw (closing_at below bytes held it_stands ∙ sym (rchar_there held)) (takes_used (used_there held ∙ ap not omits) takes)))

@@ -1,6 +1,5 @@
--- A record that was read without refusal: its own bytes were read, it stands at its place, it is skipped, and an answer
--- to it is no refusal.
---   own_unread, next_unskipped, shows_never, finds_never : a refusal of it, from which anything follows
+-- A record that was read without refusal: its own bytes were read, it stands at its place, and it is skipped.
+--   own_unread, next_unskipped : a refusal of it, from which anything follows
 use Rattle.std.specs.Prelude.{Result, Ok, Err}
 use Rattle.answers.specs.Numbers.{no_refusal}
 use mathlib.Core.Path.{◌≡◌, refl, sym, ap, ◌∙◌}
@@ -18,8 +17,6 @@ use Rattle.events.specs.Views.{view, stands_at}
 use Rattle.events.proofs.Heads.{own_refused}
 use Rattle.events.proofs.Passed.{own_passed}
 use Rattle.events.proofs.Refusals.{read_refusal}
-use Rattle.losses.specs.Visits.{Shows, Finds}
-use Rattle.losses.specs.declared.firsts.Firsts.{Firsts}
 use Rattle.losses.proofs.Records.{node_read}
 
 -- ---- the bytes
@@ -55,42 +52,3 @@ module _ (levels : ℕ) (bytes : List ℕ) (class : Class) (at : ℕ) (passed : 
   pub passed_skip : skipped levels bytes class at ≡ Ok (read levels bytes class at).end
   unfolding skipped
   passed_skip = rw passed
-
--- ---- an answer to it
-
--- what was shown is no refusal
-pub shown_refused : {R : Type 0} {firsts : Firsts} {why : Refusal} → Ok firsts ≡ Err why → R
-shown_refused e = let z : ◌≡◌ {A = ℕ} 0 1 = cc in absurd (omega arith)
-
-module _ {held : Firsts → Type 0} where
-  pub shows_it : {firsts : Firsts} → held firsts → Shows (Ok firsts) held
-  shows_it {firsts} holds = record { firsts = firsts; is = refl; holds = holds }
-
-  -- what holds of it
-  pub shows_held : {seen : Result Firsts Refusal} {firsts : Firsts} → seen ≡ Ok firsts → Shows seen held → held firsts
-  shows_held {seen} {firsts} shown shows =
-      let both = sym shows.is ∙ shown in
-      let same : shows.firsts ≡ firsts = cc in
-      rw same at shows.holds
-
-  pub shows_never : {R : Type 0} {seen : Result Firsts Refusal} {why : Refusal} → seen ≡ Err why → Shows seen held → R
-  shows_never refused shows = shown_refused (sym shows.is ∙ refused)
-
-module _ {held : ℕ → Firsts → Type 0} where
-  pub finds_it : {end : ℕ} {firsts : Firsts} → held end firsts → Finds (Ok (end, firsts)) held
-  finds_it {end} {firsts} holds = record { end = end; firsts = firsts; is = refl; holds = holds }
-
-  -- what holds of it
-  pub finds_held : {searched : Result (ℕ × Firsts) Refusal} {end : ℕ} {firsts : Firsts} → searched ≡ Ok (end, firsts) → Finds searched held → held end firsts
-  finds_held {searched} {end} {firsts} whole finds =
-      let both = sym finds.is ∙ whole in
-      let pair : ◌≡◌ {A = ℕ × Firsts} (finds.end, finds.firsts) (end, firsts) = cc in
-      let same : finds.firsts ≡ firsts = ap (λ (found : ℕ × Firsts). found.1) pair in
-      let behind : finds.end ≡ end = ap (λ (found : ℕ × Firsts). found.0) pair in
-      rw (same, behind) at finds.holds
-
-  pub finds_never : {R : Type 0} {searched : Result (ℕ × Firsts) Refusal} {why : Refusal} → searched ≡ Err why → Finds searched held → R
-  finds_never refused finds =
-      let both = sym finds.is ∙ refused in
-      let z : ◌≡◌ {A = ℕ} 0 1 = cc in
-      absurd (omega arith)

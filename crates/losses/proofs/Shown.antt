@@ -1,6 +1,6 @@
 -- What a record shows by itself, step by step: a comment on it, on its head, and an operand's closing character.
-use Rattle.std.specs.Prelude.{Result, Some, Ok, Err}
-use Rattle.answers.specs.Numbers.{no_refusal}
+use Rattle.std.specs.Prelude.{Some, Ok, Err}
+use Rattle.answers.specs.Numbers.{no_refusal, Checked}
 use mathlib.Core.Path.{◌≡◌, refl, sym, ◌∙◌}
 use mathlib.Core.List.{List}
 use mathlib.Core.Bool.{Bool, false, ◌||◌}
@@ -27,22 +27,22 @@ use Rattle.leaves.proofs.Items.{items_kept}
 use Rattle.reading.specs.Places.{has_comment, closing_character}
 use Rattle.losses.specs.Visits.{own_spot, head_spot, own_marks, head_marks}
 use Rattle.losses.specs.Visits.{TakesIf, TakesAll, TakesHead, TakesClosing, TakesRecord}
-use Rattle.losses.specs.declared.firsts.Firsts.{Firsts}
+use Rattle.losses.specs.declared.firsts.Search.{Search}
 use Rattle.losses.proofs.Records.{token_class_lem}
-use Rattle.losses.proofs.Passed.{shown_refused, shows_it, shows_held, shows_never}
+use Rattle.answers.proofs.Cases.{failed_passed}
 use Rattle.losses.proofs.Marks.{all_then, all_none, one_used, own_used, head_used}
 
-module _ (levels : ℕ) (bytes : List ℕ) (class : Class) (at : ℕ) (own : Own) (listed : Bool) {number spot head from : ℕ} {before by-own : Firsts} {headed : Result Firsts Refusal}
+module _ (levels : ℕ) (bytes : List ℕ) (class : Class) (at : ℕ) (own : Own) (listed : Bool) {number spot head : ℕ} {before by-own by-head : Search} {headed : Checked}
     (byte : number ≡ get_or bytes at 0) (spot_is : spot ≡ own_spot class number listed) (head_is : head ≡ head_spot class number listed)
-    (own-takes : TakesIf by-own before from at spot (has_comment (items_at bytes own.trivia own.trivia_count)))
-    (unheaded : head ≡ 8 → headed ≡ Ok by-own) (head-takes : TakesHead headed by-own from levels bytes class at head)
+    (own-takes : TakesIf by-own before at spot (has_comment (items_at bytes own.trivia own.trivia_count)))
+    (unheaded : head ≡ 8 → (headed ≡ no_refusal) × (by-head ≡ by-own)) (head-takes : TakesHead headed by-head by-own levels bytes class at head)
   where
     -- what was read of its head was not refused
-    pub head_stopped : {why : Refusal} → headed ≡ Err why → TakesRecord headed before from levels bytes class at own listed
+    pub head_stopped : {why : Refusal} → headed ≡ Err why → {seen : Checked} {after : Search} → TakesRecord seen after before levels bytes class at own listed
     head_stopped none is passed =
         by_test (eqb (class_number class) 20 || eqb (class_number class) 21)
-        (λ token. shows_never none (head-takes passed (token_class_lem class token)))
-        (λ token. shown_refused (sym (unheaded (head_is ∙ rw token)) ∙ none))
+        (λ token. failed_passed (sym none ∙ (head-takes passed (token_class_lem class token)).0))
+        (λ token. failed_passed (sym none ∙ (unheaded (head_is ∙ rw token)).0))
 
     module _ (is : read_own bytes at class levels ≡ Ok own) (passed : (read levels bytes class at).checked ≡ no_refusal) where
       abbrev tree : Tree
@@ -58,33 +58,28 @@ module _ (levels : ℕ) (bytes : List ℕ) (class : Class) (at : ℕ) (own : Own
           items_kept bytes own.trivia own.trivia_count fits.items.0 fits.items.1 ∙ sym (own_read levels bytes class at own is).1
 
       -- a comment on it
-      own_all : TakesAll by-own before from (own_marks class (token_number tree) listed at (has_comment (own_trivia tree)))
+      own_all : TakesAll by-own before (own_marks class (token_number tree) listed at (has_comment (own_trivia tree)))
       own_all = rw (number_is, trivia_are) at (own_used own-takes class number listed spot_is)
 
       -- a comment on its head
-      head_all : {by-head : Firsts} → headed ≡ Ok by-head
-          → TakesAll by-head by-own from (head_marks class (token_number tree) listed (stands_at (head_of tree)) (has_comment (own_trivia (head_of tree))))
-      head_all {by-head} held =
+      head_all : TakesAll by-head by-own (head_marks class (token_number tree) listed (stands_at (head_of tree)) (has_comment (own_trivia (head_of tree))))
+      head_all =
           by_test (eqb (class_number class) 20 || eqb (class_number class) 21)
-          (λ token. rw number_is at (head_used (shows_held held (head-takes passed (token_class_lem class token))) class number listed token head_is))
-          (λ token.
-          let shown : Ok by-head ≡ Ok by-own = sym held ∙ unheaded (head_is ∙ rw token) in
-          let same : by-head ≡ by-own = cc in
-          rw (token, same) all_none)
+          (λ token. rw number_is at (head_used (head-takes passed (token_class_lem class token)).1 class number listed token head_is))
+          (λ token. rw (token, (unheaded (head_is ∙ rw token)).1) all_none)
 
-    module _ {by-head : Firsts} (held : headed ≡ Ok by-head) where
-      -- it is an operand
-      pub operand_shown : {closing : Result Firsts Refusal} → number ≡ 37 → TakesClosing closing by-head from levels bytes own
-          → TakesRecord closing before from levels bytes class at own listed
-      operand_shown operand closing is passed =
-          let known : kind_of 37 ≡ Some own.kind = rw (sym byte ∙ operand) at (record_headed bytes at class levels own is).1.kind_is in
-          let kind : own.kind ≡ variant.Operand = cc in
-          let shows = closing class at is kind passed in
-          let last = one_used shows.holds closing_character refl in
-          rw shows.is (shows_it (all_then (own_all is passed) (all_then (head_all is passed held) (rw (sym (number_is is passed) ∙ operand) last))))
+    -- it is an operand
+    pub operand_shown : {closing : Checked} {after : Search} → number ≡ 37 → TakesClosing closing after by-head levels bytes own
+        → TakesRecord closing after before levels bytes class at own listed
+    operand_shown operand closing is passed =
+        let known : kind_of 37 ≡ Some own.kind = rw (sym byte ∙ operand) at (record_headed bytes at class levels own is).1.kind_is in
+        let kind : own.kind ≡ variant.Operand = cc in
+        let shows = closing class at is kind passed in
+        let last = one_used shows.1 closing_character refl in
+        (shows.0, all_then (own_all is passed) (all_then (head_all is passed) (rw (sym (number_is is passed) ∙ operand) last)))
 
-      -- it is none
-      pub record_shown : (number ≡ 37 → ⊥) → TakesRecord (Ok by-head) before from levels bytes class at own listed
-      record_shown other is passed =
-          let number_other : eqb (token_number (read levels bytes class at).tree) 37 ≡ false = rw (sym (number_is is passed)) (ne_eqb number 37 other) in
-          shows_it (all_then (own_all is passed) (all_then (head_all is passed held) (rw number_other all_none)))
+    -- it is none
+    pub record_shown : (number ≡ 37 → ⊥) → TakesRecord no_refusal by-head before levels bytes class at own listed
+    record_shown other is passed =
+        let number_other : eqb (token_number (read levels bytes class at).tree) 37 ≡ false = rw (sym (number_is is passed)) (ne_eqb number 37 other) in
+        (refl, all_then (own_all is passed) (all_then (head_all is passed) (rw number_other all_none)))

@@ -1,13 +1,14 @@
 -- What an answer of `lost` tells: none at all, that no place is used; so demand 3's premise can be tested.
---   nothing_lost : batch_checked bytes ≡ Passed → lost_from 0 bytes ≡ Unused → uses_place (read_file 64 bytes).tree ≡ false
---   first_never : first_in 0 spot tree ≡ Never → uses spot tree ≡ false
-use Rattle.std.specs.Prelude.{Option, Some, None}
+--   nothing_lost : batch_checked bytes ≡ no_refusal → lost_from 0 bytes ≡ Ok None → uses_place (read_file 64 bytes).tree ≡ false
+--   first_never : first_in 0 spot tree ≡ None → uses spot tree ≡ false
+use Rattle.std.specs.Prelude.{Option, Some, None, Ok}
 use Rattle.answers.specs.Numbers.{no_refusal}
 use mathlib.Core.Path.{◌≡◌, refl, sym, ap, ◌∙◌}
 use mathlib.Core.List.{List, [], ◌∷◌}
 use mathlib.Core.Bool.{false}
-use Prim.Native.Nat.{ℕ}
+use Prim.Native.Nat.{ℕ, zero, suc}
 use native.Mathlib.Omega.{arith}
+use lib.ListN.{get_or}
 use lib.Dec.{eqb, ltb}
 use borrow.Author.Tests.{le-ltb}
 use Rattle.text.proofs.Choices.{by_test}
@@ -15,9 +16,7 @@ use Rattle.tree.specs.Checking.{read_file, batch_checked}
 use Rattle.tree.specs.Tree.{Tree}
 use Rattle.reading.specs.Places.{Spot, Use, opening_brace, label_colon, value_head, import_path, path_item, register_letter, expression_head, closing_character}
 use Rattle.reading.specs.Places.{spot_number, places_in, among, uses, uses_place}
-use Rattle.losses.specs.Lost.{earlier_of, first_from, first_in, firsts_in, lesser_of, least_of, answer_with, lost_on, lost_from}
-use Rattle.losses.specs.declared.firsts.Firsts.{Firsts}
-use Rattle.losses.specs.declared.search.Loss.TheVariants.{Unused}
+use Rattle.losses.specs.Lost.{Firsts, earlier_of, first_from, first_in, firsts_in, lesser_of, least_of, Lost, answer_with, lost_on, lost_from}
 
 -- ---- a first record stays one
 
@@ -64,33 +63,34 @@ lesser_never None other e = (refl, e)
 lesser_never (Some place) None e = at_never e
 lesser_never (Some place) (Some other) e = by_test (ltb other place) (λ q. at_never (rw q at e)) (λ q. at_never (rw q at e))
 
+-- the least is none where all are
+least_never : (firsts : Firsts) (number : ℕ) → least_of firsts ≡ None → get_or firsts number None ≡ None
+least_never [] number e = refl
+least_never (first ∷ firsts) zero e = (lesser_never first (least_of firsts) e).0
+least_never (first ∷ firsts) (suc number) e = least_never firsts number (lesser_never first (least_of firsts) e).1
+
 -- the answer is none where the least is
-answer_unused : (firsts : Firsts) (least : Option ℕ) → answer_with firsts least ≡ Unused → least ≡ None
+answer_unused : (firsts : Firsts) (least : Option ℕ) → answer_with firsts least ≡ None → least ≡ None
 answer_unused firsts None e = refl
 answer_unused firsts (Some at) e = let zero_one : ◌≡◌ {A = ℕ} 0 1 = cc in absurd (omega arith)
 
 -- `lost` finds nothing from the first byte on: the tree uses none of the eight places
-pub nothing_lost : (bytes : List ℕ) → batch_checked bytes ≡ no_refusal → lost_from 0 bytes ≡ Unused → uses_place (read_file 64 bytes).tree ≡ false
+pub nothing_lost : (bytes : List ℕ) → batch_checked bytes ≡ no_refusal → lost_from 0 bytes ≡ Ok None → uses_place (read_file 64 bytes).tree ≡ false
 unfolding lost_from
 nothing_lost bytes passed none =
     let tree : Tree = (read_file 64 bytes).tree in
     let firsts : Firsts = firsts_in 0 tree in
-    let least = answer_unused firsts (least_of firsts) (sym (ap (lost_on 0 tree) passed) ∙ none) in
-    let halves = lesser_never (lesser_of (lesser_of firsts.opening_brace firsts.label_colon) (lesser_of firsts.value_head firsts.import_path))
-    (lesser_of (lesser_of firsts.path_item firsts.register_letter) (lesser_of firsts.expression_head firsts.closing_character)) least in
-    let first = lesser_never (lesser_of firsts.opening_brace firsts.label_colon) (lesser_of firsts.value_head firsts.import_path) halves.0 in
-    let second = lesser_never (lesser_of firsts.path_item firsts.register_letter) (lesser_of firsts.expression_head firsts.closing_character) halves.1 in
-    let ab = lesser_never firsts.opening_brace firsts.label_colon first.0 in
-    let cd = lesser_never firsts.value_head firsts.import_path first.1 in
-    let ef = lesser_never firsts.path_item firsts.register_letter second.0 in
-    let gh = lesser_never firsts.expression_head firsts.closing_character second.1 in
+    let told : ◌≡◌ {A = Lost} (Ok (answer_with firsts (least_of firsts))) (Ok None) = sym (ap (lost_on 0 tree) passed) ∙ none in
+    let unused : answer_with firsts (least_of firsts) ≡ None = cc in
+    let never : (number : ℕ) → get_or firsts number None ≡ None =
+    λ number. least_never firsts number (answer_unused firsts (least_of firsts) unused) in
     rw (
-      first_never opening_brace tree ab.0,
-      first_never label_colon tree ab.1,
-      first_never value_head tree cd.0,
-      first_never import_path tree cd.1,
-      first_never path_item tree ef.0,
-      first_never register_letter tree ef.1,
-      first_never expression_head tree gh.0,
-      first_never closing_character tree gh.1,
+      first_never opening_brace tree (never 0),
+      first_never label_colon tree (never 1),
+      first_never value_head tree (never 2),
+      first_never import_path tree (never 3),
+      first_never path_item tree (never 4),
+      first_never register_letter tree (never 5),
+      first_never expression_head tree (never 6),
+      first_never closing_character tree (never 7),
     )

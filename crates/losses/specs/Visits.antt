@@ -1,10 +1,10 @@
 -- Not part of the promise: the places as the search meets them, record by record, each by the class of the field that it stands in.
-use Rattle.std.specs.Prelude.{ℕ, ◌-◌, ◌≡◌, List, [], ◌∷◌, ◌++◌, Bool, true, false, cond, not, ◌&&◌, ◌||◌, eqb, ltb, get_or, Option, Result, None, Ok, Err}
+use Rattle.std.specs.Prelude.{ℕ, ◌-◌, ◌≡◌, List, [], ◌∷◌, ◌++◌, Bool, true, false, cond, not, ◌&&◌, ◌||◌, eqb, ltb, get_or, replicate, Option, Result, Some, None, Ok}
 use Rattle.answers.specs.declared.Refusal.{Refusal}
 use Rattle.answers.specs.Numbers.{no_refusal, and_then, Checked}
 use Rattle.tree.specs.Kinds as kinds
 use Rattle.tree.specs.Grammar.{rule, nodes}
-use Rattle.tree.specs.Own.{layout, read_own}
+use Rattle.tree.specs.Own.{read_own}
 use Rattle.tree.specs.Parts.{skipped}
 use Rattle.tree.specs.Reading.{Reader, parts_due, read_parts, read}
 use Rattle.tree.specs.Tree.{Tree, absent}
@@ -18,8 +18,10 @@ use Rattle.events.specs.Views.{stands_at, head_of}
 use Rattle.reading.specs.Places.{Spot, Use, has_comment, mark, places_in}
 use Rattle.reading.specs.Places.{opening_brace, label_colon, value_head, import_path, path_item, register_letter, expression_head, closing_character, spot_number}
 use Rattle.reading.specs.Places.{at_opening_brace, at_label_colon, at_register_letter, at_value_head, at_expression_head, at_closing_character}
-use Rattle.losses.specs.declared.firsts.Firsts.{Firsts}
-use Rattle.losses.specs.Lost.{first_with, first_from}
+use Rattle.losses.specs.declared.firsts.Search.{Search}
+use Rattle.losses.specs.declared.places.Place.{Place}
+use Rattle.losses.specs.declared.places.Place.TheVariants.{OpeningBrace, LabelColon, ValueHead, ImportPath, PathItem, RegisterLetter, ExpressionHead, ClosingCharacter}
+use Rattle.losses.specs.Lost.{Firsts, first_with, first_from}
 
 -- ---- which use a record shows, by its class and its kind
 
@@ -72,9 +74,24 @@ listed_below number listed = cond (eqb number kinds.vec) true (cond (eqb number 
 
 -- ---- the same by numbers
 
+-- a place of the code, and its number where one is used
+abbrev pub spot_of : Place → Spot
+spot_of OpeningBrace = opening_brace
+spot_of LabelColon = label_colon
+spot_of ValueHead = value_head
+spot_of ImportPath = import_path
+spot_of PathItem = path_item
+spot_of RegisterLetter = register_letter
+spot_of ExpressionHead = expression_head
+spot_of ClosingCharacter = closing_character
+
 -- where no place is used
 abbrev pub no_spot : ℕ
 no_spot = 8
+
+abbrev pub number_of : Option Place → ℕ
+number_of None = no_spot
+number_of (Some place) = spot_number (spot_of place)
 
 abbrev pub kind_spot : ℕ → ℕ
 kind_spot number =
@@ -96,97 +113,63 @@ head_spot class number listed = cond (eqb (class_number class) (class_number Bar
 -- ---- what the first records become
 
 abbrev pub first_of : Firsts → Spot → Option ℕ
-first_of firsts opening_brace = firsts.opening_brace
-first_of firsts label_colon = firsts.label_colon
-first_of firsts value_head = firsts.value_head
-first_of firsts import_path = firsts.import_path
-first_of firsts path_item = firsts.path_item
-first_of firsts register_letter = firsts.register_letter
-first_of firsts expression_head = firsts.expression_head
-first_of firsts closing_character = firsts.closing_character
+first_of firsts spot = get_or firsts (spot_number spot) None
 
 abbrev pub no_firsts : Firsts
-no_firsts = record {
-  opening_brace = None;
-  label_colon = None;
-  value_head = None;
-  import_path = None;
-  path_item = None;
-  register_letter = None;
-  expression_head = None;
-  closing_character = None;
-}
+no_firsts = replicate 8 None
 
 -- with a record at an offset that uses a place
-pub record Takes (after before : Firsts) (from at number : ℕ) : Type 0 where
-  pub each : (spot : Spot) → first_of after spot ≡ cond (eqb (spot_number spot) number) (first_with from (first_of before spot) at) (first_of before spot)
+pub record Takes (after before : Search) (at number : ℕ) : Type 0 where
+  pub from : after.from ≡ before.from
+  pub each : (spot : Spot) → first_of after.firsts spot
+      ≡ cond (eqb (spot_number spot) number) (first_with before.from (first_of before.firsts spot) at) (first_of before.firsts spot)
 
 -- where it does
-pub record TakesIf (after before : Firsts) (from at number : ℕ) (used : Bool) : Type 0 where
-  pub each : (spot : Spot) → first_of after spot ≡ cond (used && eqb (spot_number spot) number) (first_with from (first_of before spot) at) (first_of before spot)
+pub record TakesIf (after before : Search) (at number : ℕ) (used : Bool) : Type 0 where
+  pub from : after.from ≡ before.from
+  pub each : (spot : Spot) → first_of after.firsts spot
+      ≡ cond (used && eqb (spot_number spot) number) (first_with before.from (first_of before.firsts spot) at) (first_of before.firsts spot)
 
 -- with some uses
-pub record TakesAll (after before : Firsts) (from : ℕ) (uses : List Use) : Type 0 where
-  pub each : (spot : Spot) → first_of after spot ≡ first_from from spot (first_of before spot) uses
+pub record TakesAll (after before : Search) (uses : List Use) : Type 0 where
+  pub from : after.from ≡ before.from
+  pub each : (spot : Spot) → first_of after.firsts spot ≡ first_from before.from spot (first_of before.firsts spot) uses
 
 -- ---- what is promised of a record that was read without refusal
 
 abbrev pub TokenClass : Class → Type 0
 TokenClass class = (located : Bool) × (rule class ≡ nodes kinds.align kinds.variable_definition located)
 
--- the first records are shown, and this holds of them; so no refusal was met
-pub record Shows (seen : Result Firsts Refusal) (held : Firsts → Type 0) : Type 0 where
-  pub firsts : Firsts
-  pub is : seen ≡ Ok firsts
-  pub holds : held firsts
+-- no refusal was met, and this holds
+abbrev pub Shows : Checked → Type 0 → Type 0
+Shows seen held = (seen ≡ no_refusal) × held
 
-abbrev pub TakesHead : Result Firsts Refusal → Firsts → ℕ → ℕ → List ℕ → Class → ℕ → ℕ → Type 0
-TakesHead seen before from levels bytes class at number =
+abbrev pub TakesHead : Checked → Search → Search → ℕ → List ℕ → Class → ℕ → ℕ → Type 0
+TakesHead seen after before levels bytes class at number =
     (read levels bytes class at).checked ≡ no_refusal → TokenClass class
-    → Shows seen (λ after. TakesIf after before from (stands_at (head_of (read levels bytes class at).tree)) number
+    → Shows seen (TakesIf after before (stands_at (head_of (read levels bytes class at).tree)) number
     (has_comment (own_trivia (head_of (read levels bytes class at).tree))))
 
 abbrev pub part_trees : ℕ → List ℕ → Class → Own → List Tree
 part_trees levels bytes class own = (read_parts (read (levels - 1) bytes) (parts_due class own) own.end).trees
 
-abbrev pub TakesClosing : Result Firsts Refusal → Firsts → ℕ → ℕ → List ℕ → Own → Type 0
-TakesClosing seen before from levels bytes own =
+abbrev pub TakesClosing : Checked → Search → Search → ℕ → List ℕ → Own → Type 0
+TakesClosing seen after before levels bytes own =
     (class : Class) (at : ℕ) → read_own bytes at class levels ≡ Ok own → own.kind ≡ kind.Operand → (read levels bytes class at).checked ≡ no_refusal
-    → Shows seen (λ after. TakesIf after before from (stands_at (get_or (part_trees levels bytes class own) 2 absent)) 7
+    → Shows seen (TakesIf after before (stands_at (get_or (part_trees levels bytes class own) 2 absent)) 7
     (at_closing_character (index_of (get_or (part_trees levels bytes class own) 3 absent)) (get_or (part_trees levels bytes class own) 2 absent)))
 
-abbrev pub TakesRecord : Result Firsts Refusal → Firsts → ℕ → ℕ → List ℕ → Class → ℕ → Own → Bool → Type 0
-TakesRecord seen before from levels bytes class at own listed =
+abbrev pub TakesRecord : Checked → Search → Search → ℕ → List ℕ → Class → ℕ → Own → Bool → Type 0
+TakesRecord seen after before levels bytes class at own listed =
     read_own bytes at class levels ≡ Ok own → (read levels bytes class at).checked ≡ no_refusal
-    → Shows seen (λ after. TakesAll after before from
+    → Shows seen (TakesAll after before
     (own_uses class listed (read levels bytes class at).tree at (part_trees levels bytes class own)))
 
 -- the same of a search, which comes to the place behind the record
-pub record Finds (searched : Result (ℕ × Firsts) Refusal) (held : ℕ → Firsts → Type 0) : Type 0 where
-  pub end : ℕ
-  pub firsts : Firsts
-  pub is : searched ≡ Ok (end, firsts)
-  pub holds : held end firsts
-
-abbrev pub Searches : Result (ℕ × Firsts) Refusal → Firsts → ℕ → ℕ → List ℕ → Class → ℕ → Bool → Type 0
-Searches searched before from levels bytes class at listed =
+abbrev pub Searches : Result ℕ Refusal → Search → Search → ℕ → List ℕ → Class → ℕ → Bool → Type 0
+Searches searched after before levels bytes class at listed =
     (read levels bytes class at).checked ≡ no_refusal
-    → Finds searched (λ end after. (end ≡ (read levels bytes class at).end)
-    × TakesAll after before from (seen_in class listed (read levels bytes class at).tree))
-
--- ---- the refusal that was met; where there is none a place stands for one
-
-abbrev pub refused_use : ℕ → Result Firsts Refusal → Refusal
-refused_use at (Err refusal) = refusal
-refused_use at (Ok firsts) = layout at
-
-abbrev pub refused_search : Result (ℕ × Firsts) Refusal → Refusal
-refused_search (Err refusal) = refusal
-refused_search (Ok (end, firsts)) = layout end
-
-abbrev pub refused_check : Checked → Refusal
-refused_check (Err refusal) = refusal
-refused_check (Ok tt) = layout 0
+    → (searched ≡ Ok (read levels bytes class at).end) × TakesAll after before (seen_in class listed (read levels bytes class at).tree)
 
 -- ---- the parts of a record
 

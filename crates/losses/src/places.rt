@@ -1,18 +1,30 @@
-// The eight places of document 01 by number, (a) to (h), and what stands for none of them.
-pub const OPENING_BRACE: usize = 0;
+// The eight places of document 01.
+ghost use Rattle.std.specs.Prelude.{◌≡◌, ◌<◌};
+ghost use Rattle.reading.specs.Places.{spot_number};
+ghost use Rattle.losses.specs.Visits.{spot_of};
 
-pub const LABEL_COLON: usize = 1;
+// The places (a) to (h).
+#[derive(Clone, Copy, Debug, PartialEq, Eq)]
+pub enum Place {
+    OpeningBrace,
+    LabelColon,
+    ValueHead,
+    ImportPath,
+    PathItem,
+    RegisterLetter,
+    ExpressionHead,
+    ClosingCharacter,
+}
 
-pub const VALUE_HEAD: usize = 2;
+// How many places there are.
+pub const PLACES: usize = 8;
 
-pub const IMPORT_PATH: usize = 3;
-
-pub const PATH_ITEM: usize = 4;
-
-pub const REGISTER_LETTER: usize = 5;
-
-pub const EXPRESSION_HEAD: usize = 6;
-
-pub const CLOSING_CHARACTER: usize = 7;
-
-pub const NONE: usize = 8;
+impl Place {
+    // 0 for (a) to 7 for (h).
+    pub fn number(self) -> usize
+        ensures number { result ≡ spot_number (spot_of self) }
+        ensures within { result < PLACES }
+    {
+        self as usize
+    }
+}

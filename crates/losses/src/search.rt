@@ -1,22 +1,27 @@
 // The search of a tree for the first record that uses a place.
-ghost use Rattle.std.specs.Prelude.{◌≡◌};
-ghost use Rattle.losses.specs.Lost.{lost_from, numbers_lost, lost_numbers, Narrow};
-ghost use Rattle.losses.specs.Visits.{listed_below, no_firsts, refused_search, refused_check, Searches};
+ghost use Rattle.std.specs.Prelude.{◌≡◌, length};
+ghost use Rattle.losses.specs.Lost.{least_of, answer_with, lost_from, numbers_lost, lost_numbers, Narrow};
+ghost use Rattle.losses.specs.Visits.{listed_below, Searches};
 
-use crate::firsts::Firsts;
-use crate::{firsts, uses};
-use answers::{Checked, Reason, Refusal};
+use crate::firsts::Search;
+use crate::places::PLACES;
+use answers::{Answer, Refusal};
 use text::numbers;
 use tree::grammar::Class;
 use tree::{check, kinds, own};
 
-// The first record that uses a place: its offset, and its places as bits, 1 for (a) to 128 for (h).
-#[derive(Clone, Copy)]
-pub enum Loss {
-    Used(usize, usize),
-    Unused,
-    Refused(Refusal),
+// A record that uses places: its offset, and its places as bits, 1 for (a) to 128 for (h).
+#[derive(Clone, Copy, Debug, PartialEq, Eq)]
+pub struct Loss {
+    pub place: usize,
+    pub letters: usize,
 }
+
+// The first record that uses a place, or none; or the refusal of the tree.
+pub type Lost = Result<Option<Loss>, Refusal>;
+
+// How deep a tree may stand.
+const LEVELS: usize = 64;
 
 // Whether the parts of a record stand in a list: the items of a list do; the block of `Braces` or `Config` and its
 // brace count as their token.
@@ -25,112 +30,56 @@ fn listed_below(number: usize, listed: bool) -> bool
 {
     match number {
         kinds::VEC => true,
-        kinds::BRACES => listed,
-        kinds::CONFIG => listed,
-        kinds::BLOCK => listed,
+        kinds::BRACES | kinds::CONFIG | kinds::BLOCK => listed,
         _ => false,
     }
 }
 
-// The record of a class at a place, with all its parts.
-fn search(
-    tree: &[u8],
-    at: usize,
-    class: Class,
-    levels: usize,
-    listed: bool,
-    from: usize,
-    firsts: Firsts,
-) -> Result<(usize, Firsts), Refusal>
-    ensures { Searches result firsts from levels tree.now class at listed }
-{
-    let read = own::read_own(tree, at, class, levels);
-    let Ok(own) = read else {
-        return Err(own::refusal_of(read));
-    };
-    let used = uses::record_uses(tree, at, class, levels, own, listed, from, firsts);
-    let Ok(shown) = used else {
-        return Err(uses::refused_use(used, at));
-    };
-    let below = listed_below(numbers::byte_at(tree, at), listed);
-    let mut place = own.end;
-    let mut seen = shown;
-    let mut plan = check::plan_of(class, own);
-    loop {
-        let part = check::next_part(plan);
-        let Some((field, rest)) = part else {
-            return Ok((place, seen));
-        };
-        let searched = search(tree, place, field, levels - 1, below, from, seen);
-        let Ok((end, found)) = searched else {
-            return searched;
-        };
-        place = end;
-        seen = found;
-        plan = rest;
+impl Search {
+    // The record of a class at a place, with all its parts: the place behind it.
+    fn search(
+        &mut self,
+        tree: &[u8],
+        at: usize,
+        class: Class,
+        levels: usize,
+        listed: bool,
+    ) -> Answer
+        ensures { Searches result self.new self.old levels tree.now class at listed }
+    {
+        let own = own::read_own(tree, at, class, levels)?;
+        self.record_uses(tree, at, class, levels, own, listed)?;
+        let below = listed_below(numbers::byte_at(tree, at), listed);
+        let mut place = own.end;
+        let mut plan = check::plan_of(class, own);
+        while let Some((field, rest)) = check::next_part(plan) {
+            place = self.search(tree, place, field, levels - 1, below)?;
+            plan = rest;
+        }
+        Ok(place)
     }
-}
 
-// The refusal that the search met; a record that was searched has none, and the place behind it stands for one.
-fn refused_search(searched: Result<(usize, Firsts), Refusal>) -> Refusal
-    ensures { result ≡ refused_search searched }
-{
-    match searched {
-        Err(refusal) => refusal,
-        Ok((end, _)) => Refusal {
-            reason: Reason::TreeLayout,
-            place: end,
-        },
-    }
-}
-
-// The refusal that the check gave; a tree that passed has none, and its first byte stands for one.
-fn refused_check(checked: Checked) -> Refusal
-    ensures { result ≡ refused_check checked }
-{
-    match checked {
-        Err(refusal) => refusal,
-        Ok(()) => Refusal {
-            reason: Reason::TreeLayout,
-            place: 0,
-        },
-    }
-}
-
-// No record so far.
-fn no_firsts() -> Firsts
-    ensures { result ≡ no_firsts }
-{
-    Firsts {
-        opening_brace: None,
-        label_colon: None,
-        value_head: None,
-        import_path: None,
-        path_item: None,
-        register_letter: None,
-        expression_head: None,
-        closing_character: None,
+    // The first record that was found, with its letters.
+    fn loss(&self) -> Option<Loss>
+        ensures loss { result ≡ answer_with self.now.firsts (least_of self.now.firsts) }
+        ensures places { length self.now.firsts ≡ PLACES }
+    {
+        self.least().map(|place| Loss {
+            place,
+            letters: self.letters_at(place),
+        })
     }
 }
 
 // The first record at or after an offset that uses one of the eight places, or the refusal of the tree. Called again
 // behind it, this lists all.
-pub fn lost(tree: &[u8], from: usize) -> Loss
+pub fn lost(tree: &[u8], from: usize) -> Lost
     ensures answer { result ≡ lost_from from tree.now }
     ensures narrow { Narrow result }
     ensures numbers { numbers_lost result ≡ lost_numbers from tree.now }
 {
-    let checked = check::check_tree(tree);
-    let Ok(()) = checked else {
-        return Loss::Refused(refused_check(checked));
-    };
-    let searched = search(tree, 0, Class::Tokens, 64, false, from, no_firsts());
-    let Ok((_, seen)) = searched else {
-        return Loss::Refused(refused_search(searched));
-    };
-    let least = firsts::least(seen);
-    match least {
-        None => Loss::Unused,
-        Some(at) => Loss::Used(at, firsts::letters_at(seen, at)),
-    }
+    check::check_tree(tree)?;
+    let mut search = Search::new(from);
+    search.search(tree, 0, Class::Tokens, LEVELS, false)?;
+    Ok(search.loss())
 }

@@ -1,31 +1,19 @@
 // The uses of places that a record shows by itself: comments on it, on its head, and an operand's closing character.
-ghost use Rattle.std.specs.Prelude.{◌≡◌, ◌<◌, Ok};
+ghost use Rattle.std.specs.Prelude.{◌≡◌, ◌<◌};
+ghost use Rattle.answers.specs.Numbers.{no_refusal};
 ghost use Rattle.leaves.specs.Items.{items_at};
 ghost use Rattle.reading.specs.Places.{has_comment};
-ghost use Rattle.losses.specs.Visits.{no_spot, kind_spot, own_spot, token_spot, head_spot, behind_field, index_in, refused_use};
+ghost use Rattle.losses.specs.Visits.{no_spot, number_of, kind_spot, own_spot, token_spot, head_spot, behind_field, index_in};
 ghost use Rattle.losses.specs.Visits.{TakesIf, TakesHead, TakesClosing, TakesRecord};
 
-use crate::firsts::Firsts;
-use crate::{firsts, places};
-use answers::{Reason, Refusal};
+use crate::firsts::Search;
+use crate::places::Place;
+use answers::{Checked, Refusal};
 use leaves::record;
 use text::numbers;
 use tree::grammar::Class;
 use tree::own::Own;
 use tree::{codes, kinds, own, parts};
-
-// The refusal that was met; what was shown has none, and the record's place stands for one.
-pub(crate) fn refused_use(seen: Result<Firsts, Refusal>, at: usize) -> Refusal
-    ensures { result ≡ refused_use at seen }
-{
-    match seen {
-        Err(refusal) => refusal,
-        Ok(_) => Refusal {
-            reason: Reason::TreeLayout,
-            place: at,
-        },
-    }
-}
 
 // Whether one of `count` trivia items is a comment, which the last two codes are. No item of a record that was read
 // is broken.
@@ -33,116 +21,62 @@ fn has_comment(tree: &[u8], at: usize, count: usize) -> bool
     ensures { result ≡ has_comment (items_at tree.now at count) }
 {
     let mut place = at;
-    let mut left = count;
-    while 0 < left {
-        let read = parts::trivium_at(tree, place);
-        let Some(item) = read else {
+    for _ in 0..count {
+        let Some(item) = parts::trivium_at(tree, place) else {
             return false;
         };
         if codes::C_STYLE <= item.code {
             return true;
         }
         place = item.end;
-        left -= 1;
     }
     false
 }
 
 // The place that a comment on a record of a kind uses.
-fn kind_spot(number: usize) -> usize
-    ensures { result ≡ kind_spot number }
+fn kind_spot(number: usize) -> Option<Place>
+    ensures { number_of result ≡ kind_spot number }
 {
     match number {
-        kinds::SPECIFIC_IMPORT_ARG => places::IMPORT_PATH,
-        kinds::PATH_ITEM => places::PATH_ITEM,
-        _ => places::NONE,
+        kinds::SPECIFIC_IMPORT_ARG => Some(Place::ImportPath),
+        kinds::PATH_ITEM => Some(Place::PathItem),
+        _ => None,
     }
 }
 
 // The place that a comment on a record uses: by the field that it stands in, or by its kind.
-fn own_spot(class: Class, number: usize, listed: bool) -> usize
-    ensures { result ≡ own_spot class number listed }
+fn own_spot(class: Class, number: usize, listed: bool) -> Option<Place>
+    ensures { number_of result ≡ own_spot class number listed }
 {
     match class {
-        Class::OpenBrace => {
-            if listed {
-                return places::NONE;
-            }
-            places::OPENING_BRACE
-        }
-        Class::Colon => places::LABEL_COLON,
-        Class::IndexRegister => places::REGISTER_LETTER,
+        Class::OpenBrace if listed => None,
+        Class::OpenBrace => Some(Place::OpeningBrace),
+        Class::Colon => Some(Place::LabelColon),
+        Class::IndexRegister => Some(Place::RegisterLetter),
         _ => kind_spot(number),
     }
 }
 
-// The place that a comment on a token's head uses: an `Expression` in a list has (g); any other token that is in no list is a value, and has (c).
-fn token_spot(number: usize, listed: bool) -> usize
-    ensures { result ≡ token_spot number listed }
+// The place that a comment on a token's head uses: an `Expression` in a list has (g); any other token that is in no
+// list is a value, and has (c).
+fn token_spot(number: usize, listed: bool) -> Option<Place>
+    ensures { number_of result ≡ token_spot number listed }
 {
-    if number == kinds::EXPRESSION {
-        if listed {
-            return places::EXPRESSION_HEAD;
-        }
-        return places::NONE;
+    match (number, listed) {
+        (kinds::EXPRESSION, true) => Some(Place::ExpressionHead),
+        (kinds::EXPRESSION, false) | (_, true) => None,
+        (_, false) => Some(Place::ValueHead),
     }
-    if listed {
-        return places::NONE;
-    }
-    places::VALUE_HEAD
 }
 
 // The place that a comment on a record's head uses.
-fn head_spot(class: Class, number: usize, listed: bool) -> usize
-    ensures { result ≡ head_spot class number listed }
+fn head_spot(class: Class, number: usize, listed: bool) -> Option<Place>
+    ensures { number_of result ≡ head_spot class number listed }
 {
     match class {
-        Class::BareToken => token_spot(number, listed),
-        Class::LocatedToken => token_spot(number, listed),
-        _ => places::NONE,
+        Class::BareToken | Class::LocatedToken => token_spot(number, listed),
+        _ => None,
     }
-}
-
-// A record at an offset, by its own bytes.
-fn own_use(tree: &[u8], own: Own, at: usize, spot: usize, from: usize, firsts: Firsts) -> Firsts
-    ensures { TakesIf result firsts from at spot
-        (has_comment (items_at tree.now own.trivia own.trivia_count)) }
-{
-    if spot == places::NONE {
-        return firsts;
-    }
-    if !has_comment(tree, own.trivia, own.trivia_count) {
-        return firsts;
-    }
-    firsts::take(from, firsts, at, spot)
-}
-
-// A token's head.
-fn head_use(
-    tree: &[u8],
-    at: usize,
-    class: Class,
-    levels: usize,
-    spot: usize,
-    from: usize,
-    firsts: Firsts,
-) -> Result<Firsts, Refusal>
-    ensures unused { spot ≡ no_spot → result ≡ Ok firsts }
-    ensures takes { TakesHead result firsts from levels tree.now class at spot }
-{
-    if spot == places::NONE {
-        return Ok(firsts);
-    }
-    let place = parts::head_place(tree, at, class, levels);
-    let Ok(head) = place else {
-        return Err(parts::refused_head(place));
-    };
-    let field = head.class;
-    let read = own::read_own(tree, head.place, field, head.levels);
-    let Ok(own) = read else {
-        return Err(own::refusal_of(read));
-    };
-    Ok(own_use(tree, own, head.place, spot, from, firsts))
 }
 
 // The place behind a field that may stand or not.
@@ -171,69 +105,80 @@ fn index_of(tree: &[u8], leaf: Own) -> usize
     0
 }
 
-// An operand's closing character, where it stands and its mode prints none: `Indirect` and `OuterIndirect` do.
-fn closing_use(
-    tree: &[u8],
-    own: Own,
-    levels: usize,
-    from: usize,
-    firsts: Firsts,
-) -> Result<Firsts, Refusal>
-    requires { 0 < levels }
-    ensures { TakesClosing result firsts from levels tree.now own }
-{
-    let bits = own.map / 2;
-    if !record::stands(bits, 2) {
-        return Ok(firsts);
+impl Search {
+    // A record at an offset, where a comment on it uses a place.
+    fn own_use(&mut self, tree: &[u8], own: Own, at: usize, place: Option<Place>)
+        ensures { TakesIf self.new self.old at (number_of place)
+            (has_comment (items_at tree.now own.trivia own.trivia_count)) }
+    {
+        if let Some(place) = place {
+            if has_comment(tree, own.trivia, own.trivia_count) {
+                self.take(at, place);
+            }
+        }
     }
-    let below = levels - 1;
-    let expression = parts::skip(tree, own.end, Class::LocatedExpression, below);
-    let Ok(lchar) = expression else {
-        return Err(parts::refused_skip(expression));
-    };
-    let opening = behind(tree, lchar, Class::Char, below, record::stands(bits, 1));
-    let Ok(rchar) = opening else {
-        return Err(parts::refused_skip(opening));
-    };
-    let closing = parts::skip(tree, rchar, Class::Char, below);
-    let Ok(mode) = closing else {
-        return Err(parts::refused_skip(closing));
-    };
-    let read = own::read_own(tree, mode, Class::AddressingMode, below);
-    let Ok(leaf) = read else {
-        return Err(own::refusal_of(read));
-    };
-    let index = index_of(tree, leaf);
-    if index == codes::INDIRECT || index == codes::OUTER_INDIRECT {
-        return Ok(firsts);
-    }
-    Ok(firsts::take(from, firsts, rchar, places::CLOSING_CHARACTER))
-}
 
-// All that a record shows by itself.
-pub(crate) fn record_uses(
-    tree: &[u8],
-    at: usize,
-    class: Class,
-    levels: usize,
-    own: Own,
-    listed: bool,
-    from: usize,
-    firsts: Firsts,
-) -> Result<Firsts, Refusal>
-    requires { 0 < levels }
-    ensures { TakesRecord result firsts from levels tree.now class at own listed }
-{
-    let number = numbers::byte_at(tree, at);
-    let spot = own_spot(class, number, listed);
-    let by_own = own_use(tree, own, at, spot, from, firsts);
-    let head = head_spot(class, number, listed);
-    let headed = head_use(tree, at, class, levels, head, from, by_own);
-    let Ok(by_head) = headed else {
-        return headed;
-    };
-    if number == kinds::OPERAND {
-        return closing_use(tree, own, levels, from, by_head);
+    // A token's head.
+    fn head_use(
+        &mut self,
+        tree: &[u8],
+        at: usize,
+        class: Class,
+        levels: usize,
+        place: Option<Place>,
+    ) -> Checked
+        ensures unused { number_of place ≡ no_spot → (result ≡ no_refusal) × (self.new ≡ self.old) }
+        ensures takes { TakesHead result self.new self.old levels tree.now class at (number_of place) }
+    {
+        if place.is_none() {
+            return Ok(());
+        }
+        let head = parts::head_place(tree, at, class, levels)?;
+        let own = own::read_own(tree, head.place, head.class, head.levels)?;
+        self.own_use(tree, own, head.place, place);
+        Ok(())
     }
-    headed
+
+    // An operand's closing character, where it stands and its mode prints none: `Indirect` and `OuterIndirect` do.
+    fn closing_use(&mut self, tree: &[u8], own: Own, levels: usize) -> Checked
+        requires { 0 < levels }
+        ensures { TakesClosing result self.new self.old levels tree.now own }
+    {
+        let bits = own.map / 2;
+        if !record::stands(bits, 2) {
+            return Ok(());
+        }
+        let below = levels - 1;
+        let lchar = parts::skip(tree, own.end, Class::LocatedExpression, below)?;
+        let rchar = behind(tree, lchar, Class::Char, below, record::stands(bits, 1))?;
+        let mode = parts::skip(tree, rchar, Class::Char, below)?;
+        let leaf = own::read_own(tree, mode, Class::AddressingMode, below)?;
+        let index = index_of(tree, leaf);
+        if index != codes::INDIRECT && index != codes::OUTER_INDIRECT {
+            self.take(rchar, Place::ClosingCharacter);
+        }
+        Ok(())
+    }
+
+    // All that a record shows by itself.
+    pub(crate) fn record_uses(
+        &mut self,
+        tree: &[u8],
+        at: usize,
+        class: Class,
+        levels: usize,
+        own: Own,
+        listed: bool,
+    ) -> Checked
+        requires { 0 < levels }
+        ensures { TakesRecord result self.new self.old levels tree.now class at own listed }
+    {
+        let number = numbers::byte_at(tree, at);
+        self.own_use(tree, own, at, own_spot(class, number, listed));
+        self.head_use(tree, at, class, levels, head_spot(class, number, listed))?;
+        if number == kinds::OPERAND {
+            return self.closing_use(tree, own, levels);
+        }
+        Ok(())
+    }
 }

@@ -1,28 +1,27 @@
--- A refusal of the check; one of the search, which cannot be where the check passed; no use; and the first record that has one.
-use Rattle.losses.proofs.Answered.{lost_refused, search_unrefused, lost_none, lost_used}
+-- A refusal of the check; one of the search, which cannot be where the check passed; no use, or the first record that has one.
+use Rattle.std.proofs.Common.{sym, ap, ◌∙◌}
+use Rattle.std.specs.Prelude.{Ok, Err}
+use Rattle.answers.specs.declared.Refusal.{Refusal}
+use Rattle.std.proofs.lemmas.Result.{err_from_is_err_and}
+use Rattle.losses.proofs.Answered.{lost_refused, search_unrefused, passed_answer}
 use Rattle.losses.proofs.Inside.{narrow_lost}
 use Rattle.losses.proofs.search.lost.Goals as goal
 
-pub returns-in_default : goal.returns-in_default
-returns-in_default c =
-    let told = narrow_lost _ _ _ (lost_refused _ _ c.check_tree-checked.ensures.answer c.refused_check.ensures c.in_default.is) in
+pub returns-in_err-check_tree : goal.returns-in_err-check_tree
+returns-in_err-check_tree c =
+    let refused = err_from_is_err_and c.from_residual.result c.from_residual.ensures.1 in
+    let told = narrow_lost _ _ _ (refused.1 ∙ lost_refused _ _ c.check_tree.ensures.answer (c.in_err-check_tree.was ∙ sym (ap (λ (why : Refusal). Err why) refused.2))) in
     record { answer = told.0; narrow = told.1.0; numbers = told.1.1 }
 
-pub returns-in_default-searched : goal.returns-in_default-searched
-returns-in_default-searched c =
-    search_unrefused _ _ c.check_tree-checked.ensures.answer c.in-Ok.is c.no_firsts.ensures c.search-searched.ensures
-    c.in_default-searched.is
+pub returns-in_err-search : goal.returns-in_err-search
+returns-in_err-search c =
+    search_unrefused _ _ c.check_tree.ensures.answer c.in_ok-check_tree.was c.new-search.ensures.from c.new-search.ensures.firsts
+    c.search.ensures c.in_err-search.was
 
-pub returns-in-None : goal.returns-in-None
-returns-in-None c =
+pub returns : goal.returns
+returns c =
+    let loss = c.loss.ensures in
     let told = narrow_lost _ _ _
-    (lost_none _ _ c.check_tree-checked.ensures.answer c.in-Ok.is c.no_firsts.ensures c.search-searched.ensures
-    c.in-Ok-searched.is c.least-least.ensures c.in-None.is) in
-    record { answer = told.0; narrow = told.1.0; numbers = told.1.1 }
-
-pub returns-in-Some : goal.returns-in-Some
-returns-in-Some c =
-    let told = narrow_lost _ _ _
-    (lost_used _ _ c.check_tree-checked.ensures.answer c.in-Ok.is c.no_firsts.ensures c.search-searched.ensures
-    c.in-Ok-searched.is c.least-least.ensures c.in-Some.is c.letters_at.ensures) in
+    (ap Ok loss.loss ∙ passed_answer _ _ c.check_tree.ensures.answer c.in_ok-check_tree.was c.new-search.ensures.from
+    c.new-search.ensures.firsts c.search.ensures loss.places) in
     record { answer = told.0; narrow = told.1.0; numbers = told.1.1 }

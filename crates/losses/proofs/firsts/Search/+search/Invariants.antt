@@ -4,14 +4,14 @@ use Rattle.tree.specs.Reading.{read}
 use Rattle.tree.specs.Walk.{plan_size}
 use Rattle.losses.proofs.Searching.{PartsLeft}
 use Prim.Native.Nat.{◌-◌}
-use Rattle.losses.proofs.search.+search.Given as goal
+use Rattle.losses.proofs.firsts.Search.+search.Given as goal
 
 abbrev pub decreases-search : goal.decreases-search
 decreases-search l = l.levels
 
 abbrev pub invariant-loop-field : goal.invariant-loop-field
 invariant-loop-field l =
-    PartsLeft (read (l.levels - 1) l.tree) l.below l.from l.initial.plan l.initial.place l.initial.seen l.plan l.place l.seen
+    PartsLeft (read (l.levels - 1) l.tree) l.below l.initial.plan l.initial.place l.initial.self l.plan l.place l.self
 
 abbrev pub decreases-loop-field : goal.decreases-loop-field
 decreases-loop-field l = plan_size l.plan
