@@ -7,9 +7,5 @@ ghost use Rattle.text.specs.Ink.{blank};
 pub fn is_blank(b: u8) -> bool
     ensures { result ≡ blank b }
 {
-    match b {
-        b'!'.. => false,
-        b'\t'..=b'\r' | b' ' => true,
-        _ => false,
-    }
+    b <= b' ' && matches!(b, b'\t'..=b'\r' | b' ')
 }
