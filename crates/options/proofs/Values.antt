@@ -256,7 +256,20 @@ pub values_answer : {said : Result FormattingOptions Refusal} (read : Result (Li
     → ValuesRead stored read → MatchResult read (λ values. said ≡ Ok (options_from values)) (λ refusal. said ≡ Err refusal) → said ≡ read_options stored
 unfolding read_options stored_options
 values_answer (Ok values) stored right (passed, each) is =
-    is ∙ rw (right, passed, each 0 (omega arith), each 1 (omega arith), each 2 (omega arith), each 3 (omega arith), each 4 (omega arith), each 5 (omega arith), each 6 (omega arith), each 7 (omega arith)) refl
+    is
+    ∙ rw (
+      right,
+      passed,
+      each 0 (omega arith),
+      each 1 (omega arith),
+      each 2 (omega arith),
+      each 3 (omega arith),
+      each 4 (omega arith),
+      each 5 (omega arith),
+      each 6 (omega arith),
+      each 7 (omega arith),
+    )
+    refl
 values_answer (Err refusal) stored right judged is = is ∙ rw (right, judged) refl
 
 -- a value is a byte

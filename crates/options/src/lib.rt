@@ -82,7 +82,7 @@ impl Casing {
     }
 }
 
-// The stored value of each is 0 or 1.
+// An option from its stored value, of which 0 and 1 are read.
 impl From<u8> for Casing {
     ghost from_gives = { λ value casing. casing ≡ casing_of value };
 
@@ -186,16 +186,17 @@ impl From<[u8; 8]> for FormattingOptions {
 fn read_values(stored: &[u8]) -> Result<[u8; 8], Refusal>
     requires { length stored.now ≡ 1 + standing (map_of stored.now) 8 }
     ensures { MatchResult result
-        (λ values. (values_checked stored.now 0 8 ≡ no_refusal) × ((k : ℕ) → k < 8 → get_or values k 0 ≡ value_of stored.now k))
+        (λ values. (values_checked stored.now 0 8 ≡ no_refusal)
+        × ((k : ℕ) → k < 8 → get_or values k 0 ≡ value_of stored.now k))
         (λ refusal. values_checked stored.now 0 8 ≡ Err refusal) }
 {
     let map = stored[0];
     let mut values = [0; 8];
     let mut place = 1;
-    for (k, Field(largest, default)) in FormattingOptions::FIELDS.iter().enumerate() {
+    for (k, &Field(largest, default)) in FormattingOptions::FIELDS.iter().enumerate() {
         values[k] = if (map >> k) & 1 == 1 {
             let value = stored[place];
-            if value > *largest {
+            if value > largest {
                 return Err(Refusal {
                     reason: Reason::OptionsValue,
                     place,
@@ -204,7 +205,7 @@ fn read_values(stored: &[u8]) -> Result<[u8; 8], Refusal>
             place += 1;
             value
         } else {
-            *default
+            default
         };
     }
     Ok(values)
