@@ -22,18 +22,18 @@ use answers::{Answer, Numbered};
 use losses::Lost;
 use text::scans;
 
-// What one stands for in a packed answer's number, whose value is below it.
-const NUMBER: usize = 4294967296;
+// A packed answer is its number times this and its value, which is below it.
+const VALUE_LIMIT: usize = 1 << 32;
 
-// What one stands for in a loss's letters, whose offset is below it.
-const LETTER: usize = 65536;
+// A loss's answer is its letters times this and its offset, which is below it.
+const OFFSET_LIMIT: usize = 1 << 16;
 
 // An answer as one number.
 fn packed(answer: Answer) -> u64
     requires { Small answer }
     ensures { result ≡ packed_of answer }
 {
-    (NUMBER * answer.number() + answer.value()) as u64
+    (VALUE_LIMIT * answer.number() + answer.value()) as u64
 }
 
 // `join::join_chunks`: the text of a stored chunk list, or refusal 1, 2, 6, 7 or 9.
@@ -72,7 +72,8 @@ pub fn felgutrosa_chunks(tree: &[u8], options: &[u8], room: &mut [u8]) -> u64
     packed(tokens::chunks(tree, options, room))
 }
 
-// `formatting::format`: the text of a stored tree, or refusal 1, 2, 3, 4, 5, 7, 8 or 9. The work room is all zeros afterwards.
+// `formatting::format`: the text of a stored tree, or refusal 1, 2, 3, 4, 5, 7, 8 or 9. The work room is all zeros
+// afterwards.
 pub fn felgutrosa_format(tree: &[u8], options: &[u8], work: &mut [u8], text: &mut [u8]) -> u64
     ensures answer { let lesson = formatted tree.now options.now (length work.old) in
         result ≡ packed_of (answer_in lesson (length text.old)) }
@@ -93,7 +94,7 @@ fn loss_answer(lost: Lost) -> Answer
     ensures { result ≡ loss_answer lost }
 {
     match lost? {
-        Some(loss) => Ok(LETTER * loss.letters + loss.place),
+        Some(loss) => Ok(OFFSET_LIMIT * loss.letters + loss.place),
         None => Ok(0),
     }
 }

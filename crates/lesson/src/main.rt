@@ -6,7 +6,7 @@ ghost use Rattle.std.specs.Prelude.{◌≤◌};
 
 use answers::{Answer, Checked, Refusal};
 use chunks::stored;
-use losses::search::Loss;
+use losses::Loss;
 use std::io;
 use std::io::{BufReader, BufWriter, ErrorKind, Read, Write};
 use text::numbers;
@@ -252,7 +252,7 @@ fn show_losses(out: &mut impl Write, tree: &[u8], line: &mut [u8]) -> io::Result
     let mut left = tree.len();
     while 0 < left {
         let found = losses::lost(tree, from);
-        let Loss::Used(place, letters) = found else {
+        let Ok(Some(Loss { place, letters })) = found else {
             return Ok(());
         };
         if tree.len() <= place {
@@ -271,7 +271,7 @@ fn lost_status(tree: &[u8]) -> usize {
     let mut left = tree.len();
     while 0 < left {
         let found = losses::lost(tree, from);
-        let Loss::Used(place, letters) = found else {
+        let Ok(Some(Loss { place, letters })) = found else {
             return 0;
         };
         if letters != places::REGISTER_LETTER {
@@ -295,12 +295,12 @@ fn answer_lost(
 ) -> io::Result<()> {
     let found = losses::lost(tree, 0);
     match found {
-        Loss::Used(_, _) => {
+        Ok(Some(_)) => {
             write_status(out, lost_status(tree))?;
             show_losses(out, tree, line)?;
         }
-        Loss::Unused => write_status(out, 0)?,
-        Loss::Refused(refusal) => {
+        Ok(None) => write_status(out, 0)?,
+        Err(refusal) => {
             write_refusal(out, refusal, tree, options, 0, line.len())?;
         }
     }

@@ -1,7 +1,6 @@
 -- The loop over a record's parts: the plan that is left goes on with the search of the parts.
 use Rattle.std.specs.Prelude.{Option, Result, Some, None, Ok, Err}
 use Rattle.answers.specs.Numbers.{no_refusal, Checked}
-use Rattle.answers.proofs.Cases.{failed_passed}
 use mathlib.Core.Path.{◌≡◌, refl, sym, ap, ◌∙◌}
 use mathlib.Core.List.{List, [], ◌++◌, append-nil, append_assoc}
 use mathlib.Core.Bool.{Bool}
@@ -107,11 +106,6 @@ module _ (levels : ℕ) (bytes : List ℕ) (class : Class) (at : ℕ) (listed : 
       (shown : TakesRecord seen middle before levels bytes class at own listed) where
     abbrev reader : Reader
     reader = read (levels - 1) bytes
-
-    -- nor is what it shows by itself
-    pub use_refused : {searched : Result ℕ Refusal} {after : Search} {why : Refusal} → seen ≡ Err why
-        → Searches searched after before levels bytes class at listed
-    use_refused none passed = failed_passed (sym none ∙ (shown (sym same ∙ is) passed).0)
 
     -- its parts passed too
     parts_passed : (read levels bytes class at).checked ≡ no_refusal → checked_along reader (standing (parts_due class own)) own.end ≡ no_refusal

@@ -1,5 +1,5 @@
 -- What a record shows by itself, step by step: a comment on it, on its head, and an operand's closing character.
-use Rattle.std.specs.Prelude.{Some, Ok, Err}
+use Rattle.std.specs.Prelude.{Some, Ok}
 use Rattle.answers.specs.Numbers.{no_refusal, Checked}
 use mathlib.Core.Path.{◌≡◌, refl, sym, ◌∙◌}
 use mathlib.Core.List.{List}
@@ -8,7 +8,6 @@ use Prim.Native.Nat.{ℕ}
 use lib.ListN.{get_or}
 use lib.Dec.{eqb}
 use borrow.Author.Tests.{ne_eqb}
-use Rattle.answers.specs.declared.Refusal.{Refusal}
 use Rattle.text.proofs.Choices.{by_test}
 use Rattle.tree.specs.Grammar.{kind_of}
 use Rattle.tree.specs.Own.{read_own}
@@ -29,7 +28,6 @@ use Rattle.losses.specs.Visits.{own_spot, head_spot, own_marks, head_marks}
 use Rattle.losses.specs.Visits.{TakesIf, TakesAll, TakesHead, TakesClosing, TakesRecord}
 use Rattle.losses.specs.declared.firsts.Search.{Search}
 use Rattle.losses.proofs.Records.{token_class_lem}
-use Rattle.answers.proofs.Cases.{failed_passed}
 use Rattle.losses.proofs.Marks.{all_then, all_none, one_used, own_used, head_used}
 
 module _ (levels : ℕ) (bytes : List ℕ) (class : Class) (at : ℕ) (own : Own) (listed : Bool) {number spot head : ℕ} {before by-own by-head : Search} {headed : Checked}
@@ -37,13 +35,6 @@ module _ (levels : ℕ) (bytes : List ℕ) (class : Class) (at : ℕ) (own : Own
     (own-takes : TakesIf by-own before at spot (has_comment (items_at bytes own.trivia own.trivia_count)))
     (unheaded : head ≡ 8 → (headed ≡ no_refusal) × (by-head ≡ by-own)) (head-takes : TakesHead headed by-head by-own levels bytes class at head)
   where
-    -- what was read of its head was not refused
-    pub head_stopped : {why : Refusal} → headed ≡ Err why → {seen : Checked} {after : Search} → TakesRecord seen after before levels bytes class at own listed
-    head_stopped none is passed =
-        by_test (eqb (class_number class) 20 || eqb (class_number class) 21)
-        (λ token. failed_passed (sym none ∙ (head-takes passed (token_class_lem class token)).0))
-        (λ token. failed_passed (sym none ∙ (unheaded (head_is ∙ rw token)).0))
-
     module _ (is : read_own bytes at class levels ≡ Ok own) (passed : (read levels bytes class at).checked ≡ no_refusal) where
       abbrev tree : Tree
       tree = (read levels bytes class at).tree

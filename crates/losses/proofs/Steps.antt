@@ -5,7 +5,6 @@ use Prim.Native.Nat.{ℕ, ◌<◌}
 use native.Mathlib.Omega.{arith}
 use lib.Dec.{eqb}
 use borrow.Author.Tests.{ne_eqb}
-use Rattle.text.proofs.Choices.{by_test}
 use Rattle.reading.specs.Places.{Spot, spot_number, opening_brace, label_colon, value_head, import_path, path_item, register_letter, expression_head, closing_character}
 use Rattle.losses.specs.Visits.{Takes, TakesIf}
 use Rattle.losses.specs.declared.firsts.Search.{Search}
@@ -33,8 +32,3 @@ module _ {before : Search} {at number : ℕ} where
   -- where it does not
   pub takes_unused : {used : Bool} → used ≡ false → TakesIf before before at number used
   takes_unused is = record { from = refl; each = λ spot. rw is refl }
-
-  -- no place has the number 8
-  pub takes_none : {used : Bool} → number ≡ 8 → TakesIf before before at number used
-  takes_none {used} is =
-      by_test used (λ yes_way. record { from = refl; each = λ spot. rw (yes_way, is, no_spot_lem spot) refl }) takes_unused

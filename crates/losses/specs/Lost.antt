@@ -33,11 +33,12 @@ first_in from spot tree = first_from from spot None (places_in false tree)
 abbrev pub Firsts : Type 0
 Firsts = List (Option ℕ)
 
--- the places (a) to (h)
+-- the places (a) to (h), by their numbers
 abbrev pub spots : List Spot
 spots =
     opening_brace ∷ label_colon ∷ value_head ∷ import_path ∷ path_item ∷ register_letter ∷ expression_head ∷ closing_character ∷ []
 
+-- for each of them
 abbrev pub firsts_in : ℕ → Tree → Firsts
 firsts_in from tree = map (λ (spot : Spot). first_in from spot tree) spots
 

@@ -6,4 +6,4 @@ pub mod places;
 pub mod search;
 pub mod uses;
 
-pub use search::{lost, Loss, Lost};
+pub use search::{Loss, Lost, lost};

@@ -36,15 +36,9 @@ fn listed_below(number: usize, listed: bool) -> bool
 }
 
 impl Search {
-    // The record of a class at a place, with all its parts: the place behind it.
-    fn search(
-        &mut self,
-        tree: &[u8],
-        at: usize,
-        class: Class,
-        levels: usize,
-        listed: bool,
-    ) -> Answer
+    // The record of a class at a place, with all its parts: the place behind it. Tree, place, class and levels stay four
+    // parameters, here and in `uses`: crate `tree` takes them so, and a struct of them would be taken apart at each call.
+    fn visit(&mut self, tree: &[u8], at: usize, class: Class, levels: usize, listed: bool) -> Answer
         ensures { Searches result self.new self.old levels tree.now class at listed }
     {
         let own = own::read_own(tree, at, class, levels)?;
@@ -53,7 +47,7 @@ impl Search {
         let mut place = own.end;
         let mut plan = check::plan_of(class, own);
         while let Some((field, rest)) = check::next_part(plan) {
-            place = self.search(tree, place, field, levels - 1, below)?;
+            place = self.visit(tree, place, field, levels - 1, below)?;
             plan = rest;
         }
         Ok(place)
@@ -80,6 +74,6 @@ pub fn lost(tree: &[u8], from: usize) -> Lost
 {
     check::check_tree(tree)?;
     let mut search = Search::new(from);
-    search.search(tree, 0, Class::Tokens, LEVELS, false)?;
+    search.visit(tree, 0, Class::Tokens, LEVELS, false)?;
     Ok(search.loss())
 }

@@ -3,7 +3,8 @@ ghost use Rattle.std.specs.Prelude.{◌≡◌, ◌<◌};
 ghost use Rattle.answers.specs.Numbers.{no_refusal};
 ghost use Rattle.leaves.specs.Items.{items_at};
 ghost use Rattle.reading.specs.Places.{has_comment};
-ghost use Rattle.losses.specs.Visits.{no_spot, number_of, kind_spot, own_spot, token_spot, head_spot, behind_field, index_in};
+ghost use Rattle.losses.specs.Visits.{no_spot, number_of, kind_spot, own_spot, token_spot, head_spot};
+ghost use Rattle.losses.specs.Visits.{behind_field, index_in};
 ghost use Rattle.losses.specs.Visits.{TakesIf, TakesHead, TakesClosing, TakesRecord};
 
 use crate::firsts::Search;
@@ -62,10 +63,10 @@ fn own_spot(class: Class, number: usize, listed: bool) -> Option<Place>
 fn token_spot(number: usize, listed: bool) -> Option<Place>
     ensures { number_of result ≡ token_spot number listed }
 {
-    match (number, listed) {
-        (kinds::EXPRESSION, true) => Some(Place::ExpressionHead),
-        (kinds::EXPRESSION, false) | (_, true) => None,
-        (_, false) => Some(Place::ValueHead),
+    match (number == kinds::EXPRESSION, listed) {
+        (true, true) => Some(Place::ExpressionHead),
+        (false, false) => Some(Place::ValueHead),
+        _ => None,
     }
 }
 

@@ -2,7 +2,6 @@
 #![tactic(auto)]
 
 use answers::{Answer, Numbered};
-use losses::search::Loss;
 use std::io;
 use std::io::{BufReader, BufWriter, ErrorKind, Read, Write};
 use text::{numbers, stores};
@@ -290,21 +289,22 @@ fn answer_lost(out: &mut impl Write, bytes: &[u8], text: &mut [u8]) -> io::Resul
     while from < 65536 {
         let lost = losses::lost(bytes, from);
         match lost {
-            Loss::Used(at, letters) => {
+            Ok(Some(loss)) => {
+                let at = loss.place;
                 if at < from {
                     return Ok(());
                 }
                 if 65535 < at {
                     return Ok(());
                 }
-                all = note_places(all, at, letters);
+                all = note_places(all, at, loss.letters);
                 from = at + 1;
             }
-            Loss::Unused => {
+            Ok(None) => {
                 write_head(out, Ok(32), flag_of(text, 0))?;
                 return write_noted(out, all);
             }
-            Loss::Refused(refusal) => {
+            Err(refusal) => {
                 return write_head(out, Err(refusal), flag_of(text, 0));
             }
         }

@@ -13,15 +13,15 @@ returns-in_err-check_tree c =
     let told = narrow_lost _ _ _ (refused.1 ∙ lost_refused _ _ c.check_tree.ensures.answer (c.in_err-check_tree.was ∙ sym (ap (λ (why : Refusal). Err why) refused.2))) in
     record { answer = told.0; narrow = told.1.0; numbers = told.1.1 }
 
-pub returns-in_err-search : goal.returns-in_err-search
-returns-in_err-search c =
+pub returns-in_err-visit : goal.returns-in_err-visit
+returns-in_err-visit c =
     search_unrefused _ _ c.check_tree.ensures.answer c.in_ok-check_tree.was c.new-search.ensures.from c.new-search.ensures.firsts
-    c.search.ensures c.in_err-search.was
+    c.visit.ensures c.in_err-visit.was
 
 pub returns : goal.returns
 returns c =
     let loss = c.loss.ensures in
     let told = narrow_lost _ _ _
     (ap Ok loss.loss ∙ passed_answer _ _ c.check_tree.ensures.answer c.in_ok-check_tree.was c.new-search.ensures.from
-    c.new-search.ensures.firsts c.search.ensures loss.places) in
+    c.new-search.ensures.firsts c.visit.ensures loss.places) in
     record { answer = told.0; narrow = told.1.0; numbers = told.1.1 }

@@ -5,7 +5,7 @@ use Rattle.tree.proofs.Planning.{next_of, rest_less, plan_due}
 use Rattle.tree.proofs.Records.{level_left}
 use Rattle.losses.proofs.Searching.{parts_start, search_done, search_on, part_unread}
 use Rattle.losses.proofs.Searching.{search_refused, part_refused, record_searched}
-use Rattle.losses.proofs.firsts.Search.+search.Goals as goal
+use Rattle.losses.proofs.firsts.Search.+visit.Goals as goal
 
 pub returns-in_err-own : goal.returns-in_err-own
 returns-in_err-own t c = search_refused _ _ _ _ c.args.listed c.read_own.ensures.answer c.in_err-own.was
@@ -19,13 +19,13 @@ loop-field-init t c = parts_start _ _ _ _ _
 pub overflow_sub-levels : goal.overflow_sub-levels
 overflow_sub-levels t c = omega (arith, level_left _ _ _ _ _ c.read_own.ensures.answer _ c.in_ok-own.was)
 
-pub search-requires : goal.search-requires
-search-requires t c = (omega (arith, level_left _ _ _ _ _ c.read_own.ensures.answer _ c.in_ok-own.was), tt)
+pub visit-requires : goal.visit-requires
+visit-requires t c = (omega (arith, level_left _ _ _ _ _ c.read_own.ensures.answer _ c.in_ok-own.was), tt)
 
 pub returns-in_err-place : goal.returns-in_err-place
 returns-in_err-place t c =
     part_refused _ _ _ _ c.args.listed c.read_own.ensures.answer _ c.in_ok-own.was c.record_uses.ensures
-    (part_unread _ _ _ _ _ _ _ _ c.loop-field.invariant _ (next_of _ c.next_part.ensures) _ _ c.in-Some.is c.search.ensures
+    (part_unread _ _ _ _ _ _ _ _ c.loop-field.invariant _ (next_of _ c.next_part.ensures) _ _ c.in-Some.is c.visit.ensures
     c.in_err-place.was _ (plan_due _ _ c.plan_of-plan.ensures))
 
 pub loop-field-smaller : goal.loop-field-smaller
@@ -33,7 +33,7 @@ loop-field-smaller t c = rest_less c.loop-field.plan _ _ _ c.in-Some.is c.next_p
 
 pub loop-field-preserved : goal.loop-field-preserved
 loop-field-preserved t c =
-    search_on _ _ _ _ _ _ _ _ c.loop-field.invariant _ (next_of _ c.next_part.ensures) _ _ c.in-Some.is c.search.ensures c.in_ok-place.was
+    search_on _ _ _ _ _ _ _ _ c.loop-field.invariant _ (next_of _ c.next_part.ensures) _ _ c.in-Some.is c.visit.ensures c.in_ok-place.was
 
 pub returns : goal.returns
 returns t c =

@@ -4,10 +4,10 @@ use Rattle.tree.specs.Reading.{read}
 use Rattle.tree.specs.Walk.{plan_size}
 use Rattle.losses.proofs.Searching.{PartsLeft}
 use Prim.Native.Nat.{◌-◌}
-use Rattle.losses.proofs.firsts.Search.+search.Given as goal
+use Rattle.losses.proofs.firsts.Search.+visit.Given as goal
 
-abbrev pub decreases-search : goal.decreases-search
-decreases-search l = l.levels
+abbrev pub decreases-visit : goal.decreases-visit
+decreases-visit l = l.levels
 
 abbrev pub invariant-loop-field : goal.invariant-loop-field
 invariant-loop-field l =
