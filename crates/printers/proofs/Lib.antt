@@ -1,0 +1,4 @@
+pub mod Going
+pub mod Pushing
+pub mod Tables
+pub mod Items
