@@ -2,3 +2,6 @@ pub mod Going
 pub mod Pushing
 pub mod Tables
 pub mod Items
+pub mod Leaves
+pub mod Bits
+pub mod Opening

@@ -1,6 +1,8 @@
 // The lowest printers of the walk, over one struct that they go on in: pushes, trivia, the texts of enums, leaves, and what every record begins with.
 #![tactic(auto)]
 
+pub mod leaf;
+pub mod record;
 pub mod texts;
 pub mod trivia;
 
