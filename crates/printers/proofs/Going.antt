@@ -7,7 +7,7 @@ use borrow.Author.Tests.{ne_eqb}
 use Rattle.std.proofs.Common.{Bool, true, false, cond, Option, Some, None, is_some}
 use Rattle.answers.specs.declared.Refusal.{Refusal}
 use Rattle.printing.specs.Events.{Events, nothing, stop, ◌▹◌}
-use Rattle.printing.specs.Running.{Run, going, ended, run, settled, finished, is_spaced, outcome, place_of, Shown}
+use Rattle.printing.specs.Running.{at_start, Run, going, ended, run, room_of, settled, finished, is_spaced, outcome, place_of, Shown}
 use Rattle.printing.specs.declared.CodeFormatter.{CodeFormatter}
 use Rattle.printing.specs.declared.Context.{Context}
 use Rattle.answers.specs.declared.Reason.TheVariants.{WorkRoom}
@@ -158,3 +158,26 @@ on_page {before} {after} {events} {end} context goes = record {
 -- the context stays
 pub context_stays : {before after : Printer} {events : Page → ℕ → Events} {end : Page → ℕ → ℕ} → Goes before after events end → after.context ≡ before.context
 context_stays goes = ap (λ (page : Page). page.context) goes.page
+
+-- so does the tree
+pub tree_stays : {before after : Printer} {events : Page → ℕ → Events} {end : Page → ℕ → ℕ} → Goes before after events end → after.tree.now ≡ before.tree.now
+tree_stays goes = ap (λ (page : Page). page.tree) goes.page
+
+-- and the room is what a run of the events leaves
+pub room_left : {before after : Printer} {events : Page → ℕ → Events} {end : Page → ℕ → ℕ} → Goes before after events end
+    → after.room.now ≡ room_of (settled (run (events (page_of before) before.at) (run_of before)))
+room_left {after = after} goes = kept (answer_of after) ∙ ap room_of goes.shown.state
+  where
+    kept : (answer : Printed) → after.room.now ≡ room_of (outcome answer after.room.now)
+    kept (Done state at) = refl
+    kept (Refused why) = refl
+
+-- a walk from the start shows its events there
+pub walked : {fresh after : Printer} {page : Page} {room : List ℕ} {events : Page → ℕ → Events} {end : Page → ℕ → ℕ}
+    → page_of fresh ≡ page → fresh.room.now ≡ room → answer_of fresh ≡ Done at_start 0 → Goes fresh after events end
+    → Shown (answer_of after) after.room.now (events page 0) (going room at_start) (end page 0)
+walked {fresh} {after} {events = events} {end} reads stored starts goes =
+    rw (← reads, ← stored)
+    (subst (λ (answer : Printed). Shown (answer_of after) after.room.now (events (page_of fresh) 0) (outcome answer fresh.room.now) (end (page_of fresh) 0)) starts
+    (anywhere fresh.ended (state_of fresh) fresh.at 0 fresh.room.now _ _ (events (page_of fresh)) (end (page_of fresh))
+    (ap (λ (answer : Printed). place_of answer 0) starts) goes.shown))

@@ -84,12 +84,13 @@ module _ {before between : Printer} {shown : Bool} {levels : ℕ} {class : Class
       module _ (place : Place) {after : Printer} where
         -- what is printed behind own bytes is printed of the record
         pub opened_as : (tree : Tree) (end : ℕ)
-            → ((read levels before.tree.now class before.at).tree ≡ node before.at (trivia_of before.tree.now own) tree)
-            × ((read levels before.tree.now class before.at).end ≡ end)
+            → ((at : ℕ) → read_own before.tree.now at class levels ≡ Ok own
+            → ((read levels before.tree.now class at).tree ≡ node at (trivia_of before.tree.now own) tree) × ((read levels before.tree.now class at).end ≡ end))
             → Goes between after (λ page at. events_in page.context place true tree) (λ page at. end)
             → GoesField before after place shown levels class stands
         unfolding events_in
-        opened_as tree end read_as goes =
+        opened_as tree end read goes =
+            let read_as = read before.at opened_own.1 in
             rw opened_own.0 (there (opened_own.3 onward goes) (ap (events_in before.context place shown) (sym read_as.0)) (sym read_as.1))
 
         -- of a kind with fields

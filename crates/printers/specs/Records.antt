@@ -1,21 +1,22 @@
 -- What printers of records promise: the events of the record at the place where the walk is, whatever bytes stand there.
-use Rattle.std.specs.Prelude.{ℕ, ◌≡◌, [], Option, Some, None, Bool, true, cond, not, ◌&&◌, Result, Ok, Err}
+use Rattle.std.specs.Prelude.{ℕ, ◌≡◌, List, [], Option, Some, None, Bool, true, cond, not, ◌&&◌, Result, Ok, Err}
 use Rattle.std.proofs.Common.{is_some}
 use Rattle.answers.specs.declared.Refusal.{Refusal}
 use Rattle.tree.specs.Tree.{absent, built}
 use Rattle.tree.specs.Grammar.{fields}
-use Rattle.tree.specs.Own.{read_own, OwnFits, own_numbers}
+use Rattle.tree.specs.Own.{read_own, OwnFits, own_end, own_numbers}
 use Rattle.tree.specs.Reading.{trivia_of, read}
 use Rattle.tree.specs.declared.grammar.Class.{Class}
 use Rattle.tree.specs.declared.grammar.Class.TheVariants.{LocatedExpression}
 use Rattle.tree.specs.declared.grammar.Kind.{Kind}
 use Rattle.tree.specs.declared.own.Own.{Own}
 use Rattle.printing.specs.Events.{nothing}
-use Rattle.printing.specs.Running.{numbers_printed}
-use Rattle.events.specs.Printed.{plain}
+use Rattle.printing.specs.Running.{run, settled, room_of, numbers_printed}
+use Rattle.events.specs.Printed.{Style, plain}
 use Rattle.events.specs.Trees.{Place, leaf, trivia_events, skipping, events_in}
+use Rattle.leaves.specs.Leaves.{own_events}
 use Rattle.leaves.specs.Records.{field_trees, fields_end}
-use Rattle.printers.specs.Going.{answer_of, Goes}
+use Rattle.printers.specs.Going.{answer_of, run_of, Goes}
 use Rattle.printers.specs.declared.Printer.{Printer}
 
 -- the record of a class
@@ -41,6 +42,13 @@ GoesKind before after place kind value bits levels =
 abbrev pub GoesNode : Printer → Printer → Kind → ℕ → ℕ → Type 0
 GoesNode before after kind bits levels = GoesKind before after (leaf plain) kind LocatedExpression bits levels
 
+-- a record by its own bytes, which may stand or not: its trivia where they are shown, and its text in a style
+abbrev pub GoesOwn : Printer → Printer → Style → Bool → ℕ → Class → Bool → Type 0
+GoesOwn before after style shown levels class stands =
+    Goes before after
+    (λ page at. cond stands (own_events page.context style shown page.tree (read_own page.tree at class levels)) nothing)
+    (λ page at. cond stands (own_end at (read_own page.tree at class levels)) at)
+
 -- ---- a record that is opened
 
 -- its own bytes were read and its trivia are printed; or nothing is left to print of it
@@ -58,6 +66,12 @@ own_read (Err why) = None
 unfoldable pub opened_by : Printer → ℕ → Class → Bool → Option Own
 opened_by before levels class stands = cond (stands && not (is_some before.ended)) (own_read (read_own before.tree.now before.at class levels)) None
 
+-- nothing is written where none is opened; else the room is what a run of its trivia leaves
+abbrev pub opened_room : Printer → Bool → Option Own → List ℕ
+opened_room before shown None = before.room.now
+opened_room before shown (Some own) =
+    room_of (settled (run (cond shown (trivia_events before.context (trivia_of before.tree.now own)) nothing) (run_of before)))
+
 -- in document 01's numbers: 0 with the place behind the own bytes, or those of the answer
 abbrev pub numbers_opened : Option Own → Printer → ℕ × ℕ
 numbers_opened (Some own) after = (0, own.end)
@@ -70,6 +84,7 @@ opened_numbers before levels class stands =
 pub record Opens (before after : Printer) (shown : Bool) (levels : ℕ) (class : Class) (stands : Bool) (found : Option Own) : Type 0 where
   pub opened : OpensAs before after shown levels class stands found
   pub answer : found ≡ opened_by before levels class stands
+  pub room : after.room.now ≡ opened_room before shown found
   pub numbers : numbers_opened found after ≡ opened_numbers before levels class stands
 
 -- ---- a record that is skipped

@@ -1,15 +1,14 @@
 // Leaves: their trivia where they are shown, and their text by its style.
-ghost use Rattle.std.specs.Prelude.{◌≤◌, length, cond};
+ghost use Rattle.std.specs.Prelude.{◌≤◌, length, cond, true};
 ghost use Rattle.std.proofs.Math.Seq.{slice};
-ghost use Rattle.tree.specs.Own.{read_own, own_end};
 ghost use Rattle.printing.specs.Events.{nothing, ◌▹◌};
 ghost use Rattle.events.specs.Printed.{printed};
 ghost use Rattle.events.specs.Trees as Trees;
 ghost use Rattle.events.specs.Trees.{word, trivia_events};
 ghost use Rattle.leaves.specs.Items.{items_at};
-ghost use Rattle.leaves.specs.Leaves.{LeafClass, own_events};
+ghost use Rattle.leaves.specs.Leaves.{LeafClass};
 ghost use Rattle.printers.specs.Going.{Goes};
-ghost use Rattle.printers.specs.Records.{GoesRecord, GoesField};
+ghost use Rattle.printers.specs.Records.{GoesOwn, GoesRecord, GoesField};
 ghost use Rattle.printers.specs.Texts.{style_of};
 
 use crate::texts::Style;
@@ -18,7 +17,7 @@ use tree::grammar::Class;
 use tree::own;
 use tree::own::Own;
 
-// How the records of a class of leaves print: in a style, with their trivia or without.
+// How the records of a class of leaves print: in a style, with their trivia or without. The leaves by name stand below.
 #[derive(Clone, Copy)]
 pub struct Leaf {
     pub class: Class,
@@ -67,7 +66,9 @@ pub const ENCODING: Leaf = Leaf {
     style: Style::Encoding,
     shown: true,
 };
-// The head of a token is printed without its trivia, since what stands before a token in its list prints them (crate `leads`).
+
+// The head of a token is printed without its trivia, since what stands before a token in its list prints them (crate
+// `leads`).
 pub const BARE_WORD: Leaf = Leaf {
     class: Class::Word,
     style: Style::Plain,
@@ -97,6 +98,7 @@ pub const VARIABLE_TYPE: Leaf = Leaf {
     style: Style::VariableType,
     shown: false,
 };
+
 // So are the braces of a block: the end of its list has printed those of the closing one.
 pub const OPEN_BRACE: Leaf = Leaf {
     class: Class::OpenBrace,
@@ -114,8 +116,11 @@ pub const CLOSE_BRACE: Leaf = Leaf {
 fn format_own(printer: &mut Printer, own: Own, style: Style, shown: bool)
     requires { (own.text ≤ own.end) × (own.end ≤ length printer.old.tree.now) }
     ensures { Goes printer.old printer.new
-        (λ page at. cond shown (trivia_events page.context (items_at page.tree own.trivia own.trivia_count)) nothing
-        ▹ word page.context (printed page.context (style_of style) (slice own.text own.end page.tree)))
+        (λ page at.
+        let items = items_at page.tree own.trivia own.trivia_count in
+        let text = slice own.text own.end page.tree in
+        cond shown (trivia_events page.context items) nothing
+        ▹ word page.context (printed page.context (style_of style) text))
         (λ page at. own.end) }
 {
     let tree = printer.tree;
@@ -124,13 +129,14 @@ fn format_own(printer: &mut Printer, own: Own, style: Style, shown: bool)
     printer.move_to(own.end);
 }
 
-// A leaf where the walk is. Of a record of any other class its trivia and its text, if it has one, are printed too, and the walk goes on behind its own bytes.
+// A leaf where the walk is. Of a record of any other class its trivia and its text, if it has one, are printed too, and
+// the walk goes on behind its own bytes.
 pub fn format_leaf(printer: &mut Printer, levels: usize, leaf: Leaf)
-    ensures own { Goes printer.old printer.new
-        (λ page at. own_events page.context (style_of leaf.style) leaf.shown page.tree (read_own page.tree at leaf.class levels))
-        (λ page at. own_end at (read_own page.tree at leaf.class levels)) }
-    ensures leaf { LeafClass leaf.class
-        → GoesRecord printer.old printer.new (Trees.leaf (style_of leaf.style)) leaf.shown levels leaf.class }
+    ensures own { let style = style_of leaf.style in
+        GoesOwn printer.old printer.new style leaf.shown levels leaf.class true }
+    ensures leaf { let place = Trees.leaf (style_of leaf.style) in
+        (LeafClass leaf.class
+        → GoesRecord printer.old printer.new place leaf.shown levels leaf.class) }
 {
     if printer.ended.is_some() {
         return;
@@ -143,12 +149,11 @@ pub fn format_leaf(printer: &mut Printer, levels: usize, leaf: Leaf)
 
 // A leaf that may stand or not: where it does not, nothing is printed.
 pub fn format_optional_leaf(printer: &mut Printer, levels: usize, leaf: Leaf, stands: bool)
-    ensures own { Goes printer.old printer.new
-        (λ page at. cond stands
-        (own_events page.context (style_of leaf.style) leaf.shown page.tree (read_own page.tree at leaf.class levels)) nothing)
-        (λ page at. cond stands (own_end at (read_own page.tree at leaf.class levels)) at) }
-    ensures leaf { LeafClass leaf.class
-        → GoesField printer.old printer.new (Trees.leaf (style_of leaf.style)) leaf.shown levels leaf.class stands }
+    ensures own { let style = style_of leaf.style in
+        GoesOwn printer.old printer.new style leaf.shown levels leaf.class stands }
+    ensures leaf { let place = Trees.leaf (style_of leaf.style) in
+        (LeafClass leaf.class
+        → GoesField printer.old printer.new place leaf.shown levels leaf.class stands) }
 {
     if stands {
         format_leaf(printer, levels, leaf);

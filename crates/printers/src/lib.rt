@@ -1,4 +1,5 @@
-// The lowest printers of the walk, over one struct that they go on in: pushes, trivia, the texts of enums, leaves, and what every record begins with.
+// The lowest printers of the walk, over one struct that they go on in: pushes, trivia, the texts of enums, leaves, and
+// what every record begins with.
 #![tactic(auto)]
 
 pub mod leaf;
@@ -6,12 +7,12 @@ pub mod record;
 pub mod texts;
 pub mod trivia;
 
-ghost use Rattle.std.specs.Prelude.{◌≡◌, ℕ, None, Err, false};
+ghost use Rattle.std.specs.Prelude.{◌≡◌, Err, false};
 ghost use Rattle.text.specs.Lines.{is_empty, is_newline};
 ghost use Rattle.chunks.specs.Appending.{with_space, with_colon};
 ghost use Rattle.printing.specs.Events as Events;
 ghost use Rattle.printing.specs.Running.{at_start, behind, no_room};
-ghost use Rattle.printers.specs.Going.{Goes, page_of, state_of, answer_of};
+ghost use Rattle.printers.specs.Going.{Goes, page_of, answer_of};
 
 use answers::{Reason, Refusal};
 use chunks::append;
@@ -20,12 +21,13 @@ use chunks::stored::ChunkType;
 use printing::{CodeFormatter, Context, Printed};
 use text::characters;
 
-// The place of refusal 8 for a chunk without a stored form: one more byte than any room counts. No tree has such a chunk.
+// The place of refusal 8 for a chunk without a stored form: one more byte than any room counts. No tree has such a
+// chunk.
 const UNSTORABLE: usize = 1048577;
 
-// A walk over a tree: what it reads and where it writes, how deep it stands, the used length of the room, the end of the last chunk that is
-// not exactly a newline, whether a space goes before the next text, the place that is read next, and why the walk ended. Where it has ended
-// nothing more is done.
+// A walk over a tree: what it reads and where it writes, how deep it stands, the used length of the room, the end of
+// the last chunk that is not exactly a newline, whether a space goes before the next text, the place that is read next,
+// and why the walk ended. Where it has ended nothing more is done.
 #[derive(Drop)]
 pub struct Printer<'a> {
     pub tree: &'a [u8],
@@ -44,9 +46,7 @@ impl<'a> Printer<'a> {
         ensures room { result.room.ghost_name ≡ room.entry.ghost_name }
         ensures bytes { result.room.now ≡ room.old }
         ensures page { page_of result ≡ record { tree = tree.now; context = context } }
-        ensures state { state_of result ≡ at_start }
-        ensures at { result.at ≡ 0 }
-        ensures ended { result.ended ≡ None }
+        ensures answer { answer_of result ≡ Printed.Done at_start 0 }
     {
         Printer {
             tree,

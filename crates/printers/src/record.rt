@@ -1,4 +1,5 @@
-// Records: their own bytes are read, their trivia printed where they are shown, and what is stored before it is printed is skipped.
+// Records: their own bytes are read, their trivia printed where they are shown, and what is stored before it is printed
+// is skipped.
 ghost use Rattle.std.specs.Prelude.{◌≡◌};
 ghost use Rattle.events.specs.Views.{bit_at};
 ghost use Rattle.printers.specs.Records.{Opens, Skips};
@@ -15,7 +16,8 @@ pub fn stands(bits: usize, index: usize) -> bool
     index < 64 && (bits >> index) % 2 == 1
 }
 
-// Reads the own bytes of a record that may stand or not, and prints its trivia where they are shown; none where nothing is left to print of it.
+// Reads the own bytes of a record that may stand or not, and prints its trivia where they are shown; none where nothing
+// is left to print of it.
 pub fn open(
     printer: &mut Printer,
     levels: usize,

@@ -84,7 +84,9 @@ pub fn format_lead(printer: &mut Printer, at: usize, count: usize)
 // The chunks of a record's trivia, which may be shown or not. Most records have none: they are not worth a call.
 pub(crate) fn shown_trivia(printer: &mut Printer, own: Own, shown: bool)
     ensures { Goes printer.old printer.new
-        (λ page here. cond shown (trivia_events page.context (items_at page.tree own.trivia own.trivia_count)) nothing)
+        (λ page here.
+        let items = items_at page.tree own.trivia own.trivia_count in
+        cond shown (trivia_events page.context items) nothing)
         (λ page here. here) }
 {
     if shown && 0 < own.trivia_count {

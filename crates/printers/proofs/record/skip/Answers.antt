@@ -10,7 +10,7 @@ use Rattle.printers.proofs.record.skip.Goals.{then-not-stands-via-then-not-stand
 pub returns-then-not-stands : goal.returns-then-not-stands
 unfolding first_refusal
 returns-then-not-stands c = elim c.then-not-stands.branch [
-    then-not-stands-via-then-not-stands w ↦ rw w.if-not-stands.true stays
+  | then-not-stands-via-then-not-stands w ↦ rw w.if-not-stands.true stays
   | then-not-stands-via-else-not-stands+then-is_some w ↦ has_ended (sym w.is_some.ensures ∙ w.if-is_some.true)
 ]
 
