@@ -3,7 +3,7 @@ use mathlib.Core.Path.{◌≡◌}
 use mathlib.Core.Bool.{Bool, true, false, cond}
 use Prim.Native.Nat.{ℕ}
 use lib.Seq.{slice}
-use Rattle.tree.specs.Own.{read_own, own_end, Fits}
+use Rattle.tree.specs.Own.{read_own, Fits}
 use Rattle.tree.specs.declared.grammar.Class.{Class}
 use Rattle.tree.specs.declared.own.Own.{Own}
 use Rattle.std.specs.Prelude.{Result, Ok}
@@ -12,7 +12,7 @@ use Rattle.events.specs.Printed.{Style, printed}
 use Rattle.events.specs.Trees.{word, leaf, trivia_events}
 use Rattle.printing.specs.Events.{nothing, ◌▹◌}
 use Rattle.leaves.specs.Items.{items_at}
-use Rattle.leaves.specs.Leaves.{LeafClass, own_events}
+use Rattle.leaves.specs.Leaves.{LeafClass}
 use Rattle.leaves.proofs.Leaves.{own_shown, leaf_shown_lem, text_shown}
 use Rattle.printers.specs.declared.Printer.{Printer}
 use Rattle.printers.specs.Going.{Goes}

@@ -1,22 +1,20 @@
 -- Records that were opened: what is printed of the fields, or of the items, behind own bytes is printed of the record.
-use mathlib.Core.Path.{◌≡◌, refl, sym, ap, ◌∙◌}
+use mathlib.Core.Path.{◌≡◌, sym, ap, ◌∙◌}
 use mathlib.Core.Bool.{Bool, true, false, cond}
-use mathlib.Core.List.{[]}
 use Prim.Native.Nat.{ℕ, ◌-◌, ◌/◌, ◌<◌, ◌≤◌}
 use native.Mathlib.Omega.{arith}
 use lib.ListN.{length, get_or}
-use Rattle.std.specs.Prelude.{Option, Result, Some, None, Ok, Err}
+use Rattle.std.specs.Prelude.{Option, Result, Some, None, Ok}
 use Rattle.answers.specs.declared.Refusal.{Refusal}
 use Rattle.tree.specs.Tree.{Tree, node, built, chain}
 use Rattle.tree.specs.Grammar.{kind_of, rule}
-use Rattle.tree.specs.Own.{read_own, Fits, OwnFits, numbers_own}
+use Rattle.tree.specs.Own.{read_own, Fits}
 use Rattle.tree.specs.Reading.{trivia_of, read}
 use Rattle.tree.specs.declared.grammar.Class.{Class}
 use Rattle.tree.specs.declared.grammar.Kind.{Kind}
 use Rattle.tree.specs.declared.grammar.Kind.TheVariants as variant
 use Rattle.tree.specs.declared.own.Own.{Own}
 use Rattle.tree.proofs.KindLayout.{kind_number, kind_number_lem}
-use Rattle.tree.proofs.Numbers.{own_numbers_lem}
 use Rattle.printing.specs.Events.{nothing, ◌▹◌}
 use Rattle.printing.specs.Running.{run}
 use Rattle.events.specs.Trees.{Place, trivia_events, events_in}

@@ -1,6 +1,6 @@
 -- The chunk that is appended is the one of the definition, and whether it is a newline was asked of the same text.
 use mathlib.Core.Path.{◌≡◌, refl, sym, ◌∙◌}
-use Rattle.std.specs.Prelude.{Ok, Err}
+use Rattle.std.specs.Prelude.{Ok}
 use Rattle.chunks.specs.Appending.{with_colon}
 use Rattle.printing.specs.Running.{behind}
 use Rattle.printing.specs.declared.CodeFormatter.{CodeFormatter}

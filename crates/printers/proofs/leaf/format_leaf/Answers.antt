@@ -1,7 +1,6 @@
 -- A walk that has ended stays; own bytes that were read are printed, and a refusal ends the walk.
 use mathlib.Core.Path.{refl, sym, ap, ◌∙◌}
 use Rattle.leaves.specs.Leaves.{own_events}
-use Rattle.leaves.proofs.Leaves.{own_text}
 use Rattle.printers.specs.Texts.{style_of}
 use Rattle.printers.proofs.Going.{has_ended, stops}
 use Rattle.printers.proofs.Leaves.{own_goes, leaf_goes}
@@ -12,9 +11,6 @@ returns-then-is_some-clause-own c = has_ended (sym c.is_some.ensures ∙ c.if-is
 
 pub returns-then-is_some-clause-leaf : goal.returns-then-is_some-clause-leaf
 returns-then-is_some-clause-leaf c leaves = has_ended (sym c.is_some.ensures ∙ c.if-is_some.true)
-
-pub format_own-requires : goal.format_own-requires
-format_own-requires c = own_text _ _ _ c.read_own.ensures.fits c.in-Ok.is
 
 pub returns-in-Ok-clause-own : goal.returns-in-Ok-clause-own
 returns-in-Ok-clause-own c = own_goes _ _ _ _ _ c.read_own.ensures.answer c.read_own.ensures.fits c.in-Ok.is c.format_own.ensures
