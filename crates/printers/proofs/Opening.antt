@@ -1,5 +1,5 @@
 -- Records that were opened: what is printed of the fields, or of the items, behind own bytes is printed of the record.
-use mathlib.Core.Path.{◌≡◌, sym, ap, ◌∙◌}
+use mathlib.Core.Path.{◌≡◌, refl, sym, ap, ◌∙◌}
 use mathlib.Core.Bool.{Bool, true, false, cond}
 use Prim.Native.Nat.{ℕ, ◌-◌, ◌/◌, ◌<◌, ◌≤◌}
 use native.Mathlib.Omega.{arith}
@@ -15,7 +15,7 @@ use Rattle.tree.specs.declared.grammar.Kind.{Kind}
 use Rattle.tree.specs.declared.grammar.Kind.TheVariants as variant
 use Rattle.tree.specs.declared.own.Own.{Own}
 use Rattle.tree.proofs.KindLayout.{kind_number, kind_number_lem}
-use Rattle.printing.specs.Events.{nothing, ◌▹◌}
+use Rattle.printing.specs.Events.{Events, nothing, ◌▹◌}
 use Rattle.printing.specs.Running.{run}
 use Rattle.events.specs.Trees.{Place, trivia_events, events_in}
 use Rattle.events.proofs.OwnParts.{record_headed}
@@ -25,7 +25,7 @@ use Rattle.leaves.proofs.Leaves.{own_items}
 use Rattle.leaves.proofs.Records.{read_record}
 use Rattle.leaves.proofs.Fielded.{bare, kind_read, list_read, standing_range}
 use Rattle.printers.specs.declared.Printer.{Printer}
-use Rattle.printers.specs.Going.{Goes}
+use Rattle.printers.specs.Going.{Page, page_of, Goes}
 use Rattle.printers.specs.Records.{GoesField, GoesKind, OpensAs, Opens}
 use Rattle.printers.proofs.Going.{◌onward◌, there, runs_alike}
 
@@ -81,24 +81,27 @@ module _ {before between : Printer} {shown : Bool} {levels : ℕ} {class : Class
 
       module _ (place : Place) {after : Printer} where
         -- what is printed behind own bytes is printed of the record
-        pub opened_as : (tree : Tree) (end : ℕ)
+        pub opened_as : {tree : Tree} {end : ℕ} {events : Page → ℕ → Events} {behind : Page → ℕ → ℕ}
             → ((at : ℕ) → read_own before.tree.now at class levels ≡ Ok own
             → ((read levels before.tree.now class at).tree ≡ node at (trivia_of before.tree.now own) tree) × ((read levels before.tree.now class at).end ≡ end))
-            → Goes between after (λ page at. events_in page.context place true tree) (λ page at. end)
+            → Goes between after events behind
+            → events (page_of before) own.end ≡ events_in before.context place true tree → behind (page_of before) own.end ≡ end
             → GoesField before after place shown levels class stands
         unfolding events_in
-        opened_as tree end read goes =
+        opened_as read goes same ends =
             let read_as = read before.at opened_own.1 in
-            rw opened_own.0 (there (opened_own.3 onward goes) (ap (events_in before.context place shown) (sym read_as.0)) (sym read_as.1))
+            rw opened_own.0
+            (there (opened_own.3 onward goes)
+            (ap (λ rest. cond shown (trivia_events before.context (trivia_of before.tree.now own)) nothing ▹ rest) same
+            ∙ ap (events_in before.context place shown) (sym read_as.0))
+            (ends ∙ sym read_as.1))
 
         -- of a kind with fields
         pub opened_kind : (kind : Kind) → own.kind ≡ kind → bare kind ≡ false
             → GoesKind between after place kind (rule class).value (own.map / 2) (levels - 1)
             → GoesField before after place shown levels class stands
-        unfolding events_in
         opened_kind kind same other goes =
-            let read_as = kind_read before.tree.now class before.at levels own kind opened_own.1 same other in
-            rw opened_own.0 (there (opened_own.3 onward goes) (ap (events_in before.context place shown) (sym read_as.0)) (sym read_as.1))
+            opened_as (λ at read. kind_read before.tree.now class at levels own kind read same other) goes refl refl
 
         -- of a list
         pub opened_list : (item : Class) → own.kind ≡ variant.Vec → (rule class).items ≡ Some item
@@ -107,5 +110,4 @@ module _ {before between : Printer} {shown : Bool} {levels : ℕ} {class : Class
             → GoesField before after place shown levels class stands
         unfolding events_in built
         opened_list item same items goes =
-            let read_as = list_read before.tree.now class item before.at levels own opened_own.1 same items in
-            rw opened_own.0 (there (opened_own.3 onward goes) (ap (events_in before.context place shown) (sym read_as.0)) (sym read_as.1))
+            opened_as (λ at read. list_read before.tree.now class item at levels own read same items) goes refl refl

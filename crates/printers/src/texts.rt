@@ -68,7 +68,8 @@ fn push_entry(printer: &mut Printer, texts: &[&str], index: usize)
     }
 }
 
-// Pushes a text by its style: as it stands, or by the index that is its first byte.
+// Pushes a text by its style: as it stands, or by the index that is its first byte. Where a caller names the style, no
+// choice is left of it.
 #[inline(always)]
 pub fn push_text(printer: &mut Printer, style: Style, text: &[u8])
     ensures { Goes printer.old printer.new
