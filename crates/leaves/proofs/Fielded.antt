@@ -106,7 +106,7 @@ text_free variant.SpecificImportArg text trees other = refl
 text_free variant.ArgItem text trees other = refl
 
 -- its fields are read one behind the other
-kind_read : (bytes : List ℕ) (class : Class) (at levels : ℕ) (own : Own) (kind : Kind) → read_own bytes at class levels ≡ Ok own → own.kind ≡ kind → bare kind ≡ false
+pub kind_read : (bytes : List ℕ) (class : Class) (at levels : ℕ) (own : Own) (kind : Kind) → read_own bytes at class levels ≡ Ok own → own.kind ≡ kind → bare kind ≡ false
     → ((read levels bytes class at).tree ≡ node at (trivia_of bytes own) (built kind [] (field_trees (read (levels - 1) bytes) (fields kind (rule class).value) (own.map / 2) own.end)))
     × ((read levels bytes class at).end ≡ fields_end (read (levels - 1) bytes) (fields kind (rule class).value) (own.map / 2) own.end)
 unfolding kind_number stored_with built
@@ -146,7 +146,7 @@ items_read reader class (suc count) at =
     let rest = items_read reader class count (reader class at).end in rw (rest.0, rest.1) (refl, refl)
 
 -- so are those of a list
-list_read : (bytes : List ℕ) (class item : Class) (at levels : ℕ) (own : Own) → read_own bytes at class levels ≡ Ok own → own.kind ≡ variant.Vec
+pub list_read : (bytes : List ℕ) (class item : Class) (at levels : ℕ) (own : Own) → read_own bytes at class levels ≡ Ok own → own.kind ≡ variant.Vec
     → (rule class).items ≡ Some item
     → ((read levels bytes class at).tree ≡ node at (trivia_of bytes own) (built variant.Vec [] (item_trees (read (levels - 1) bytes) item own.count own.end)))
     × ((read levels bytes class at).end ≡ items_end (read (levels - 1) bytes) item own.count own.end)

@@ -1,0 +1,7 @@
+pub mod Going
+pub mod Pushing
+pub mod Tables
+pub mod Items
+pub mod Leaves
+pub mod Bits
+pub mod Opening

@@ -1,0 +1,76 @@
+-- One push of a walk: the chunk, and where it does not fit the length that is needed.
+use mathlib.Core.Path.{◌≡◌, refl, sym}
+use mathlib.Core.List.{List, []}
+use mathlib.Core.Bool.{Bool, false}
+use Prim.Native.Nat.{ℕ, ◌+◌}
+use native.Mathlib.Omega.{arith}
+use lib.ListN.{length}
+use lib.Dec.{ltb}
+use borrow.Author.Tests.{ltb-true}
+use Rattle.std.specs.Prelude.{Result, Err}
+use Rattle.text.specs.Lines.{is_empty, is_newline}
+use Rattle.text.proofs.Choices.{by_test}
+use Rattle.chunks.specs.Stored.{Chunk, stored_chunk}
+use Rattle.chunks.specs.Appending.{with_space, unstorable, capacity, appended, room_after}
+use Rattle.chunks.specs.declared.append.Unappended.{Unappended}
+use Rattle.chunks.specs.declared.append.Unappended.TheVariants.{NoRoom, NoChunk, UsedPastRoom}
+use Rattle.chunks.specs.declared.stored.ChunkType.{ChunkType}
+use Rattle.chunks.specs.declared.stored.ChunkType.TheVariants.{Code}
+use Rattle.printing.specs.Events.{push}
+use Rattle.printing.specs.Running.{at_start, going, behind}
+use Rattle.printing.specs.declared.CodeFormatter.{CodeFormatter}
+use Rattle.printing.proofs.Pushing.{empty_not_pushed, is_pushed}
+use Rattle.printing.proofs.Running.{Ran, ran_push}
+use Rattle.printers.specs.declared.Printer.{Printer}
+use Rattle.events.specs.Trees.{word}
+use Rattle.printers.specs.Going.{Page, page_of, state_of, Goes}
+use Rattle.printers.proofs.Going.{spaced_is, steps}
+
+-- the length that a chunk which was not appended needs, whatever stood before it
+pub needs : (state : CodeFormatter) (newline : Bool) (why : Unappended) → (behind state newline (Err why)).full ≡ (behind at_start false (Err why)).full
+needs state newline (NoRoom needed) = refl
+needs state newline NoChunk = refl
+needs state newline UsedPastRoom = refl
+
+-- it is some length
+pub needs_some : (room used : ℕ) (chunk : Chunk) (why : Unappended) → Err why ≡ appended room used chunk → (behind at_start false (Err why)).full ≡ 0 → ⊥
+unfolding appended
+needs_some room used chunk NoChunk is none = let z : ◌≡◌ {A = ℕ} 1048577 0 = none in absurd (omega arith)
+needs_some room used chunk UsedPastRoom is none = let z : ◌≡◌ {A = ℕ} 1048577 0 = none in absurd (omega arith)
+needs_some room used chunk (NoRoom needed) is none =
+    by_test (unstorable chunk)
+    (λ odd. let other : Err (NoRoom needed) ≡ Err NoChunk = rw odd at is in cc)
+    (λ fine. by_test (ltb (capacity room) used)
+    (λ past. let other : Err (NoRoom needed) ≡ Err UsedPastRoom = rw (fine, past) at is in cc)
+    (λ within. by_test (ltb (capacity room) (used + length (stored_chunk chunk)))
+    (λ full.
+    let same : Err (NoRoom needed) ≡ Err (NoRoom (used + length (stored_chunk chunk))) = rw (fine, within, full) at is in
+    let one : needed ≡ used + length (stored_chunk chunk) = cc in
+    let more = ltb-true _ _ full in
+    omega arith)
+    (λ fits. cc)))
+
+module _ (before : Printer) (ty : ChunkType) (text : List ℕ) where
+  -- the chunk that a push makes
+  abbrev pub chunk_of : Chunk
+  chunk_of = record { ty = ty; indent = before.context.indent; text = with_space before.spaced text }
+
+  -- what appending it answers is what the push does
+  pub push_ran : {newline : Bool} {answer : Result ℕ Unappended} {next : CodeFormatter} {after : List ℕ}
+      → is_empty text ≡ false → newline ≡ is_newline (with_space before.spaced text)
+      → answer ≡ appended (length before.room.now) before.used chunk_of → after ≡ room_after before.room.now before.used chunk_of
+      → next ≡ behind (state_of before) newline answer
+      → Ran (push ty before.context text) (going before.room.now (state_of before)) (going after next)
+  push_ran some lone answered stored moved =
+      let same = sym (spaced_is before) in
+      ran_push
+      (is_pushed before.room.now (state_of before) ty before.context text refl some
+      (rw same at lone) (rw same at answered) (rw same at stored) moved)
+
+-- a text of no bytes is no push
+pub pushes_nothing : {printer : Printer} {text : Page → List ℕ} → text (page_of printer) ≡ []
+    → Goes printer printer (λ page at. word page.context (text page)) (λ page at. at)
+pushes_nothing {printer} {text} none =
+    let page = page_of printer in
+    steps refl refl refl
+    (ran_push (empty_not_pushed printer.room.now (state_of printer) Code page.context (text page) refl (rw none refl))) refl
