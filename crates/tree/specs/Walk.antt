@@ -1,7 +1,7 @@
 -- Not part of the promises about a tree: the sets of maps as numbers, what the reading of a record's own bytes hands on, the parts that a plan is one of,
 -- and what the check's inner functions hand on.
 use Rattle.answers.specs.Numbers.{Checked}
-use Rattle.std.specs.Prelude.{ℕ, ◌+◌, ◌/◌, ◌%◌, ◌^◌, ◌≤◌, ◌<◌, ◌≡◌, List, [], ◌∷◌, ◌++◌, Bool, false, cond, length, replicate, eqb, ltb, Option, Result, Some, None, Ok, Err}
+use Rattle.std.specs.Prelude.{ℕ, ◌+◌, ◌/◌, ◌%◌, ◌^◌, ◌≤◌, ◌<◌, ◌≡◌, List, [], ◌∷◌, ◌++◌, Bool, false, ◌&&◌, cond, length, get_or, replicate, eqb, ltb, leb, Option, Result, Some, None, Ok, Err}
 use Rattle.answers.specs.declared.Refusal.{Refusal}
 use Rattle.text.specs.Accepted.{accepted_text, fault_at}
 use Rattle.tree.specs.Grammar.{Slot, kind_of}
@@ -12,6 +12,8 @@ use Rattle.tree.specs.declared.grammar.Class.{Class}
 use Rattle.tree.specs.declared.grammar.Kind.{Kind}
 use Rattle.tree.specs.declared.grammar.Kind.TheVariants.{Leaf}
 use Rattle.tree.specs.declared.grammar.Rule.{Rule}
+use Rattle.tree.specs.declared.grammar.TextRule.{TextRule}
+use Rattle.tree.specs.declared.grammar.TextRule.TheVariants.{NoText, Free, Byte}
 use Rattle.tree.specs.declared.own.Own.{Own}
 use Rattle.tree.specs.declared.own.TriviaSpan.{TriviaSpan}
 use Rattle.tree.specs.declared.own.Rest.{Rest}
@@ -29,6 +31,12 @@ pub record SetOf (set : ℕ) (slots : List Slot) : Type 0 where
   pub past : (bits : ℕ) → 64 ≤ bits → bits < 128 → false ≡ fields_fit slots bits
 
 -- ---- a record's own bytes
+
+-- whether a text that stands is one of a rule's
+abbrev pub allows : TextRule → List ℕ → Bool
+allows NoText text = false
+allows Free text = ltb 0 (length text)
+allows (Byte low high) text = eqb (length text) 1 && (leb low (get_or text 0 0) && leb (get_or text 0 0) high)
 
 -- the answer of a record whose first two bytes are judged
 abbrev pub judged_on : List ℕ → ℕ → Rule → ℕ → Option (Kind × ℕ) → Result Own Refusal
