@@ -1,5 +1,5 @@
 -- A kind and the number that is its first byte: each tells the other.
-use Rattle.std.specs.Prelude.{Some}
+use Rattle.std.specs.Prelude.{Option, Some, None}
 use mathlib.Core.Path.{◌≡◌, refl, sym, ap, ◌∙◌}
 use mathlib.Core.Bool.{true, false, ◌||◌}
 use mathlib.Core.Logic.{◌⊎◌, ⊎_elim}
@@ -36,3 +36,8 @@ module _ (number : ℕ) (kind : Kind) (known : kind_of number ≡ Some kind) whe
   -- no other has
   pub untexted : (kind ≡ Leaf → ⊥) → (kind ≡ PathItem → ⊥) → (eqb number 25 || eqb number 26) ≡ false
   untexted leaf path = rw (no_kind 25 Leaf refl leaf, no_kind 26 PathItem refl path)
+
+-- a byte of no kind is no kind's number
+pub none_at : (number : ℕ) → kind_of number ≡ None → (place : ℕ) (other : Kind) → kind_of place ≡ Some other → eqb number place ≡ false
+none_at number none place other is =
+    ne_eqb _ _ (λ same. let z : None ≡ Some other = sym none ∙ ap kind_of same ∙ is in cc)

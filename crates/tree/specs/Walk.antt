@@ -1,10 +1,12 @@
 -- Not part of the promises about a tree: the sets of maps as numbers, what the reading of a record's own bytes hands on, the parts that a plan is one of,
 -- and what the check's inner functions hand on.
 use Rattle.answers.specs.Numbers.{Checked}
-use Rattle.std.specs.Prelude.{ℕ, ◌+◌, ◌/◌, ◌%◌, ◌^◌, ◌≤◌, ◌<◌, ◌≡◌, List, [], ◌∷◌, ◌++◌, Bool, false, ◌&&◌, cond, length, get_or, replicate, eqb, ltb, leb, Option, Result, Some, None, Ok, Err}
+use Rattle.std.specs.Prelude.{ℕ, ◌+◌, ◌-◌, ◌/◌, ◌%◌, ◌^◌, ◌≤◌, ◌<◌, ◌≡◌, List, [], ◌∷◌, ◌++◌, Bool, false, ◌&&◌, cond, length, get_or, replicate, eqb, ltb, leb, Option, Result, Some, None, Ok, Err}
 use Rattle.answers.specs.declared.Refusal.{Refusal}
 use Rattle.text.specs.Accepted.{accepted_text, fault_at}
-use Rattle.tree.specs.Grammar.{Slot, kind_of}
+use Rattle.tree.specs.Grammar.{Slot, kind_of, rule, fields}
+use Rattle.tree.specs.Parts.{first_class}
+use Rattle.tree.specs.declared.parts.Head.{Head}
 use Rattle.tree.specs.Rows.{row_of}
 use Rattle.tree.specs.Own.{may_stand, fields_fit, trivia_read, layout, own_of, trivia_of_record, map_of_record}
 use Rattle.tree.specs.Reading.{Placed, Reading, Reader, Due, nothing, due, fields_due}
@@ -130,3 +132,9 @@ walked walker (class ∷ classes) place fault = onward (walker class place fault
 -- the walker of a reader
 abbrev pub walker_of : Reader → List ℕ → Walker
 walker_of reader bytes class place fault = record_read bytes fault (reader class place)
+
+-- ---- a token's head
+
+-- the first field behind own bytes
+abbrev pub first_field : ℕ → Class → Own → Head
+first_field levels class own = record { place = own.end; class = first_class class (fields own.kind (rule class).value); levels = levels - 1 }
