@@ -197,6 +197,55 @@ pub enum Class {
     StringItems,
 }
 
+// The classes at their numbers; no class has the number 0, which counts as the first.
+static CLASSES: [Class; 36] = [
+    Class::Word,
+    Class::Word,
+    Class::Char,
+    Class::OpenBrace,
+    Class::CloseBrace,
+    Class::Colon,
+    Class::Unit,
+    Class::Mnemonic,
+    Class::IndexRegister,
+    Class::AddressModifier,
+    Class::VariableType,
+    Class::NumberType,
+    Class::DataSize,
+    Class::BinaryOp,
+    Class::TextEncoding,
+    Class::AddressingMode,
+    Class::StringItem,
+    Class::LocatedExpression,
+    Class::BareExpression,
+    Class::LocatedFactor,
+    Class::BareToken,
+    Class::LocatedToken,
+    Class::BlockRecord,
+    Class::StringRecord,
+    Class::OperandRecord,
+    Class::SuffixRecord,
+    Class::AsRecord,
+    Class::ImportArguments,
+    Class::ImportPath,
+    Class::ExpressionArgument,
+    Class::IdentifierArgument,
+    Class::ImportArgument,
+    Class::Tokens,
+    Class::ExpressionArguments,
+    Class::IdentifierArguments,
+    Class::StringItems,
+];
+
+impl Class {
+    // The number of a class in a row, where 0 says that there is no field.
+    fn number(self) -> u64
+        ensures { (result ≡ class_number self) × (result < 64) }
+    {
+        self as u64 + 1
+    }
+}
+
 // The text of a leaf.
 #[derive(Clone, Copy, Debug, PartialEq, Eq)]
 pub enum TextRule {
@@ -232,29 +281,26 @@ pub struct Rule {
     pub value: Class,
 }
 
-fn leaf(located: bool, text: TextRule) -> Rule
-    ensures { result ≡ Grammar.leaf located text }
+// The kinds from first to last, without a text and items.
+fn nodes(first: usize, last: usize, located: bool) -> Rule
+    ensures { result ≡ Grammar.nodes first last located }
 {
     Rule {
-        first: kinds::LEAF,
-        last: kinds::LEAF,
-        located: located,
-        text: text,
+        first,
+        last,
+        located,
+        text: TextRule::NoText,
         items: None,
         value: Class::LocatedExpression,
     }
 }
 
-fn nodes(first: usize, last: usize, located: bool) -> Rule
-    ensures { result ≡ Grammar.nodes first last located }
+fn leaf(located: bool, text: TextRule) -> Rule
+    ensures { result ≡ Grammar.leaf located text }
 {
     Rule {
-        first: first,
-        last: last,
-        located: located,
-        text: TextRule::NoText,
-        items: None,
-        value: Class::LocatedExpression,
+        text,
+        ..nodes(kinds::LEAF, kinds::LEAF, located)
     }
 }
 
@@ -263,12 +309,8 @@ fn argument(value: Class) -> Rule
     ensures { result ≡ Grammar.argument value }
 {
     Rule {
-        first: kinds::ARG_ITEM,
-        last: kinds::ARG_ITEM,
-        located: false,
-        text: TextRule::NoText,
-        items: None,
-        value: value,
+        value,
+        ..nodes(kinds::ARG_ITEM, kinds::ARG_ITEM, false)
     }
 }
 
@@ -277,12 +319,8 @@ fn list_of(class: Class) -> Rule
     ensures { result ≡ Grammar.list_of class }
 {
     Rule {
-        first: kinds::VEC,
-        last: kinds::VEC,
-        located: false,
-        text: TextRule::NoText,
         items: Some(class),
-        value: Class::LocatedExpression,
+        ..nodes(kinds::VEC, kinds::VEC, false)
     }
 }
 
@@ -307,12 +345,8 @@ pub(crate) fn rule_of(class: Class) -> Rule
         Class::TextEncoding => leaf(true, TextRule::Byte(0, 3)),
         Class::AddressingMode => leaf(false, TextRule::Byte(0, 4)),
         Class::StringItem => Rule {
-            first: kinds::LEAF,
             last: kinds::PATH_ITEM,
-            located: false,
-            text: TextRule::Free,
-            items: None,
-            value: Class::LocatedExpression,
+            ..leaf(false, TextRule::Free)
         },
         Class::LocatedExpression => nodes(kinds::BINARY_EXPRESSION, kinds::FACTOR, true),
         Class::BareExpression => nodes(kinds::BINARY_EXPRESSION, kinds::FACTOR, false),
@@ -329,12 +363,8 @@ pub(crate) fn rule_of(class: Class) -> Rule
         Class::SuffixRecord => nodes(kinds::REGISTER_SUFFIX, kinds::REGISTER_SUFFIX, false),
         Class::AsRecord => nodes(kinds::IMPORT_AS, kinds::IMPORT_AS, false),
         Class::ImportArguments => Rule {
-            first: kinds::IMPORT_ALL,
-            last: kinds::IMPORT_ALL,
-            located: false,
-            text: TextRule::NoText,
             items: Some(Class::ImportArgument),
-            value: Class::LocatedExpression,
+            ..nodes(kinds::IMPORT_ALL, kinds::IMPORT_ALL, false)
         },
         Class::ImportPath => nodes(kinds::SPECIFIC_IMPORT_ARG, kinds::SPECIFIC_IMPORT_ARG, true),
         Class::ExpressionArgument => argument(Class::LocatedExpression),
@@ -394,7 +424,7 @@ pub(crate) fn row_of(kind: Kind, value: Class) -> u64
         Kind::ImportAs => 129,
         Kind::ImportAll => 11522,
         Kind::SpecificImportArg => 11521,
-        Kind::ArgItem => number_of(value) + 8448,
+        Kind::ArgItem => value.number() + 8448,
     }
 }
 
@@ -449,90 +479,13 @@ pub(crate) fn maps_of(kind: Kind) -> u64
     }
 }
 
-// The number of a class in a row.
-fn number_of(class: Class) -> u64
-    ensures { (result ≡ class_number class) × (result < 64) }
-{
-    match class {
-        Class::Word => 1,
-        Class::Char => 2,
-        Class::OpenBrace => 3,
-        Class::CloseBrace => 4,
-        Class::Colon => 5,
-        Class::Unit => 6,
-        Class::Mnemonic => 7,
-        Class::IndexRegister => 8,
-        Class::AddressModifier => 9,
-        Class::VariableType => 10,
-        Class::NumberType => 11,
-        Class::DataSize => 12,
-        Class::BinaryOp => 13,
-        Class::TextEncoding => 14,
-        Class::AddressingMode => 15,
-        Class::StringItem => 16,
-        Class::LocatedExpression => 17,
-        Class::BareExpression => 18,
-        Class::LocatedFactor => 19,
-        Class::BareToken => 20,
-        Class::LocatedToken => 21,
-        Class::BlockRecord => 22,
-        Class::StringRecord => 23,
-        Class::OperandRecord => 24,
-        Class::SuffixRecord => 25,
-        Class::AsRecord => 26,
-        Class::ImportArguments => 27,
-        Class::ImportPath => 28,
-        Class::ExpressionArgument => 29,
-        Class::IdentifierArgument => 30,
-        Class::ImportArgument => 31,
-        Class::Tokens => 32,
-        Class::ExpressionArguments => 33,
-        Class::IdentifierArguments => 34,
-        Class::StringItems => 35,
-    }
-}
-
-// The class of a number in a row.
+// The class of a number in a row; numbers of no class count as the last.
 pub(crate) fn class_of(number: u64) -> Class
     ensures { result ≡ class_of number }
 {
-    match number {
-        0 => Class::Word,
-        1 => Class::Word,
-        2 => Class::Char,
-        3 => Class::OpenBrace,
-        4 => Class::CloseBrace,
-        5 => Class::Colon,
-        6 => Class::Unit,
-        7 => Class::Mnemonic,
-        8 => Class::IndexRegister,
-        9 => Class::AddressModifier,
-        10 => Class::VariableType,
-        11 => Class::NumberType,
-        12 => Class::DataSize,
-        13 => Class::BinaryOp,
-        14 => Class::TextEncoding,
-        15 => Class::AddressingMode,
-        16 => Class::StringItem,
-        17 => Class::LocatedExpression,
-        18 => Class::BareExpression,
-        19 => Class::LocatedFactor,
-        20 => Class::BareToken,
-        21 => Class::LocatedToken,
-        22 => Class::BlockRecord,
-        23 => Class::StringRecord,
-        24 => Class::OperandRecord,
-        25 => Class::SuffixRecord,
-        26 => Class::AsRecord,
-        27 => Class::ImportArguments,
-        28 => Class::ImportPath,
-        29 => Class::ExpressionArgument,
-        30 => Class::IdentifierArgument,
-        31 => Class::ImportArgument,
-        32 => Class::Tokens,
-        33 => Class::ExpressionArguments,
-        34 => Class::IdentifierArguments,
-        35 => Class::StringItems,
-        _ => Class::StringItems,
+    let place = number as usize;
+    if CLASSES.len() <= place {
+        return Class::StringItems;
     }
+    CLASSES[place]
 }
