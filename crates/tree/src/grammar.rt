@@ -377,105 +377,142 @@ pub(crate) fn rule_of(class: Class) -> Rule
     }
 }
 
-// The fields of a kind in one number: for each, from the lowest on, seven bits with its class's number, 64 more where it need not stand.
+// The code of a field in a row: seven bits with its class's number, 64 more where it need not stand.
+macro_rules! slot {
+    (must $class:ident) => {
+        Class::$class as u64 + 1
+    };
+    (may $class:ident) => {
+        Class::$class as u64 + 65
+    };
+}
+
+// The codes of fields in one number, from the lowest bits on.
+macro_rules! row {
+    () => { 0 };
+    ($need:ident $class:ident $(, $needs:ident $classes:ident)*) => {
+        slot!($need $class) + 128 * row!($($needs $classes),*)
+    };
+}
+
+// The fields of a kind in one number.
 pub(crate) fn row_of(kind: Kind, value: Class) -> u64
     ensures { result ≡ row_of (Grammar.fields kind value) }
 {
     match kind {
-        Kind::Align => 2177,
-        Kind::Assert => 1427585,
-        Kind::Braces => 22,
-        Kind::Config => 22,
-        Kind::ConfigPair => 344321,
-        Kind::Data => 1569,
-        Kind::Definition => 1376385,
-        Kind::Eof => 6,
-        Kind::Error => 1,
-        Kind::Expression => 18,
-        Kind::If => 23222126721,
-        Kind::Import => 23133703553,
-        Kind::File => 2945,
-        Kind::Instruction => 11271,
-        Kind::Label => 1409665,
-        Kind::Loop => 362625,
-        Kind::MacroDefinition => 756522451073,
-        Kind::MacroInvocation => 4735233,
-        Kind::ProgramCounterDefinition => 278786,
-        Kind::Segment => 1411201,
-        Kind::Test => 362625,
-        Kind::Text => 288513,
-        Kind::Trace => 138961153,
-        Kind::VariableDefinition => 35684490,
-        Kind::Vec => 0,
-        Kind::Leaf => 0,
-        Kind::PathItem => 0,
-        Kind::Block => 69635,
-        Kind::BinaryExpression => 280717,
-        Kind::Factor => 1089811,
-        Kind::CurrentProgramCounter => 2,
-        Kind::ExprParens => 34946,
-        Kind::FunctionCall => 4735233,
-        Kind::IdentifierValue => 9345,
-        Kind::Number => 139,
-        Kind::StringFactor => 23,
-        Kind::InterpolatedString => 4482,
-        Kind::Operand => 23923302673,
-        Kind::RegisterSuffix => 1026,
-        Kind::ImportAs => 129,
-        Kind::ImportAll => 11522,
-        Kind::SpecificImportArg => 11521,
-        Kind::ArgItem => value.number() + 8448,
+        Kind::Align => row!(must Word, must LocatedExpression),
+        Kind::Assert => row!(must Word, must LocatedExpression, may StringRecord),
+        Kind::Braces => row!(must BlockRecord),
+        Kind::Config => row!(must BlockRecord),
+        Kind::ConfigPair => row!(must Word, must Char, must LocatedToken),
+        Kind::Data => row!(must ExpressionArguments, must DataSize),
+        Kind::Definition => row!(must Word, must Word, may BareToken),
+        Kind::Eof => row!(must Unit),
+        Kind::Error => row!(must Word),
+        Kind::Expression => row!(must BareExpression),
+        Kind::If =>
+            row!(must Word, must LocatedExpression, must BlockRecord, may Word, may BlockRecord),
+        Kind::Import =>
+            row!(must Word, must ImportArguments, must Word, must StringRecord, may BlockRecord),
+        Kind::File => row!(must Word, must StringRecord),
+        Kind::Instruction => row!(must Mnemonic, may OperandRecord),
+        Kind::Label => row!(must Word, must Colon, may BlockRecord),
+        Kind::Loop => row!(must Word, must LocatedExpression, must BlockRecord),
+        Kind::MacroDefinition =>
+            row!(must Word, must Word, must Char, must IdentifierArguments, must Char, must BlockRecord),
+        Kind::MacroInvocation => row!(must Word, must Char, must ExpressionArguments, must Char),
+        Kind::ProgramCounterDefinition => row!(must Char, must Char, must LocatedExpression),
+        Kind::Segment => row!(must Word, must LocatedExpression, may BlockRecord),
+        Kind::Test => row!(must Word, must LocatedExpression, must BlockRecord),
+        Kind::Text => row!(must Word, may TextEncoding, must LocatedExpression),
+        Kind::Trace => row!(must Word, may Char, must ExpressionArguments, may Char),
+        Kind::VariableDefinition =>
+            row!(must VariableType, must Word, must Char, must LocatedExpression),
+        Kind::Vec => row!(),
+        Kind::Leaf => row!(),
+        Kind::PathItem => row!(),
+        Kind::Block => row!(must OpenBrace, must Tokens, must CloseBrace),
+        Kind::BinaryExpression =>
+            row!(must BinaryOp, must LocatedExpression, must LocatedExpression),
+        Kind::Factor => row!(must LocatedFactor, may Char, may Char),
+        Kind::CurrentProgramCounter => row!(must Char),
+        Kind::ExprParens => row!(must Char, must LocatedExpression, must Char),
+        Kind::FunctionCall => row!(must Word, must Char, must ExpressionArguments, must Char),
+        Kind::IdentifierValue => row!(must Word, may AddressModifier),
+        Kind::Number => row!(must NumberType, must Word),
+        Kind::StringFactor => row!(must StringRecord),
+        Kind::InterpolatedString => row!(must Char, must StringItems),
+        Kind::Operand =>
+            row!(must LocatedExpression, may Char, may Char, must AddressingMode, may SuffixRecord),
+        Kind::RegisterSuffix => row!(must Char, must IndexRegister),
+        Kind::ImportAs => row!(must Word, must Word),
+        Kind::ImportAll => row!(must Char, may AsRecord),
+        Kind::SpecificImportArg => row!(must Word, may AsRecord),
+        Kind::ArgItem => value.number() + 128 * row!(may Char),
     }
 }
 
-// The maps of a kind's fields in one number: bit n stands where the fields whose bits n has may stand together.
+// The maps that fields may have, in one number whose bit n stands where the map n is one of them. A field that must stand moves the maps
+// of those before it by the value of its bit; one that need not stand keeps them beside the moved ones.
+macro_rules! maps {
+    (@ [$($power:literal)*]) => { 1 };
+    (@ [$first:literal $($power:literal)*] must $($need:ident)*) => {
+        $first * maps!(@ [$($power)*] $($need)*)
+    };
+    (@ [$first:literal $($power:literal)*] may $($need:ident)*) => {
+        ($first + 1) * maps!(@ [$($power)*] $($need)*)
+    };
+    ($($need:ident)*) => { maps!(@ [2 4 16 256 65536 4294967296] $($need)*) };
+}
+
+// The maps of a kind's fields: where the fields whose bits they have may stand together.
 pub(crate) fn maps_of(kind: Kind) -> u64
     ensures { (value : Class) → SetOf result (Grammar.fields kind value) }
 {
     match kind {
-        Kind::Align => 8,
-        Kind::Assert => 136,
-        Kind::Braces => 2,
-        Kind::Config => 2,
-        Kind::ConfigPair => 128,
-        Kind::Data => 8,
-        Kind::Definition => 136,
-        Kind::Eof => 2,
-        Kind::Error => 2,
-        Kind::Expression => 2,
-        Kind::If => 2155905152,
-        Kind::Import => 2147516416,
-        Kind::File => 8,
-        Kind::Instruction => 10,
-        Kind::Label => 136,
-        Kind::Loop => 128,
-        Kind::MacroDefinition => 9223372036854775808,
-        Kind::MacroInvocation => 32768,
-        Kind::ProgramCounterDefinition => 128,
-        Kind::Segment => 136,
-        Kind::Test => 128,
-        Kind::Text => 160,
-        Kind::Trace => 41120,
-        Kind::VariableDefinition => 32768,
-        Kind::Vec => 1,
-        Kind::Leaf => 1,
-        Kind::PathItem => 1,
-        Kind::Block => 128,
-        Kind::BinaryExpression => 128,
-        Kind::Factor => 170,
-        Kind::CurrentProgramCounter => 2,
-        Kind::ExprParens => 128,
-        Kind::FunctionCall => 32768,
-        Kind::IdentifierValue => 10,
-        Kind::Number => 8,
-        Kind::StringFactor => 2,
-        Kind::InterpolatedString => 8,
-        Kind::Operand => 2852170240,
-        Kind::RegisterSuffix => 8,
-        Kind::ImportAs => 8,
-        Kind::ImportAll => 10,
-        Kind::SpecificImportArg => 10,
-        Kind::ArgItem => 10,
+        Kind::Align => maps!(must must),
+        Kind::Assert => maps!(must must may),
+        Kind::Braces => maps!(must),
+        Kind::Config => maps!(must),
+        Kind::ConfigPair => maps!(must must must),
+        Kind::Data => maps!(must must),
+        Kind::Definition => maps!(must must may),
+        Kind::Eof => maps!(must),
+        Kind::Error => maps!(must),
+        Kind::Expression => maps!(must),
+        Kind::If => maps!(must must must may may),
+        Kind::Import => maps!(must must must must may),
+        Kind::File => maps!(must must),
+        Kind::Instruction => maps!(must may),
+        Kind::Label => maps!(must must may),
+        Kind::Loop => maps!(must must must),
+        Kind::MacroDefinition => maps!(must must must must must must),
+        Kind::MacroInvocation => maps!(must must must must),
+        Kind::ProgramCounterDefinition => maps!(must must must),
+        Kind::Segment => maps!(must must may),
+        Kind::Test => maps!(must must must),
+        Kind::Text => maps!(must may must),
+        Kind::Trace => maps!(must may must may),
+        Kind::VariableDefinition => maps!(must must must must),
+        Kind::Vec => maps!(),
+        Kind::Leaf => maps!(),
+        Kind::PathItem => maps!(),
+        Kind::Block => maps!(must must must),
+        Kind::BinaryExpression => maps!(must must must),
+        Kind::Factor => maps!(must may may),
+        Kind::CurrentProgramCounter => maps!(must),
+        Kind::ExprParens => maps!(must must must),
+        Kind::FunctionCall => maps!(must must must must),
+        Kind::IdentifierValue => maps!(must may),
+        Kind::Number => maps!(must must),
+        Kind::StringFactor => maps!(must),
+        Kind::InterpolatedString => maps!(must must),
+        Kind::Operand => maps!(must may may must may),
+        Kind::RegisterSuffix => maps!(must must),
+        Kind::ImportAs => maps!(must must),
+        Kind::ImportAll => maps!(must may),
+        Kind::SpecificImportArg => maps!(must may),
+        Kind::ArgItem => maps!(must may),
     }
 }
 
