@@ -55,6 +55,7 @@ pub(crate) fn slot_class(slot: u64) -> Class
 }
 
 // The next part of a plan.
+#[inline(always)]
 pub fn next_part(plan: Plan) -> Option<(Class, Plan)>
     ensures { result ≡ next_part plan }
 {
