@@ -3,9 +3,9 @@ use Rattle.std.specs.Prelude.{Option, Result, Some, None, Ok, Err}
 use Rattle.tree.specs.declared.parts.Head.{Head}
 use Rattle.answers.specs.Numbers.{Checked}
 use mathlib.Core.Path.{◌≡◌, refl, sym, ap, ◌∙◌}
-use mathlib.Core.List.{List, ◌∷◌}
+use mathlib.Core.List.{List, [], ◌∷◌}
 use mathlib.Core.Bool.{true, false, ◌||◌}
-use Prim.Native.Nat.{ℕ, suc, ◌+◌, ◌-◌, ◌%◌, ◌≤◌, ◌<◌}
+use Prim.Native.Nat.{ℕ, zero, suc, ◌+◌, ◌-◌, ◌%◌, ◌≤◌, ◌<◌}
 use native.Mathlib.Omega.{arith}
 use lib.Dec.{eqb}
 use lib.ListN.{length, get_or}
@@ -29,6 +29,8 @@ use Rattle.tree.proofs.OwnBytes.{item_held, own_cases, own_fits}
 use Rattle.tree.proofs.KindNumbers.{none_at}
 use Rattle.tree.specs.Grammar.{kind_of}
 use Rattle.tree.specs.Walk.{first_field}
+use Rattle.tree.specs.Parts.{spans_on, spans_at}
+use native.Mathlib.Numerals.{sub-one}
 use Rattle.tree.specs.declared.grammar.Kind.TheVariants.{Braces, Config, Expression, Data, BinaryExpression}
 use mathlib.Core.Logic.{◌⊎◌, ⊎_elim}
 use Rattle.tree.proofs.Records.{level_left}
@@ -167,3 +169,17 @@ module _ (levels : ℕ) (bytes : List ℕ) (class : Class) (at : ℕ) (own : Own
         sym
         (head_there
         ∙ rw (other 2 Braces refl, other 3 Config refl, other 9 Expression refl, other 5 Data refl, other 28 BinaryExpression refl))
+
+-- ---- trivia items in a row
+
+-- none is left
+pub spans_none : (bytes : List ℕ) (at left : ℕ) → left ≡ 0 → spans_at bytes at left ≡ []
+unfolding spans_at
+spans_none bytes at left none = rw none
+
+-- the first by what it reads as, and then the others
+pub spans_next : (bytes : List ℕ) (at left : ℕ) → (left ≡ 0 → ⊥) → (found : Option TriviumSpan) → trivium_at bytes at ≡ found
+    → spans_at bytes at left ≡ spans_on (λ place. spans_at bytes place (left - 1)) found
+unfolding spans_at
+spans_next bytes at zero some found is = absurd (some refl)
+spans_next bytes at (suc left) some found is = rw (sub-one, is)

@@ -1,7 +1,9 @@
 // What the walk over a tree reads beside the records' own bytes: the place behind a record, a trivia item, and a token's head.
 ghost use Rattle.std.specs.Prelude.{◌≡◌, ℕ, ◌<◌, get_or, Some, Ok};
+ghost use Rattle.std.specs.Iterator.{YieldsFirst, item_count};
 ghost use Rattle.tree.specs.Grammar.{kind_of, rule, fields};
-ghost use Rattle.tree.specs.Parts.{skipped, trivium_at, first_class, second_field, field_head, inner_head};
+ghost use Rattle.tree.specs.Parts.{trivium_at, spans_at, trivia_left};
+ghost use Rattle.tree.specs.Parts.{skipped, first_class, second_field, field_head, inner_head};
 ghost use Rattle.tree.specs.Parts.{head_on, head_behind, head_at};
 ghost use Rattle.tree.specs.Walk.{first_field};
 ghost use Rattle.tree.specs.Parts.{refused_skip, refused_head, numbers_skipped, read_numbers};
@@ -55,6 +57,47 @@ pub fn trivium_at(tree: &[u8], at: usize) -> Option<TriviumSpan>
     let code = tree[at];
     let start = if code == codes::NEWLINE { end } else { at + 3 };
     Some(TriviumSpan { code, start, end })
+}
+
+// Trivia items as the walk reads them: so many from a place on, up to one that breaks the layout.
+#[derive(Clone, Copy, Debug, PartialEq, Eq)]
+pub struct Trivia<'a> {
+    tree: &'a [u8],
+    at: usize,
+    left: usize,
+}
+
+impl<'a> Trivia<'a> {
+    pub fn new(tree: &'a [u8], at: usize, count: usize) -> Self
+        ensures { trivia_left result ≡ spans_at tree.entry.now at count }
+    {
+        Trivia {
+            tree,
+            at,
+            left: count,
+        }
+    }
+}
+
+impl<'a> Iterator for Trivia<'a> {
+    type Item = TriviumSpan;
+
+    ghost next_gives = { YieldsFirst trivia_left };
+
+    ghost remaining = { item_count trivia_left };
+
+    fn next(&mut self) -> Option<TriviumSpan> {
+        if self.left == 0 {
+            return None;
+        }
+        let Some(item) = trivium_at(self.tree, self.at) else {
+            self.left = 0;
+            return None;
+        };
+        self.at = item.end;
+        self.left -= 1;
+        Some(item)
+    }
 }
 
 // The class of a record's first field.
