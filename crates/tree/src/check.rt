@@ -99,15 +99,14 @@ fn fault_in(tree: &[u8], start: usize, end: usize, fault: usize) -> usize
     fault
 }
 
-// The same for the bytes of one trivia item and then for the items behind it.
+// The same for the bytes of one trivia item and then for the items behind it, which keep the layout and are not judged again.
 fn fault_in_trivia(tree: &[u8], at: usize, count: usize, fault: usize) -> usize
     requires { (end : ℕ) × (trivia_end tree.now at count ≡ Some end) }
     ensures { result ≡ fault_from tree.now fault (trivia_texts tree.now at count) }
 {
     let mut place = at;
-    let mut left = count;
     let mut found = fault;
-    while 0 < left {
+    for _ in 0..count {
         if tree[place] == codes::NEWLINE {
             place += 1;
         } else {
@@ -116,7 +115,6 @@ fn fault_in_trivia(tree: &[u8], at: usize, count: usize, fault: usize) -> usize
             found = fault_in(tree, start, start + length, found);
             place = start + length;
         }
-        left -= 1;
     }
     found
 }
