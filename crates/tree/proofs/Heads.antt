@@ -3,9 +3,9 @@ use Rattle.std.specs.Prelude.{Option, Result, Some, None, Ok, Err}
 use Rattle.tree.specs.declared.parts.Head.{Head}
 use Rattle.answers.specs.Numbers.{Checked}
 use mathlib.Core.Path.{◌≡◌, refl, sym, ap, ◌∙◌}
-use mathlib.Core.List.{List, ◌∷◌}
+use mathlib.Core.List.{List, [], ◌∷◌}
 use mathlib.Core.Bool.{true, false, ◌||◌}
-use Prim.Native.Nat.{ℕ, suc, ◌+◌, ◌-◌, ◌%◌, ◌≤◌, ◌<◌}
+use Prim.Native.Nat.{ℕ, zero, suc, ◌+◌, ◌-◌, ◌%◌, ◌≤◌, ◌<◌}
 use native.Mathlib.Omega.{arith}
 use lib.Dec.{eqb}
 use lib.ListN.{length, get_or}
@@ -25,7 +25,14 @@ use Rattle.tree.specs.declared.grammar.Class.TheVariants.{BareExpression, BlockR
 use Rattle.tree.specs.declared.own.Own.{Own}
 use Rattle.tree.specs.declared.parts.TriviumSpan.{TriviumSpan}
 use Rattle.tree.proofs.Rows.{row_first, row_none}
-use Rattle.tree.proofs.OwnBytes.{item_held, own_fits}
+use Rattle.tree.proofs.OwnBytes.{item_held, own_cases, own_fits}
+use Rattle.tree.proofs.KindNumbers.{none_at}
+use Rattle.tree.specs.Grammar.{kind_of}
+use Rattle.tree.specs.Walk.{first_field}
+use Rattle.tree.specs.Parts.{spans_on, spans_at}
+use native.Mathlib.Numerals.{sub-one}
+use Rattle.tree.specs.declared.grammar.Kind.TheVariants.{Braces, Config, Expression, Data, BinaryExpression}
+use mathlib.Core.Logic.{◌⊎◌, ⊎_elim}
 use Rattle.tree.proofs.Records.{level_left}
 
 -- ---- the place behind a record
@@ -49,26 +56,6 @@ skip_read levels bytes class at fault read_record found same is =
     ap skipped_of (sym is ∙ same) ∙ skip_on bytes fault reading.end reading.texts reading.checked
 
 -- ---- a trivia item
-
--- an item that breaks the layout
-pub item_broken : (bytes : List ℕ) (at : ℕ) (span : Option ℕ) → span ≡ trivium_end bytes at → span ≡ None → None ≡ trivium_at bytes at
-unfolding trivium_at
-item_broken bytes at span same is = ap (trivium_on bytes at) (sym is ∙ same)
-
-module _ (bytes : List ℕ) (at : ℕ) (span : Option ℕ) (same : span ≡ trivium_end bytes at) (end : ℕ) (is : span ≡ Some end) where
-  -- an item that keeps it has a first byte
-  pub item_inside : at + 1 ≤ length bytes
-  item_inside = let held = (item_held bytes at end (sym same ∙ is)).0 in omega arith
-
-  -- a newline
-  pub item_newline : get_or bytes at 0 ≡ 1 → Some (record { code = get_or bytes at 0; start = end; end = end }) ≡ trivium_at bytes at
-  unfolding trivium_at
-  item_newline newline = sym (ap (trivium_on bytes at) (sym same ∙ is) ∙ simp (eq-eqb _ _ newline))
-
-  -- an item with a text
-  pub item_text : (get_or bytes at 0 ≡ 1 → ⊥) → Some (record { code = get_or bytes at 0; start = at + 3; end = end }) ≡ trivium_at bytes at
-  unfolding trivium_at
-  item_text other = sym (ap (trivium_on bytes at) (sym same ∙ is) ∙ simp (ne_eqb _ _ other))
 
 -- an item that was read: its code, its text, which lies within the bytes, and the place behind it
 pub record ItemRead (bytes : List ℕ) (at : ℕ) (item : TriviumSpan) : Type 0 where
@@ -137,21 +124,10 @@ pub own_inside : (bytes : List ℕ) (at : ℕ) (read-own : Result Own Refusal) (
 own_inside bytes at read-own own fits is = let held : OwnFits bytes at own = rw is at fits in omega (arith, held.behind, held.part, held.inside)
 
 module _ (levels : ℕ) (bytes : List ℕ) (class : Class) (at : ℕ) (read-own : Result Own Refusal) (same : read-own ≡ read_own bytes at class levels) where
-  -- the own bytes of a record within a token are refused
-  pub inner_refused : (refusal : Refusal) → read-own ≡ Err refusal → Err refusal ≡ inner_head levels bytes class at
-  unfolding inner_head
-  inner_refused refusal is = ap (inner_on levels bytes class at) (sym is ∙ same)
-
-  -- those of a token
+  -- the own bytes of a token are refused
   pub head_refused : (refusal : Refusal) → read-own ≡ Err refusal → Err refusal ≡ head_at levels bytes class at
   unfolding head_at
   head_refused refusal is = ap (head_on levels bytes class at) (sym is ∙ same)
-
-  -- a record within a token that was read
-  pub inner_field : (own : Own) → read-own ≡ Ok own → (number : ℕ) → number ≡ get_or bytes at 0 → (found : Result Head Refusal)
-      → found ≡ field_head levels bytes class number own → found ≡ inner_head levels bytes class at
-  unfolding inner_head
-  inner_field own is number first found e = e ∙ rw first (ap (inner_on levels bytes class at) (sym is ∙ same))
 
   -- behind the own bytes of a token that were read stands its head
   pub head_behind_read : (own : Own) → read-own ≡ Ok own → head_behind levels bytes class at own ≡ head_at levels bytes class at
@@ -163,33 +139,47 @@ module _ (levels : ℕ) (bytes : List ℕ) (class : Class) (at : ℕ) (read-own 
       simp (ne_eqb levels 0 (λ none. omega (arith, level, none)), lt-leb (length bytes) at (omega (arith, held.behind, held.part, held.inside))) in
       here ∙ ap (head_on levels bytes class at) (sym is ∙ same)
 
--- ---- behind own bytes, by the number of the kind
+-- ---- behind own bytes, whatever they are
 
--- none where no level is left
-pub head_low : (levels : ℕ) (bytes : List ℕ) (class : Class) (at : ℕ) (own : Own) → levels ≡ 0 → Err (layout at) ≡ head_behind levels bytes class at own
-unfolding head_behind
-head_low levels bytes class at own none = sym (simp (eq-eqb _ _ none))
+-- own bytes that were read have the kind of their first byte
+pub kind_read : (bytes : List ℕ) (at : ℕ) (class : Class) (levels : ℕ) (own : Own) → read_own bytes at class levels ≡ Ok own → kind_of (get_or bytes at 0) ≡ Some own.kind
+kind_read bytes at class =
+    own_cases bytes at class (λ own. kind_of (get_or bytes at 0) ≡ Some own.kind)
+    (λ kind trivia headed number room. headed.kind_is)
+    (λ kind trivia end headed leaf stands text. headed.kind_is)
+    (λ kind trivia headed list leaf. headed.kind_is)
 
-module _ (levels : ℕ) (bytes : List ℕ) (class : Class) (at : ℕ) (own : Own) (some : levels ≡ 0 → ⊥) where
-  -- or at the end
-  pub head_past : length bytes ≤ at → Err (layout at) ≡ head_behind levels bytes class at own
+module _ (levels : ℕ) (bytes : List ℕ) (class : Class) (at : ℕ) (own : Own) where
+  -- no head, where no level is left or no byte
+  pub head_none : (levels ≡ 0) ⊎ ((levels ≡ 0 → ⊥) × (length bytes ≤ at)) → Err (layout at) ≡ head_behind levels bytes class at own
   unfolding head_behind
-  head_past past = sym (simp (ne_eqb _ _ some, le-leb _ _ past))
+  head_none = ⊎_elim (λ low. rw (eq-eqb _ _ low)) (λ past. rw (ne_eqb _ _ past.0, le-leb _ _ past.1))
 
-  module _ (inside : at < length bytes) (number : ℕ) (first : number ≡ get_or bytes at 0) (found : Result Head Refusal) where
-    head_here : head_behind levels bytes class at own ≡ head_on levels bytes class at (Ok own)
+  module _ (some : levels ≡ 0 → ⊥) (inside : at < length bytes) where
+    -- else what stands there is that of a token
+    pub head_there : head_behind levels bytes class at own ≡ head_on levels bytes class at (Ok own)
     unfolding head_behind
-    head_here = simp (ne_eqb _ _ some, lt-leb _ _ inside)
+    head_there = simp (ne_eqb _ _ some, lt-leb _ _ inside)
 
-    -- of a block
-    pub head_block : (eqb number 2 || eqb number 3) ≡ true → found ≡ inner_head (levels - 1) bytes BlockRecord own.end → found ≡ head_behind levels bytes class at own
-    head_block block e = e ∙ sym (head_here ∙ simp (← first, block))
+    -- of a byte of no kind the first field
+    pub head_unknown : kind_of (get_or bytes at 0) ≡ None → Ok (first_field levels class own) ≡ head_behind levels bytes class at own
+    unfolding field_head
+    head_unknown none =
+        let other = none_at (get_or bytes at 0) none in
+        sym
+        (head_there
+        ∙ rw (other 2 Braces refl, other 3 Config refl, other 9 Expression refl, other 5 Data refl, other 28 BinaryExpression refl))
 
-    -- of an expression
-    pub head_expression : (eqb number 2 || eqb number 3) ≡ false → number ≡ 9 → found ≡ inner_head (levels - 1) bytes BareExpression own.end
-        → found ≡ head_behind levels bytes class at own
-    head_expression block expression e = e ∙ sym (head_here ∙ simp (← first, block, eq-eqb _ _ expression))
+-- ---- trivia items in a row
 
-    -- of any other
-    pub head_field : (eqb number 2 || eqb number 3) ≡ false → (number ≡ 9 → ⊥) → found ≡ field_head levels bytes class number own → found ≡ head_behind levels bytes class at own
-    head_field block expression e = e ∙ sym (head_here ∙ simp (← first, block, ne_eqb _ _ expression))
+-- none is left
+pub spans_none : (bytes : List ℕ) (at left : ℕ) → left ≡ 0 → spans_at bytes at left ≡ []
+unfolding spans_at
+spans_none bytes at left none = rw none
+
+-- the first by what it reads as, and then the others
+pub spans_next : (bytes : List ℕ) (at left : ℕ) → (left ≡ 0 → ⊥) → (found : Option TriviumSpan) → trivium_at bytes at ≡ found
+    → spans_at bytes at left ≡ spans_on (λ place. spans_at bytes place (left - 1)) found
+unfolding spans_at
+spans_next bytes at zero some found is = absurd (some refl)
+spans_next bytes at (suc left) some found is = rw (sub-one, is)

@@ -3,6 +3,7 @@ pub mod Places
 pub mod OwnBytes
 pub mod Readings
 pub mod KindLayout
+pub mod KindNumbers
 pub mod RoundTrip
 pub mod Whole
 pub mod Limits

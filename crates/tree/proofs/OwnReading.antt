@@ -1,5 +1,7 @@
 -- A record's own bytes, by the way that the definition goes.
 use Rattle.std.specs.Prelude.{Option, Result, Some, None, Ok, Err}
+use Rattle.std.specs.Bool.{then_some}
+use Rattle.std.specs.Option.{ok_or}
 use Rattle.answers.specs.declared.Refusal.{Refusal}
 use Rattle.tree.specs.declared.own.Own.{Own}
 use mathlib.Core.Path.{◌≡◌, refl, sym, ap, ◌∙◌}
@@ -16,7 +18,10 @@ use Rattle.tree.specs.Grammar.{kind_of, rule}
 use Rattle.tree.specs.Own.{may_stand, text_fits, map_fits, trivia_read, text_of_count, text_end, layout, own_of, leaf_on, list_on, rest_of, trivia_of_record, map_of_record}
 use Rattle.tree.specs.Own.{own_at, read_own, Fits}
 use Rattle.tree.specs.declared.grammar.Kind.{Kind}
-use Rattle.tree.specs.declared.grammar.Kind.TheVariants.{Leaf}
+use Rattle.tree.specs.declared.grammar.Kind.TheVariants.{Vec, Leaf, PathItem}
+use Rattle.text.proofs.Choices.{by_test}
+use Rattle.tree.proofs.KindNumbers.{is_kind, no_kind, texted, untexted}
+use mathlib.Core.Logic.{◌⊎◌}
 use Rattle.tree.specs.declared.grammar.Class.{Class}
 use Rattle.tree.specs.declared.grammar.TextRule.{TextRule}
 use Rattle.tree.specs.declared.grammar.TextRule.TheVariants.{NoText, Free, Byte}
@@ -29,84 +34,79 @@ use Rattle.tree.proofs.OwnBytes.{own_fits}
 
 -- ---- behind the trivia
 
-module _ (bytes : List ℕ) (at : ℕ) (text : TextRule) (number : ℕ) (kind : Kind) (map : ℕ) (trivia : TriviaSpan) where
+module _ (bytes : List ℕ) (at : ℕ) (text : TextRule) (kind : Kind) (map : ℕ) (trivia : TriviaSpan) (number : ℕ) (known : kind_of number ≡ Some kind) where
   -- a list, by what its count reads as
-  pub rest_list : number ≡ 24 → {result : Option ℕ} → result ≡ read_number bytes trivia.end → (read : Option ℕ) → result ≡ read
+  pub rest_list : kind ≡ Vec → (read : Option ℕ) → read_number bytes trivia.end ≡ read
       → list_on at kind map trivia read ≡ rest_of bytes at text number kind map trivia
   unfolding rest_of
-  rest_list h e read told = sym (rw (eq-eqb _ _ h) (ap (list_on at kind map trivia) (sym e ∙ told)))
+  rest_list is read told = sym (rw (is_kind number kind known 24 Vec refl is) (ap (list_on at kind map trivia) told))
 
-  module _ (h : number ≡ 24 → ⊥) {texted : Bool} (e : texted ≡ ((eqb number 25 || eqb number 26) && leb 2 map)) where
-    -- a leaf with a text
-    pub rest_leaf : texted ≡ true → {result : Option ℕ} → result ≡ text_end bytes trivia.end text → (span : Option ℕ) → result ≡ span
+  -- a leaf of either kind: with a text, or without
+  module _ (leaf : (kind ≡ Leaf) ⊎ (kind ≡ PathItem)) where
+    pub rest_leaf : 2 ≤ map → (span : Option ℕ) → text_end bytes trivia.end text ≡ span
         → leaf_on at kind map trivia span ≡ rest_of bytes at text number kind map trivia
     unfolding rest_of
-    rest_leaf t d span told = sym (rw (ne_eqb _ _ h, sym e ∙ t) (ap (leaf_on at kind map trivia) (sym d ∙ told)))
+    rest_leaf h span told =
+        let those = texted number kind known leaf in sym (rw (those.0, those.1, le-leb 2 map h) (ap (leaf_on at kind map trivia) told))
 
-    -- nothing more
-    pub rest_none : texted ≡ false → Ok (own_of kind map trivia trivia.end trivia.end 0) ≡ rest_of bytes at text number kind map trivia
+    pub rest_bare : map < 2 → Ok (own_of kind map trivia trivia.end trivia.end 0) ≡ rest_of bytes at text number kind map trivia
     unfolding rest_of
-    rest_none t = sym (rw (ne_eqb _ _ h, sym e ∙ t))
+    rest_bare h = let those = texted number kind known leaf in sym (rw (those.0, those.1, lt-leb 2 map h))
+
+  -- any other kind
+  pub rest_none : (kind ≡ Vec → ⊥) → (kind ≡ Leaf → ⊥) → (kind ≡ PathItem → ⊥)
+      → Ok (own_of kind map trivia trivia.end trivia.end 0) ≡ rest_of bytes at text number kind map trivia
+  unfolding rest_of
+  rest_none list leaf path = sym (rw (no_kind number kind known 24 Vec refl list, untexted number kind known leaf path))
 
 -- ---- a record's first two bytes
 
-module _ (bytes : List ℕ) (at : ℕ) (ruled : Rule) (number : ℕ) {stands : Bool} (may : stands ≡ may_stand ruled number) where
-  -- by whether the kind may stand
-  first_of_lem : first_bytes bytes at ruled number ≡ cond stands (map_of_record bytes at ruled number (kind_of number)) (Err (layout at))
+module _ (bytes : List ℕ) (at : ℕ) (ruled : Rule) (number : ℕ) where
+  -- they are of no kind
+  pub first_unknown : kind_of number ≡ None → Err (layout at) ≡ first_bytes bytes at ruled number
   unfolding first_bytes
-  first_of_lem = sym (rw may)
+  first_unknown none = by_test (may_stand ruled number) (λ t. rw (t, none)) (λ t. rw t)
 
-  -- it may not
-  pub first_alien : not stands ≡ true → Err (layout at) ≡ first_bytes bytes at ruled number
-  first_alien t = sym (first_of_lem ∙ rw (not-true stands t))
+  -- of one that may not stand
+  pub first_alien : may_stand ruled number ≡ false → Err (layout at) ≡ first_bytes bytes at ruled number
+  unfolding first_bytes
+  first_alien t = rw t
 
-  module _ (t : not stands ≡ false) {result : Option Kind} (kinds : result ≡ kind_of number) where
-    -- by the kind
-    first_map : (read : Option Kind) → result ≡ read → first_bytes bytes at ruled number ≡ map_of_record bytes at ruled number read
-    first_map read told = first_of_lem ∙ rw (not-false stands t) (ap (map_of_record bytes at ruled number) (sym kinds ∙ told))
+  -- of one that may
+  module _ (kind : Kind) (known : kind_of number ≡ Some kind) (stands : may_stand ruled number ≡ true) where
+    -- the map is missing
+    pub first_short : length bytes < at + 2 → Err (layout at) ≡ first_bytes bytes at ruled number
+    unfolding first_bytes
+    first_short h = rw (stands, known, lt-ltb (length bytes) (at + 2) h)
 
-    -- it is no kind
-    pub first_unknown : result ≡ None → Err (layout at) ≡ first_bytes bytes at ruled number
-    first_unknown told = sym (first_map None told)
-
-    module _ (kind : Kind) (told : result ≡ Some kind) where
-      -- the map is missing
-      pub first_short : length bytes < at + 2 → Err (layout at) ≡ first_bytes bytes at ruled number
-      first_short h = sym (first_map (Some kind) told ∙ rw (lt-ltb (length bytes) (at + 2) h))
-
-      module _ (h : at + 2 ≤ length bytes) {map : ℕ} (mapped : map ≡ get_or bytes (at + 1) 0) {fits : Bool} (fit : fits ≡ map_fits ruled number kind map) where
-        -- by whether the map fits
-        first_fit : first_bytes bytes at ruled number
-            ≡ cond fits (trivia_of_record bytes at ruled number kind map (trivia_read bytes (at + 2) (map % 2))) (Err (layout at))
-        first_fit = first_map (Some kind) told ∙ rw (le-ltb (length bytes) (at + 2) h) (sym (rw (fit, mapped)))
-
-        -- it does not
-        pub first_unfit : not fits ≡ true → Err (layout at) ≡ first_bytes bytes at ruled number
-        first_unfit u = sym (first_fit ∙ rw (not-true fits u))
-
-        -- it does
-        pub first_fits : not fits ≡ false → judged_on bytes at ruled number (Some (kind, map)) ≡ first_bytes bytes at ruled number
-        first_fits u = sym (first_fit ∙ rw (not-false fits u))
+    -- it fits or not
+    pub first_fits : at + 2 ≤ length bytes → judged_on bytes at ruled number (then_some (map_fits ruled number kind (get_or bytes (at + 1) 0)) (kind, get_or bytes (at + 1) 0))
+        ≡ first_bytes bytes at ruled number
+    unfolding first_bytes
+    first_fits h = rw (stands, known, le-ltb (length bytes) (at + 2) h)
+        (by_test (map_fits ruled number kind (get_or bytes (at + 1) 0)) (λ t. rw t) (λ t. rw t))
 
 -- ---- a record that has a first byte
 
-module _ (bytes : List ℕ) (at : ℕ) (class : Class) {number : ℕ} (byte : number ≡ get_or bytes at 0) {ruled : Rule} (rules : ruled ≡ rule class)
-    {result : Option (Kind × ℕ)} (judged : judged_on bytes at ruled number result ≡ first_bytes bytes at ruled number) where
+module _ (bytes : List ℕ) (at : ℕ) (class : Class) {ruled : Rule} (rules : ruled ≡ rule class)
+    {result : Option (Kind × ℕ)} (judged : judged_on bytes at ruled (get_or bytes at 0) result ≡ first_bytes bytes at ruled (get_or bytes at 0)) where
   -- by what its first two bytes say
-  pub own_judged : (told : Option (Kind × ℕ)) → result ≡ told → judged_on bytes at ruled number told ≡ own_at bytes at class
+  pub own_judged : (told : Option (Kind × ℕ)) → result ≡ told → judged_on bytes at ruled (get_or bytes at 0) told ≡ own_at bytes at class
   unfolding own_at first_bytes
-  own_judged told e = ap (judged_on bytes at ruled number) (sym e) ∙ judged ∙ rw (rules, byte)
+  own_judged told e = ap (judged_on bytes at ruled (get_or bytes at 0)) (sym e) ∙ judged ∙ rw rules
 
   module _ (kind : Kind) (map : ℕ) (told : result ≡ Some (kind, map)) {found : Option TriviaSpan} (e : found ≡ trivia_read bytes (at + 2) (map % 2)) where
     -- by its trivia
-    pub own_trivia_lem : (trivia : Option TriviaSpan) → found ≡ trivia → trivia_of_record bytes at ruled number kind map trivia ≡ own_at bytes at class
-    own_trivia_lem trivia read = ap (trivia_of_record bytes at ruled number kind map) (sym read ∙ e) ∙ own_judged (Some (kind, map)) told
+    pub own_trivia_lem : (trivia : Option TriviaSpan) → found ≡ trivia
+        → trivia_of_record bytes at ruled (get_or bytes at 0) kind map trivia ≡ own_at bytes at class
+    own_trivia_lem trivia read =
+        ap (trivia_of_record bytes at ruled (get_or bytes at 0) kind map) (sym read ∙ e) ∙ own_judged (Some (kind, map)) told
 
     -- by what stands behind them
     pub own_rest : (trivia : TriviaSpan) → found ≡ Some trivia → {rest : Option Rest}
-        → ((at : ℕ) (kind : Kind) → rest_on at kind map trivia rest ≡ rest_of bytes at ruled.text number kind map trivia)
+        → rest_on at kind map trivia rest ≡ rest_of bytes at ruled.text (get_or bytes at 0) kind map trivia
         → (is : Option Rest) → rest ≡ is → rest_on at kind map trivia is ≡ own_at bytes at class
-    own_rest trivia read same is behind = ap (rest_on at kind map trivia) (sym behind) ∙ same at kind ∙ own_trivia_lem (Some trivia) read
+    own_rest trivia read same is behind = ap (rest_on at kind map trivia) (sym behind) ∙ same ∙ own_trivia_lem (Some trivia) read
 
 -- ---- a leaf with a text and no trivia
 
@@ -123,40 +123,34 @@ unfolding text_end map_fits
 bare_fits bytes at end ruled e = sym (text_stands bytes (at + 2) end ruled.text (read_number bytes (at + 2)) e)
 
 -- and its text ends its own bytes
-pub own_bare : (bytes : List ℕ) (at : ℕ) (class : Class) {ruled : Rule} → ruled ≡ rule class → {stands : Bool} → stands ≡ may_stand ruled 25 → not stands ≡ false
+pub own_bare : (bytes : List ℕ) (at : ℕ) (class : Class) {ruled : Rule} → ruled ≡ rule class → may_stand ruled 25 ≡ true
     → at + 2 ≤ length bytes → get_or bytes at 0 ≡ 25 → get_or bytes (at + 1) 0 ≡ 2
-    → {span : Option ℕ} → span ≡ text_end bytes (at + 2) ruled.text → (end : ℕ) → span ≡ Some end → own_at bytes at class ≡ Ok (bare_leaf at end)
-unfolding rest_of trivia_read
-own_bare bytes at class {ruled} rules may t room kind map text end is =
-    let ends : text_end bytes (at + 2) ruled.text ≡ Some end = sym text ∙ is in
-    let first = first_fits bytes at ruled 25 may t refl Leaf refl room (sym map) (bare_fits bytes at end ruled ends) refl in
+    → (end : ℕ) → text_end bytes (at + 2) ruled.text ≡ Some end → own_at bytes at class ≡ Ok (bare_leaf at end)
+unfolding rest_of trivia_read own_at
+own_bare bytes at class {ruled} rules stands room kind map end ends =
     let start : at + 4 ≡ at + 2 + 2 = omega arith in
-    rw start
-    (sym (own_judged bytes at class (sym kind) rules first (Some (Leaf, 2)) refl)
-    ∙ ap (leaf_on at Leaf 2 (record { first = at + 2; count = 0; end = at + 2 })) ends)
+    rw (
+      start,
+      ← rules,
+      kind,
+      stands,
+      le-ltb (length bytes) (at + 2) room,
+      map,
+      sym (bare_fits bytes at end ruled ends),
+    )
+    (ap (leaf_on at Leaf 2 (record { first = at + 2; count = 0; end = at + 2 })) ends)
 
 -- ---- a record
 
-module _ (bytes : List ℕ) (at : ℕ) (class : Class) (levels : ℕ) where
-  -- it is due at the end
-  pub read_end : length bytes ≤ at → Err (layout (length bytes)) ≡ read_own bytes at class levels
-  unfolding read_own
-  read_end h = sym (rw (le-leb _ _ h))
-
-  -- it stands too deep
-  pub read_deep : at < length bytes → levels ≡ 0 → Err (record { reason = TreeDepth; place = at }) ≡ read_own bytes at class levels
-  unfolding read_own
-  read_deep h e = sym (rw (lt-leb _ _ h, eq-eqb _ _ e))
-
-  -- it has a first byte
-  read_first : at < length bytes → (levels ≡ 0 → ⊥) → own_at bytes at class ≡ read_own bytes at class levels
-  unfolding read_own
-  read_first h e = sym (rw (lt-leb _ _ h, ne_eqb _ _ e))
-
-  -- by what was found of it
-  pub read_found : at < length bytes → (levels ≡ 0 → ⊥) → {found : Option Own} → found_on at found ≡ own_at bytes at class
-      → (told : Option Own) → found ≡ told → found_on at told ≡ read_own bytes at class levels
-  read_found h e same told is = ap (found_on at) (sym is) ∙ same ∙ read_first h e
+-- what was found of it is what is read
+pub read_found : (bytes : List ℕ) (at : ℕ) (class : Class) (levels : ℕ) → at < length bytes → (levels ≡ 0 → ⊥) → (found : Option Own) → found_on at found ≡ own_at bytes at class
+    → ok_or found (layout at) ≡ read_own bytes at class levels
+unfolding read_own
+read_found bytes at class levels h e found same = rw (lt-leb _ _ h, ne_eqb _ _ e) (ok_found found ∙ same)
+  where
+    ok_found : (found : Option Own) → ok_or found (layout at) ≡ found_on at found
+    ok_found (Some own) = refl
+    ok_found None = refl
 
 -- what was read fits
 pub read_fits : (bytes : List ℕ) (at : ℕ) (class : Class) (levels : ℕ) (result : Result Own Refusal) → result ≡ read_own bytes at class levels → Fits bytes at result

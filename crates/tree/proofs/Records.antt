@@ -89,9 +89,9 @@ module _ (levels : ℕ) (bytes : List ℕ) (class : Class) (at : ℕ) (read-own 
 
 -- a record of which no part stands is read
 pub walk_none : (walker : Walker) (class : Class) (own : Own) (place fault : ℕ) {has : Bool} → (has ≡ false → ((class : Class) → standing (parts_due class own) ≡ []))
-    → not has ≡ true → Ok (place, fault) ≡ walked walker (standing (parts_due class own)) place fault
+    → has ≡ false → Ok (place, fault) ≡ walked walker (standing (parts_due class own)) place fault
 unfolding walked
-walk_none walker class own place fault {has} none t = sym (ap (λ (classes : List Class). walked walker classes place fault) (none (not-true has t) class))
+walk_none walker class own place fault none t = sym (ap (λ (classes : List Class). walked walker classes place fault) (none t class))
 
 -- ---- the loop over a record's parts
 

@@ -1,18 +1,24 @@
 -- The parts of a record's own bytes that say how long they are, by the way that the definitions go.
 use Rattle.std.specs.Prelude.{Option, Some, None}
+use Rattle.std.specs.Bool.{then_some}
 use mathlib.Core.Path.{◌≡◌, refl, sym, ap, ◌∙◌}
 use mathlib.Core.List.{List}
+use mathlib.Core.Bool.{Bool, true, false, cond}
 use Prim.Native.Nat.{ℕ, zero, suc, ◌+◌, ◌-◌, ◌≤◌, ◌<◌}
 use native.Mathlib.Omega.{arith}
 use native.Mathlib.Numerals.{sub-one}
-use borrow.Author.Tests.{lt-ltb, le-ltb, leb-true, eq-eqb, ne_eqb}
-use lib.Dec.{leb}
-use lib.ListN.{length}
+use borrow.Author.Tests.{lt-ltb, le-ltb, ltb-true, ltb-false, leb-true, eqb-true, eqb-false, eq-eqb, ne_eqb}
+use lib.Dec.{eqb, leb, ltb}
+use lib.ListN.{length, get_or, take, drop}
+use lib.Seq.{length-slice}
+use Rattle.std.proofs.lemmas.List.{get_or-take, get_or-drop}
 use Rattle.text.specs.Numbers.{read_number}
+use Rattle.text.proofs.Parts.{part_slice}
 use Rattle.text.proofs.Choices.{by_test}
 use Rattle.tree.specs.Own.{sized_on, sized_end, trivium_end, behind, trivia_end, trivia_span, trivia_on, trivia_read, text_on, text_of_count, text_end}
 use Rattle.tree.specs.declared.grammar.TextRule.{TextRule}
-use Rattle.tree.specs.declared.grammar.TextRule.TheVariants.{Free, Byte}
+use Rattle.tree.specs.declared.grammar.TextRule.TheVariants.{NoText, Free, Byte}
+use Rattle.tree.specs.Walk.{allows}
 
 module _ (bytes : List ℕ) (at : ℕ) {number : Option ℕ} (e : number ≡ read_number bytes at) where
   -- a number that was read stands within the bytes
@@ -20,69 +26,78 @@ module _ (bytes : List ℕ) (at : ℕ) {number : Option ℕ} (e : number ≡ rea
   read_inside count told =
       by_test (leb (at + 2) (length bytes)) (leb-true _ _) (λ t. let z : ◌≡◌ {A = ℕ} 0 1 = cc (rw t at (sym told ∙ e)) in omega arith)
 
-  -- a length and its bytes, by what the length reads as
-  sized_by_number : (read : Option ℕ) → number ≡ read → sized_end bytes at ≡ sized_on bytes at read
+-- ---- a text by the place behind it
+
+module _ (bytes : List ℕ) (at : ℕ) where
+  -- a text that stands is one of the rule's
+  abbrev pub text_to : TextRule → Option ℕ → Option ℕ
+  text_to rule None = None
+  text_to rule (Some end) = then_some (allows rule (take (end - (at + 2)) (drop (at + 2) bytes))) end
+
+  -- none of a choice between none and none
+  none_of : (test : Bool) → cond {A = Option ℕ} test None None ≡ None
+  none_of true = refl
+  none_of false = refl
+
+  -- a choice between a place and none
+  chosen : (test : Bool) (place end : ℕ) → place ≡ end → cond test (Some place) None ≡ then_some test end
+  chosen true place end is = rw is
+  chosen false place end is = refl
+
+  -- a text is as long as its length says
+  part_length : (count : ℕ) → at + 2 + count ≤ length bytes → length (take (at + 2 + count - (at + 2)) (drop (at + 2) bytes)) ≡ count
+  part_length count h =
+      rw (part_slice (at + 2) (at + 2 + count) bytes) (omega (arith, length-slice (at + 2) (at + 2 + count) bytes h))
+
+  -- a text whose bytes are not all there
+  past_end : (rule : TextRule) (count : ℕ) → length bytes < at + 2 + count → text_of_count bytes at rule (Some count) ≡ None
+  past_end NoText count h = none_of (eqb count 0)
+  past_end Free count h = rw (lt-ltb _ _ h) (none_of (eqb count 0))
+  past_end (Byte low high) count h = by_test (eqb count 1)
+      (λ one. rw (eqb-true count 1 one, le-ltb (at + 2) (length bytes) (let is = eqb-true count 1 one in omega arith)))
+      (λ one. rw one (none_of (eqb count 0)))
+
+  -- a text whose bytes are
+  whole_text : (rule : TextRule) (count : ℕ) → at + 2 + count ≤ length bytes
+      → text_of_count bytes at rule (Some count) ≡ text_to rule (Some (at + 2 + count))
+  whole_text NoText count h = none_of (eqb count 0)
+  whole_text Free count h = by_test (eqb count 0)
+      (λ z. rw (z, part_length count h, le-ltb 0 count (omega (arith, eqb-true count 0 z))))
+      (λ z. rw (z, le-ltb (length bytes) (at + 2 + count) h, part_length count h, lt-ltb 0 count (omega (arith, eqb-false count 0 z))))
+  whole_text (Byte low high) count h = by_test (eqb count 1)
+      (λ one.
+      let is : count ≡ 1 = eqb-true count 1 one in
+      let inside : at + 2 + 1 ≤ length bytes = omega arith in
+      let start : at + 2 + 0 ≡ at + 2 = omega arith in
+      let first : get_or (take (at + 2 + 1 - (at + 2)) (drop (at + 2) bytes)) 0 0 ≡ get_or bytes (at + 2) 0 =
+      get_or-take (at + 2 + 1 - (at + 2)) (drop (at + 2) bytes) 0 0 (omega arith) ∙ rw start at (get_or-drop (at + 2) bytes 0 0) in
+      rw (is, lt-ltb (at + 2) (length bytes) (omega arith), part_length 1 inside, first) (chosen _ _ _ (omega arith)))
+      (λ one. rw (part_length count h, one) (none_of (eqb count 0)))
+
+  -- by what the length reads as
+  text_over : (rule : TextRule) (read : Option ℕ) → text_of_count bytes at rule read ≡ text_to rule (sized_on bytes at read)
+  text_over rule None = refl
+  text_over rule (Some count) = by_test (ltb (length bytes) (at + 2 + count))
+      (λ t. rw t (past_end rule count (ltb-true _ _ t)))
+      (λ t. rw t (whole_text rule count (ltb-false _ _ t)))
+
+  -- what is a length and its bytes lies behind its place and within the bytes
+  pub sized_inside : (end : ℕ) → sized_end bytes at ≡ Some end → (at + 2 ≤ end) × (end ≤ length bytes)
   unfolding sized_end
-  sized_by_number read told = ap (sized_on bytes at) (sym e ∙ told)
+  sized_inside end e = inside (read_number bytes at) refl e
+    where
+      inside : (read : Option ℕ) → read_number bytes at ≡ read → sized_on bytes at read ≡ Some end → (at + 2 ≤ end) × (end ≤ length bytes)
+      inside None is e = let z : ◌≡◌ {A = ℕ} 0 1 = cc in absurd (omega arith)
+      inside (Some count) is e = by_test (ltb (length bytes) (at + 2 + count))
+          (λ t. let z : ◌≡◌ {A = ℕ} 0 1 = cc (rw t at e) in absurd (omega arith))
+          (λ t. let same : at + 2 + count ≡ end = cc (rw t at e) in let fits = ltb-false _ _ t in omega arith)
 
-  -- a length is missing
-  pub sized_missing : number ≡ None → None ≡ sized_end bytes at
-  sized_missing told = sym (sized_by_number None told)
+  -- a text is a length and its bytes that its rule allows
+  pub text_sized : (rule : TextRule) → text_end bytes at rule ≡ text_to rule (sized_end bytes at)
+  unfolding text_end sized_end
+  text_sized rule = text_over rule (read_number bytes at)
 
-  module _ (count : ℕ) (told : number ≡ Some count) where
-    -- fewer bytes are left than a length says
-    pub sized_short : length bytes - (at + 2) < count → None ≡ sized_end bytes at
-    sized_short h = let inside = read_inside count told in sym (sized_by_number (Some count) told ∙ rw (lt-ltb (length bytes) (at + 2 + count) (omega arith)))
-
-    -- as many are left
-    pub sized_whole : count ≤ length bytes - (at + 2) → Some (at + 2 + count) ≡ sized_end bytes at
-    sized_whole h = let inside = read_inside count told in sym (sized_by_number (Some count) told ∙ rw (le-ltb (length bytes) (at + 2 + count) (omega arith)))
-
-  module _ (rule : TextRule) where
-    -- a text, by what its length reads as
-    text_by_number : (read : Option ℕ) → number ≡ read → text_end bytes at rule ≡ text_of_count bytes at rule read
-    unfolding text_end
-    text_by_number read told = ap (text_of_count bytes at rule) (sym e ∙ told)
-
-    -- a text's length is missing
-    pub text_missing : number ≡ None → None ≡ text_end bytes at rule
-    text_missing told = sym (text_by_number None told)
-
-    -- it is 0
-    pub text_empty : (count : ℕ) → number ≡ Some count → count ≡ 0 → None ≡ text_end bytes at rule
-    text_empty count told h = sym (text_by_number (Some count) told ∙ rw (eq-eqb _ _ h))
-
-    -- it is not
-    pub text_some : (count : ℕ) → number ≡ Some count → (count ≡ 0 → ⊥) → text_end bytes at rule ≡ text_on bytes at rule count
-    text_some count told h = text_by_number (Some count) told ∙ rw (ne_eqb _ _ h)
-
-    -- a free text is a length and its bytes
-    pub text_free : (count : ℕ) → number ≡ Some count → (count ≡ 0 → ⊥) → rule ≡ Free → sized_end bytes at ≡ text_end bytes at rule
-    text_free count told h free = sized_by_number (Some count) told ∙ sym (text_some count told h ∙ ap (λ (other : TextRule). text_on bytes at other count) free)
-
-    -- a text of one byte of a range
-    pub text_byte : (count : ℕ) → number ≡ Some count → (count ≡ 0 → ⊥) → (low high : ℕ) → rule ≡ Byte low high
-        → text_end bytes at rule ≡ text_on bytes at (Byte low high) count
-    text_byte count told h low high byte = text_some count told h ∙ ap (λ (other : TextRule). text_on bytes at other count) byte
-
-  module _ (bit : ℕ) (stands : bit ≡ 0 → ⊥) where
-    -- trivia whose bit stands, by what their number reads as
-    trivia_by_number : (read : Option ℕ) → number ≡ read → trivia_read bytes at bit ≡ trivia_on bytes at read
-    unfolding trivia_read
-    trivia_by_number read told = rw (ne_eqb _ _ stands) (ap (trivia_on bytes at) (sym e ∙ told))
-
-    -- the number of trivia items is missing
-    pub trivia_missing : number ≡ None → None ≡ trivia_read bytes at bit
-    trivia_missing told = sym (trivia_by_number None told)
-
-    -- it is 0
-    pub trivia_empty : (count : ℕ) → number ≡ Some count → count ≡ 0 → None ≡ trivia_read bytes at bit
-    trivia_empty count told h = sym (trivia_by_number (Some count) told ∙ rw (eq-eqb _ _ h))
-
-    -- it is not
-    pub trivia_some : (count : ℕ) → number ≡ Some count → (count ≡ 0 → ⊥) → {items : Option ℕ} → items ≡ trivia_end bytes (at + 2) count → (span : Option ℕ) → items ≡ span
-        → trivia_span (at + 2) count span ≡ trivia_read bytes at bit
-    trivia_some count told h items span read = sym (trivia_by_number (Some count) told ∙ rw (ne_eqb _ _ h) (ap (trivia_span (at + 2) count) (sym items ∙ read)))
+-- ---- trivia
 
 -- no trivia item is left
 pub trivia_none : (bytes : List ℕ) (at left : ℕ) → left ≤ 0 → trivia_end bytes at left ≡ Some at

@@ -1,6 +1,6 @@
 -- What the walk over a tree reads beside the records' own bytes: the place behind a record, a trivia item, and a token's head.
 use Rattle.tree.specs.declared.parts.Head.{Head}
-use Rattle.std.specs.Prelude.{ℕ, ◌+◌, ◌-◌, List, [], ◌∷◌, cond, ◌||◌, length, get_or, eqb, leb, Option, Result, Some, None, Ok, Err}
+use Rattle.std.specs.Prelude.{ℕ, zero, suc, ◌+◌, ◌-◌, List, [], ◌∷◌, cond, ◌||◌, length, get_or, eqb, leb, Option, Result, Some, None, Ok, Err}
 use Rattle.answers.specs.Numbers.{numbers_of, numbers_checked, unless_refused, Checked}
 use Rattle.answers.specs.declared.Refusal.{Refusal}
 use Rattle.tree.specs.Kinds as kinds
@@ -11,6 +11,7 @@ use Rattle.tree.specs.Reading.{slot_class, read}
 use Rattle.tree.specs.declared.grammar.Class.{Class}
 use Rattle.tree.specs.declared.grammar.Class.TheVariants.{DataSize, BinaryOp, LocatedExpression, BareExpression, BlockRecord, ExpressionArguments}
 use Rattle.tree.specs.declared.own.Own.{Own}
+use Rattle.tree.specs.declared.parts.Trivia.{Trivia}
 use Rattle.tree.specs.declared.parts.TriviumSpan.{TriviumSpan}
 
 -- ---- the place behind a record
@@ -41,6 +42,19 @@ trivium_on bytes at None = None
 -- "each a code (.. 1 newline ..) and, but for newline, a two-byte length and bytes"
 unfoldable pub trivium_at : List ℕ → ℕ → Option TriviumSpan
 trivium_at bytes at = trivium_on bytes at (trivium_end bytes at)
+
+-- items as the walk reads them: so many from a place on, up to one that breaks the layout
+abbrev pub spans_on : (ℕ → List TriviumSpan) → Option TriviumSpan → List TriviumSpan
+spans_on next (Some item) = item ∷ next item.end
+spans_on next None = []
+
+unfoldable pub spans_at : List ℕ → ℕ → ℕ → List TriviumSpan
+spans_at bytes at zero = []
+spans_at bytes at (suc count) = spans_on (λ place. spans_at bytes place count) (trivium_at bytes at)
+
+-- those that an iterator over them has left
+abbrev pub trivia_left : Trivia → List TriviumSpan
+trivia_left items = spans_at items.tree.now items.at items.left
 
 -- ---- a token's head, as in `Token::trivia` of ast.rs
 

@@ -1,10 +1,12 @@
 -- Not part of the promises about a tree: the sets of maps as numbers, what the reading of a record's own bytes hands on, the parts that a plan is one of,
 -- and what the check's inner functions hand on.
 use Rattle.answers.specs.Numbers.{Checked}
-use Rattle.std.specs.Prelude.{ℕ, ◌+◌, ◌/◌, ◌%◌, ◌^◌, ◌≤◌, ◌<◌, ◌≡◌, List, [], ◌∷◌, ◌++◌, Bool, false, cond, length, replicate, eqb, ltb, Option, Result, Some, None, Ok, Err}
+use Rattle.std.specs.Prelude.{ℕ, ◌+◌, ◌-◌, ◌/◌, ◌%◌, ◌^◌, ◌≤◌, ◌<◌, ◌≡◌, List, [], ◌∷◌, ◌++◌, Bool, false, ◌&&◌, cond, length, get_or, replicate, eqb, ltb, leb, Option, Result, Some, None, Ok, Err}
 use Rattle.answers.specs.declared.Refusal.{Refusal}
 use Rattle.text.specs.Accepted.{accepted_text, fault_at}
-use Rattle.tree.specs.Grammar.{Slot, kind_of}
+use Rattle.tree.specs.Grammar.{Slot, kind_of, rule, fields}
+use Rattle.tree.specs.Parts.{first_class}
+use Rattle.tree.specs.declared.parts.Head.{Head}
 use Rattle.tree.specs.Rows.{row_of}
 use Rattle.tree.specs.Own.{may_stand, fields_fit, trivia_read, layout, own_of, trivia_of_record, map_of_record}
 use Rattle.tree.specs.Reading.{Placed, Reading, Reader, Due, nothing, due, fields_due}
@@ -12,6 +14,8 @@ use Rattle.tree.specs.declared.grammar.Class.{Class}
 use Rattle.tree.specs.declared.grammar.Kind.{Kind}
 use Rattle.tree.specs.declared.grammar.Kind.TheVariants.{Leaf}
 use Rattle.tree.specs.declared.grammar.Rule.{Rule}
+use Rattle.tree.specs.declared.grammar.TextRule.{TextRule}
+use Rattle.tree.specs.declared.grammar.TextRule.TheVariants.{NoText, Free, Byte}
 use Rattle.tree.specs.declared.own.Own.{Own}
 use Rattle.tree.specs.declared.own.TriviaSpan.{TriviaSpan}
 use Rattle.tree.specs.declared.own.Rest.{Rest}
@@ -29,6 +33,12 @@ pub record SetOf (set : ℕ) (slots : List Slot) : Type 0 where
   pub past : (bits : ℕ) → 64 ≤ bits → bits < 128 → false ≡ fields_fit slots bits
 
 -- ---- a record's own bytes
+
+-- whether a text that stands is one of a rule's
+abbrev pub allows : TextRule → List ℕ → Bool
+allows NoText text = false
+allows Free text = ltb 0 (length text)
+allows (Byte low high) text = eqb (length text) 1 && (leb low (get_or text 0 0) && leb (get_or text 0 0) high)
 
 -- the answer of a record whose first two bytes are judged
 abbrev pub judged_on : List ℕ → ℕ → Rule → ℕ → Option (Kind × ℕ) → Result Own Refusal
@@ -122,3 +132,9 @@ walked walker (class ∷ classes) place fault = onward (walker class place fault
 -- the walker of a reader
 abbrev pub walker_of : Reader → List ℕ → Walker
 walker_of reader bytes class place fault = record_read bytes fault (reader class place)
+
+-- ---- a token's head
+
+-- the first field behind own bytes
+abbrev pub first_field : ℕ → Class → Own → Head
+first_field levels class own = record { place = own.end; class = first_class class (fields own.kind (rule class).value); levels = levels - 1 }

@@ -7,7 +7,7 @@ ghost use Rattle.tree.specs.Reading.{parts_due, texts_of, trivia_texts, read};
 ghost use Rattle.tree.specs.Checking.{read_file, plain_tree, length_checked, tree_checked, batch_checked};
 ghost use Rattle.tree.specs.Checking.{length_numbers, tree_numbers};
 ghost use Rattle.tree.specs.Rows.{class_of};
-ghost use Rattle.tree.specs.Walk.{standing, fault_with, fault_from, record_read, refused_record, walked, walker_of};
+ghost use Rattle.tree.specs.Walk.{standing, fault_with, fault_from, record_read, walked, walker_of};
 ghost use Rattle.tree.specs.Plans.{plan_of, next_part};
 
 use crate::grammar::{Class, Kind};
@@ -17,7 +17,7 @@ use answers::{Checked, Reason, Refusal};
 use text::{numbers, scans};
 
 // The parts of a record that are still to be read: the fields of a row whose bits stand, then `count` items of a class.
-#[derive(Clone, Copy)]
+#[derive(Clone, Copy, Debug, PartialEq, Eq)]
 pub struct Plan {
     pub row: u64,
     pub bits: usize,
@@ -29,21 +29,19 @@ pub struct Plan {
 pub fn plan_of(class: Class, own: Own) -> Plan
     ensures { result ≡ plan_of class own }
 {
-    let kind = own.kind;
     let rule = grammar::rule_of(class);
-    let items = rule.items;
-    let value = rule.value;
-    let row = grammar::row_of(kind, value);
-    match items {
+    let row = grammar::row_of(own.kind, rule.value);
+    let bits = own.map / 2;
+    match rule.items {
         Some(item) => Plan {
-            row: row,
-            bits: own.map / 2,
-            item: item,
+            row,
+            bits,
+            item,
             count: own.count,
         },
         None => Plan {
-            row: row,
-            bits: own.map / 2,
+            row,
+            bits,
             item: class,
             count: 0,
         },
@@ -57,39 +55,30 @@ pub(crate) fn slot_class(slot: u64) -> Class
 }
 
 // The next part of a plan.
+#[inline(always)]
 pub fn next_part(plan: Plan) -> Option<(Class, Plan)>
     ensures { result ≡ next_part plan }
 {
-    let item = plan.item;
-    let mut row = plan.row;
-    let mut bits = plan.bits;
-    while 0 < row {
-        let slot = row % 128;
-        let bit = bits % 2;
-        row = row / 128;
-        bits = bits / 2;
-        if bit == 1 {
-            return Some((
-                slot_class(slot),
-                Plan {
-                    row: row,
-                    bits: bits,
-                    item: item,
-                    count: plan.count,
-                },
-            ));
+    let mut rest = plan;
+    while 0 < rest.row {
+        let slot = rest.row % 128;
+        let stands = rest.bits % 2 == 1;
+        rest.row /= 128;
+        rest.bits /= 2;
+        if stands {
+            return Some((slot_class(slot), rest));
         }
     }
-    if plan.count == 0 {
+    if rest.count == 0 {
         return None;
     }
     Some((
-        item,
+        rest.item,
         Plan {
             row: 0,
             bits: 0,
-            item: item,
-            count: plan.count - 1,
+            count: rest.count - 1,
+            ..rest
         },
     ))
 }
@@ -110,15 +99,14 @@ fn fault_in(tree: &[u8], start: usize, end: usize, fault: usize) -> usize
     fault
 }
 
-// The same for the bytes of one trivia item and then for the items behind it.
+// The same for the bytes of one trivia item and then for the items behind it, which keep the layout and are not judged again.
 fn fault_in_trivia(tree: &[u8], at: usize, count: usize, fault: usize) -> usize
     requires { (end : ℕ) × (trivia_end tree.now at count ≡ Some end) }
     ensures { result ≡ fault_from tree.now fault (trivia_texts tree.now at count) }
 {
     let mut place = at;
-    let mut left = count;
     let mut found = fault;
-    while 0 < left {
+    for _ in 0..count {
         if tree[place] == codes::NEWLINE {
             place += 1;
         } else {
@@ -127,7 +115,6 @@ fn fault_in_trivia(tree: &[u8], at: usize, count: usize, fault: usize) -> usize
             found = fault_in(tree, start, start + length, found);
             place = start + length;
         }
-        left -= 1;
     }
     found
 }
@@ -147,12 +134,8 @@ fn own_fault(tree: &[u8], own: Own, fault: usize) -> usize
 fn has_parts(own: Own) -> bool
     ensures { result ≡ false → ((class : Class) → standing (parts_due class own) ≡ []) }
 {
-    let kind = own.kind;
-    if own.count != 0 {
-        return true;
-    }
-    match kind {
-        Kind::Leaf => false,
+    match own.kind {
+        Kind::Leaf => own.count != 0,
         _ => true,
     }
 }
@@ -172,29 +155,16 @@ fn read_parts(
     let mut place = own.end;
     let mut seen = fault;
     let mut plan = plan_of(class, own);
-    loop {
-        let part = next_part(plan);
-        let Some((field, rest)) = part else {
-            return Ok((place, seen));
-        };
-        let read = own::read_own(tree, place, field, levels - 1);
-        let Ok(inner) = read else {
-            return Err(own::refusal_of(read));
-        };
-        let next = own_fault(tree, inner, seen);
+    while let Some((field, rest)) = next_part(plan) {
+        let inner = own::read_own(tree, place, field, levels - 1)?;
         plan = rest;
-        if !has_parts(inner) {
-            place = inner.end;
-            seen = next;
-            continue;
+        seen = own_fault(tree, inner, seen);
+        place = inner.end;
+        if has_parts(inner) {
+            (place, seen) = read_parts(tree, field, inner, levels - 1, seen)?;
         }
-        let whole = read_parts(tree, field, inner, levels - 1, next);
-        let Ok((end, found)) = whole else {
-            return whole;
-        };
-        place = end;
-        seen = found;
     }
+    Ok((place, seen))
 }
 
 // The record of a class at a place, with all its parts. A leaf, which is most of what a walk skips, ends here.
@@ -207,28 +177,12 @@ pub(crate) fn read_record(
 ) -> Result<(usize, usize), Refusal>
     ensures { result ≡ record_read tree.now fault (read levels tree.now class at) }
 {
-    let read = own::read_own(tree, at, class, levels);
-    let Ok(own) = read else {
-        return Err(own::refusal_of(read));
-    };
+    let own = own::read_own(tree, at, class, levels)?;
     let seen = own_fault(tree, own, fault);
     if !has_parts(own) {
         return Ok((own.end, seen));
     }
     read_parts(tree, class, own, levels, seen)
-}
-
-// The refusal that reading a record met; a record that was read whole has none, and the place behind it stands for one.
-pub(crate) fn refused_record(read: Result<(usize, usize), Refusal>) -> Refusal
-    ensures { result ≡ refused_record read }
-{
-    match read {
-        Err(refusal) => refusal,
-        Ok((end, _)) => Refusal {
-            reason: Reason::TreeLayout,
-            place: end,
-        },
-    }
 }
 
 // Whether no byte behind the count of the file's list is above 127. One look at all of them takes less than one at each text.
@@ -251,20 +205,14 @@ fn read_file(tree: &[u8], levels: usize) -> Result<(usize, usize), Refusal>
     if !is_plain(tree) {
         return read_record(tree, 0, Class::Tokens, levels, end);
     }
-    let read = read_record(tree, 0, Class::Tokens, levels, 0);
-    let Ok((behind, _)) = read else {
-        return read;
-    };
+    let (behind, _) = read_record(tree, 0, Class::Tokens, levels, 0)?;
     Ok((behind, end))
 }
 
 fn failed(reason: Reason, place: usize) -> Checked
     ensures { result ≡ Err (record { reason = reason; place = place }) }
 {
-    Err(Refusal {
-        reason: reason,
-        place: place,
-    })
+    Err(Refusal { reason, place })
 }
 
 // Whether a tree has bytes, and at most `limit` of them: refusal 3.
@@ -288,14 +236,8 @@ pub fn check_within(tree: &[u8], limit: usize, levels: usize) -> Checked
     ensures numbers { numbers_checked result ≡ tree_numbers limit levels tree.now }
 {
     let end = tree.len();
-    let sized = check_length(tree, limit);
-    let Ok(()) = sized else {
-        return sized;
-    };
-    let read = read_file(tree, levels);
-    let Ok((behind, fault)) = read else {
-        return Err(refused_record(read));
-    };
+    check_length(tree, limit)?;
+    let (behind, fault) = read_file(tree, levels)?;
     if behind < end {
         return failed(Reason::TreeLayout, behind);
     }

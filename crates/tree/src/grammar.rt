@@ -1,11 +1,11 @@
 // The grammar of a stored tree: the kinds of records, and what may stand in a field.
-ghost use Rattle.std.specs.Prelude.{◌≡◌, ◌<◌};
+ghost use Rattle.std.specs.Prelude.{◌≡◌, ◌<◌, Some};
 ghost use Rattle.tree.specs.Grammar;
 ghost use Rattle.tree.specs.Rows.{class_number, class_of, row_of};
-ghost use Rattle.tree.specs.Walk.{SetOf};
+ghost use Rattle.tree.specs.Walk.{SetOf, allows};
 
 use crate::kinds;
-use text::characters;
+use text::{characters, numbers};
 
 // The braces of a block and the colon of a label, as wide as the bounds of a text.
 const OPENING_BRACE: usize = characters::OPENING_BRACE as usize;
@@ -15,7 +15,7 @@ const CLOSING_BRACE: usize = characters::CLOSING_BRACE as usize;
 const COLON: usize = characters::COLON as usize;
 
 // The kinds of records, in the order of their numbers 0 to 42.
-#[derive(Clone, Copy)]
+#[derive(Clone, Copy, Debug, PartialEq, Eq)]
 pub enum Kind {
     Align,
     Assert,
@@ -62,8 +62,77 @@ pub enum Kind {
     ArgItem,
 }
 
+// The kind of a number. A match and no table of the kinds: LLVM sees by it that a kind is its number, and reads a record by fewer steps
+// (by a table the check of a tree takes 5 percent more).
+fn kind_of(byte: usize) -> Option<Kind>
+    ensures { result ≡ Grammar.kind_of byte }
+{
+    match byte {
+        kinds::ALIGN => Some(Kind::Align),
+        kinds::ASSERT => Some(Kind::Assert),
+        kinds::BRACES => Some(Kind::Braces),
+        kinds::CONFIG => Some(Kind::Config),
+        kinds::CONFIG_PAIR => Some(Kind::ConfigPair),
+        kinds::DATA => Some(Kind::Data),
+        kinds::DEFINITION => Some(Kind::Definition),
+        kinds::EOF => Some(Kind::Eof),
+        kinds::ERROR => Some(Kind::Error),
+        kinds::EXPRESSION => Some(Kind::Expression),
+        kinds::IF => Some(Kind::If),
+        kinds::IMPORT => Some(Kind::Import),
+        kinds::FILE => Some(Kind::File),
+        kinds::INSTRUCTION => Some(Kind::Instruction),
+        kinds::LABEL => Some(Kind::Label),
+        kinds::LOOP => Some(Kind::Loop),
+        kinds::MACRO_DEFINITION => Some(Kind::MacroDefinition),
+        kinds::MACRO_INVOCATION => Some(Kind::MacroInvocation),
+        kinds::PROGRAM_COUNTER_DEFINITION => Some(Kind::ProgramCounterDefinition),
+        kinds::SEGMENT => Some(Kind::Segment),
+        kinds::TEST => Some(Kind::Test),
+        kinds::TEXT => Some(Kind::Text),
+        kinds::TRACE => Some(Kind::Trace),
+        kinds::VARIABLE_DEFINITION => Some(Kind::VariableDefinition),
+        kinds::VEC => Some(Kind::Vec),
+        kinds::LEAF => Some(Kind::Leaf),
+        kinds::PATH_ITEM => Some(Kind::PathItem),
+        kinds::BLOCK => Some(Kind::Block),
+        kinds::BINARY_EXPRESSION => Some(Kind::BinaryExpression),
+        kinds::FACTOR => Some(Kind::Factor),
+        kinds::CURRENT_PROGRAM_COUNTER => Some(Kind::CurrentProgramCounter),
+        kinds::EXPR_PARENS => Some(Kind::ExprParens),
+        kinds::FUNCTION_CALL => Some(Kind::FunctionCall),
+        kinds::IDENTIFIER_VALUE => Some(Kind::IdentifierValue),
+        kinds::NUMBER => Some(Kind::Number),
+        kinds::STRING_FACTOR => Some(Kind::StringFactor),
+        kinds::INTERPOLATED_STRING => Some(Kind::InterpolatedString),
+        kinds::OPERAND => Some(Kind::Operand),
+        kinds::REGISTER_SUFFIX => Some(Kind::RegisterSuffix),
+        kinds::IMPORT_AS => Some(Kind::ImportAs),
+        kinds::IMPORT_ALL => Some(Kind::ImportAll),
+        kinds::SPECIFIC_IMPORT_ARG => Some(Kind::SpecificImportArg),
+        kinds::ARG_ITEM => Some(Kind::ArgItem),
+        _ => None,
+    }
+}
+
+impl Kind {
+    // The kind that a record's first byte stands for.
+    pub(crate) fn of_byte(byte: u8) -> Option<Kind>
+        ensures { result ≡ Grammar.kind_of byte }
+    {
+        kind_of(usize::from(byte))
+    }
+
+    // The number of a kind, which is the first byte of its records.
+    pub(crate) fn number(self) -> usize
+        ensures { Grammar.kind_of result ≡ Some self }
+    {
+        self as usize
+    }
+}
+
 // What may stand in a field, by the field's Rust type.
-#[derive(Clone, Copy)]
+#[derive(Clone, Copy, Debug, PartialEq, Eq)]
 pub enum Class {
     // Located String, Identifier, IdentifierPath, Number.
     Word,
@@ -137,8 +206,57 @@ pub enum Class {
     StringItems,
 }
 
+// The classes at their numbers; no class has the number 0, which counts as the first.
+static CLASSES: [Class; 36] = [
+    Class::Word,
+    Class::Word,
+    Class::Char,
+    Class::OpenBrace,
+    Class::CloseBrace,
+    Class::Colon,
+    Class::Unit,
+    Class::Mnemonic,
+    Class::IndexRegister,
+    Class::AddressModifier,
+    Class::VariableType,
+    Class::NumberType,
+    Class::DataSize,
+    Class::BinaryOp,
+    Class::TextEncoding,
+    Class::AddressingMode,
+    Class::StringItem,
+    Class::LocatedExpression,
+    Class::BareExpression,
+    Class::LocatedFactor,
+    Class::BareToken,
+    Class::LocatedToken,
+    Class::BlockRecord,
+    Class::StringRecord,
+    Class::OperandRecord,
+    Class::SuffixRecord,
+    Class::AsRecord,
+    Class::ImportArguments,
+    Class::ImportPath,
+    Class::ExpressionArgument,
+    Class::IdentifierArgument,
+    Class::ImportArgument,
+    Class::Tokens,
+    Class::ExpressionArguments,
+    Class::IdentifierArguments,
+    Class::StringItems,
+];
+
+impl Class {
+    // The number of a class in a row, where 0 says that there is no field.
+    fn number(self) -> u64
+        ensures { (result ≡ class_number self) × (result < 64) }
+    {
+        self as u64 + 1
+    }
+}
+
 // The text of a leaf.
-#[derive(Clone, Copy)]
+#[derive(Clone, Copy, Debug, PartialEq, Eq)]
 pub enum TextRule {
     // There is none.
     NoText,
@@ -148,8 +266,24 @@ pub enum TextRule {
     Byte(usize, usize),
 }
 
+impl TextRule {
+    // Whether a text that stands is one of the rule's.
+    pub(crate) fn allows(self, text: &[u8]) -> bool
+        ensures { result ≡ allows self text.now }
+    {
+        match self {
+            TextRule::NoText => false,
+            TextRule::Free => !text.is_empty(),
+            TextRule::Byte(low, high) => match text {
+                [byte] => low <= numbers::wide(*byte) && numbers::wide(*byte) <= high,
+                _ => false,
+            },
+        }
+    }
+}
+
 // What may stand in a class: the kinds from first to last, whether with trivia, the text of a leaf, a list, and what an argument's value is.
-#[derive(Clone, Copy)]
+#[derive(Clone, Copy, Debug, PartialEq, Eq)]
 pub struct Rule {
     pub first: usize,
     pub last: usize,
@@ -159,29 +293,26 @@ pub struct Rule {
     pub value: Class,
 }
 
-fn leaf(located: bool, text: TextRule) -> Rule
-    ensures { result ≡ Grammar.leaf located text }
+// The kinds from first to last, without a text and items.
+fn nodes(first: usize, last: usize, located: bool) -> Rule
+    ensures { result ≡ Grammar.nodes first last located }
 {
     Rule {
-        first: kinds::LEAF,
-        last: kinds::LEAF,
-        located: located,
-        text: text,
+        first,
+        last,
+        located,
+        text: TextRule::NoText,
         items: None,
         value: Class::LocatedExpression,
     }
 }
 
-fn nodes(first: usize, last: usize, located: bool) -> Rule
-    ensures { result ≡ Grammar.nodes first last located }
+fn leaf(located: bool, text: TextRule) -> Rule
+    ensures { result ≡ Grammar.leaf located text }
 {
     Rule {
-        first: first,
-        last: last,
-        located: located,
-        text: TextRule::NoText,
-        items: None,
-        value: Class::LocatedExpression,
+        text,
+        ..nodes(kinds::LEAF, kinds::LEAF, located)
     }
 }
 
@@ -190,12 +321,8 @@ fn argument(value: Class) -> Rule
     ensures { result ≡ Grammar.argument value }
 {
     Rule {
-        first: kinds::ARG_ITEM,
-        last: kinds::ARG_ITEM,
-        located: false,
-        text: TextRule::NoText,
-        items: None,
-        value: value,
+        value,
+        ..nodes(kinds::ARG_ITEM, kinds::ARG_ITEM, false)
     }
 }
 
@@ -204,12 +331,8 @@ fn list_of(class: Class) -> Rule
     ensures { result ≡ Grammar.list_of class }
 {
     Rule {
-        first: kinds::VEC,
-        last: kinds::VEC,
-        located: false,
-        text: TextRule::NoText,
         items: Some(class),
-        value: Class::LocatedExpression,
+        ..nodes(kinds::VEC, kinds::VEC, false)
     }
 }
 
@@ -234,12 +357,8 @@ pub(crate) fn rule_of(class: Class) -> Rule
         Class::TextEncoding => leaf(true, TextRule::Byte(0, 3)),
         Class::AddressingMode => leaf(false, TextRule::Byte(0, 4)),
         Class::StringItem => Rule {
-            first: kinds::LEAF,
             last: kinds::PATH_ITEM,
-            located: false,
-            text: TextRule::Free,
-            items: None,
-            value: Class::LocatedExpression,
+            ..leaf(false, TextRule::Free)
         },
         Class::LocatedExpression => nodes(kinds::BINARY_EXPRESSION, kinds::FACTOR, true),
         Class::BareExpression => nodes(kinds::BINARY_EXPRESSION, kinds::FACTOR, false),
@@ -256,12 +375,8 @@ pub(crate) fn rule_of(class: Class) -> Rule
         Class::SuffixRecord => nodes(kinds::REGISTER_SUFFIX, kinds::REGISTER_SUFFIX, false),
         Class::AsRecord => nodes(kinds::IMPORT_AS, kinds::IMPORT_AS, false),
         Class::ImportArguments => Rule {
-            first: kinds::IMPORT_ALL,
-            last: kinds::IMPORT_ALL,
-            located: false,
-            text: TextRule::NoText,
             items: Some(Class::ImportArgument),
-            value: Class::LocatedExpression,
+            ..nodes(kinds::IMPORT_ALL, kinds::IMPORT_ALL, false)
         },
         Class::ImportPath => nodes(kinds::SPECIFIC_IMPORT_ARG, kinds::SPECIFIC_IMPORT_ARG, true),
         Class::ExpressionArgument => argument(Class::LocatedExpression),
@@ -274,244 +389,152 @@ pub(crate) fn rule_of(class: Class) -> Rule
     }
 }
 
-// The kind that a byte stands for.
-pub(crate) fn kind_of(byte: usize) -> Option<Kind>
-    ensures { result ≡ Grammar.kind_of byte }
-{
-    match byte {
-        kinds::ALIGN => Some(Kind::Align),
-        kinds::ASSERT => Some(Kind::Assert),
-        kinds::BRACES => Some(Kind::Braces),
-        kinds::CONFIG => Some(Kind::Config),
-        kinds::CONFIG_PAIR => Some(Kind::ConfigPair),
-        kinds::DATA => Some(Kind::Data),
-        kinds::DEFINITION => Some(Kind::Definition),
-        kinds::EOF => Some(Kind::Eof),
-        kinds::ERROR => Some(Kind::Error),
-        kinds::EXPRESSION => Some(Kind::Expression),
-        kinds::IF => Some(Kind::If),
-        kinds::IMPORT => Some(Kind::Import),
-        kinds::FILE => Some(Kind::File),
-        kinds::INSTRUCTION => Some(Kind::Instruction),
-        kinds::LABEL => Some(Kind::Label),
-        kinds::LOOP => Some(Kind::Loop),
-        kinds::MACRO_DEFINITION => Some(Kind::MacroDefinition),
-        kinds::MACRO_INVOCATION => Some(Kind::MacroInvocation),
-        kinds::PROGRAM_COUNTER_DEFINITION => Some(Kind::ProgramCounterDefinition),
-        kinds::SEGMENT => Some(Kind::Segment),
-        kinds::TEST => Some(Kind::Test),
-        kinds::TEXT => Some(Kind::Text),
-        kinds::TRACE => Some(Kind::Trace),
-        kinds::VARIABLE_DEFINITION => Some(Kind::VariableDefinition),
-        kinds::VEC => Some(Kind::Vec),
-        kinds::LEAF => Some(Kind::Leaf),
-        kinds::PATH_ITEM => Some(Kind::PathItem),
-        kinds::BLOCK => Some(Kind::Block),
-        kinds::BINARY_EXPRESSION => Some(Kind::BinaryExpression),
-        kinds::FACTOR => Some(Kind::Factor),
-        kinds::CURRENT_PROGRAM_COUNTER => Some(Kind::CurrentProgramCounter),
-        kinds::EXPR_PARENS => Some(Kind::ExprParens),
-        kinds::FUNCTION_CALL => Some(Kind::FunctionCall),
-        kinds::IDENTIFIER_VALUE => Some(Kind::IdentifierValue),
-        kinds::NUMBER => Some(Kind::Number),
-        kinds::STRING_FACTOR => Some(Kind::StringFactor),
-        kinds::INTERPOLATED_STRING => Some(Kind::InterpolatedString),
-        kinds::OPERAND => Some(Kind::Operand),
-        kinds::REGISTER_SUFFIX => Some(Kind::RegisterSuffix),
-        kinds::IMPORT_AS => Some(Kind::ImportAs),
-        kinds::IMPORT_ALL => Some(Kind::ImportAll),
-        kinds::SPECIFIC_IMPORT_ARG => Some(Kind::SpecificImportArg),
-        kinds::ARG_ITEM => Some(Kind::ArgItem),
-        _ => None,
-    }
+// The code of a field in a row: seven bits with its class's number, 64 more where it need not stand.
+macro_rules! slot {
+    (must $class:ident) => {
+        Class::$class as u64 + 1
+    };
+    (may $class:ident) => {
+        Class::$class as u64 + 65
+    };
 }
 
-// The fields of a kind in one number: for each, from the lowest on, seven bits with its class's number, 64 more where it need not stand.
+// The codes of fields in one number, from the lowest bits on.
+macro_rules! row {
+    () => { 0 };
+    ($need:ident $class:ident $(, $needs:ident $classes:ident)*) => {
+        slot!($need $class) + 128 * row!($($needs $classes),*)
+    };
+}
+
+// The fields of a kind in one number.
 pub(crate) fn row_of(kind: Kind, value: Class) -> u64
     ensures { result ≡ row_of (Grammar.fields kind value) }
 {
     match kind {
-        Kind::Align => 2177,
-        Kind::Assert => 1427585,
-        Kind::Braces => 22,
-        Kind::Config => 22,
-        Kind::ConfigPair => 344321,
-        Kind::Data => 1569,
-        Kind::Definition => 1376385,
-        Kind::Eof => 6,
-        Kind::Error => 1,
-        Kind::Expression => 18,
-        Kind::If => 23222126721,
-        Kind::Import => 23133703553,
-        Kind::File => 2945,
-        Kind::Instruction => 11271,
-        Kind::Label => 1409665,
-        Kind::Loop => 362625,
-        Kind::MacroDefinition => 756522451073,
-        Kind::MacroInvocation => 4735233,
-        Kind::ProgramCounterDefinition => 278786,
-        Kind::Segment => 1411201,
-        Kind::Test => 362625,
-        Kind::Text => 288513,
-        Kind::Trace => 138961153,
-        Kind::VariableDefinition => 35684490,
-        Kind::Vec => 0,
-        Kind::Leaf => 0,
-        Kind::PathItem => 0,
-        Kind::Block => 69635,
-        Kind::BinaryExpression => 280717,
-        Kind::Factor => 1089811,
-        Kind::CurrentProgramCounter => 2,
-        Kind::ExprParens => 34946,
-        Kind::FunctionCall => 4735233,
-        Kind::IdentifierValue => 9345,
-        Kind::Number => 139,
-        Kind::StringFactor => 23,
-        Kind::InterpolatedString => 4482,
-        Kind::Operand => 23923302673,
-        Kind::RegisterSuffix => 1026,
-        Kind::ImportAs => 129,
-        Kind::ImportAll => 11522,
-        Kind::SpecificImportArg => 11521,
-        Kind::ArgItem => number_of(value) + 8448,
+        Kind::Align => row!(must Word, must LocatedExpression),
+        Kind::Assert => row!(must Word, must LocatedExpression, may StringRecord),
+        Kind::Braces => row!(must BlockRecord),
+        Kind::Config => row!(must BlockRecord),
+        Kind::ConfigPair => row!(must Word, must Char, must LocatedToken),
+        Kind::Data => row!(must ExpressionArguments, must DataSize),
+        Kind::Definition => row!(must Word, must Word, may BareToken),
+        Kind::Eof => row!(must Unit),
+        Kind::Error => row!(must Word),
+        Kind::Expression => row!(must BareExpression),
+        Kind::If =>
+            row!(must Word, must LocatedExpression, must BlockRecord, may Word, may BlockRecord),
+        Kind::Import =>
+            row!(must Word, must ImportArguments, must Word, must StringRecord, may BlockRecord),
+        Kind::File => row!(must Word, must StringRecord),
+        Kind::Instruction => row!(must Mnemonic, may OperandRecord),
+        Kind::Label => row!(must Word, must Colon, may BlockRecord),
+        Kind::Loop => row!(must Word, must LocatedExpression, must BlockRecord),
+        Kind::MacroDefinition =>
+            row!(must Word, must Word, must Char, must IdentifierArguments, must Char, must BlockRecord),
+        Kind::MacroInvocation => row!(must Word, must Char, must ExpressionArguments, must Char),
+        Kind::ProgramCounterDefinition => row!(must Char, must Char, must LocatedExpression),
+        Kind::Segment => row!(must Word, must LocatedExpression, may BlockRecord),
+        Kind::Test => row!(must Word, must LocatedExpression, must BlockRecord),
+        Kind::Text => row!(must Word, may TextEncoding, must LocatedExpression),
+        Kind::Trace => row!(must Word, may Char, must ExpressionArguments, may Char),
+        Kind::VariableDefinition =>
+            row!(must VariableType, must Word, must Char, must LocatedExpression),
+        Kind::Vec => row!(),
+        Kind::Leaf => row!(),
+        Kind::PathItem => row!(),
+        Kind::Block => row!(must OpenBrace, must Tokens, must CloseBrace),
+        Kind::BinaryExpression =>
+            row!(must BinaryOp, must LocatedExpression, must LocatedExpression),
+        Kind::Factor => row!(must LocatedFactor, may Char, may Char),
+        Kind::CurrentProgramCounter => row!(must Char),
+        Kind::ExprParens => row!(must Char, must LocatedExpression, must Char),
+        Kind::FunctionCall => row!(must Word, must Char, must ExpressionArguments, must Char),
+        Kind::IdentifierValue => row!(must Word, may AddressModifier),
+        Kind::Number => row!(must NumberType, must Word),
+        Kind::StringFactor => row!(must StringRecord),
+        Kind::InterpolatedString => row!(must Char, must StringItems),
+        Kind::Operand =>
+            row!(must LocatedExpression, may Char, may Char, must AddressingMode, may SuffixRecord),
+        Kind::RegisterSuffix => row!(must Char, must IndexRegister),
+        Kind::ImportAs => row!(must Word, must Word),
+        Kind::ImportAll => row!(must Char, may AsRecord),
+        Kind::SpecificImportArg => row!(must Word, may AsRecord),
+        Kind::ArgItem => value.number() + 128 * row!(may Char),
     }
 }
 
-// The maps of a kind's fields in one number: bit n stands where the fields whose bits n has may stand together.
+// The maps that fields may have, in one number whose bit n stands where the map n is one of them. A field that must stand moves the maps
+// of those before it by the value of its bit; one that need not stand keeps them beside the moved ones.
+macro_rules! maps {
+    (@ [$($power:literal)*]) => { 1 };
+    (@ [$first:literal $($power:literal)*] must $($need:ident)*) => {
+        $first * maps!(@ [$($power)*] $($need)*)
+    };
+    (@ [$first:literal $($power:literal)*] may $($need:ident)*) => {
+        ($first + 1) * maps!(@ [$($power)*] $($need)*)
+    };
+    ($($need:ident)*) => { maps!(@ [2 4 16 256 65536 4294967296] $($need)*) };
+}
+
+// The maps of a kind's fields: where the fields whose bits they have may stand together.
 pub(crate) fn maps_of(kind: Kind) -> u64
     ensures { (value : Class) → SetOf result (Grammar.fields kind value) }
 {
     match kind {
-        Kind::Align => 8,
-        Kind::Assert => 136,
-        Kind::Braces => 2,
-        Kind::Config => 2,
-        Kind::ConfigPair => 128,
-        Kind::Data => 8,
-        Kind::Definition => 136,
-        Kind::Eof => 2,
-        Kind::Error => 2,
-        Kind::Expression => 2,
-        Kind::If => 2155905152,
-        Kind::Import => 2147516416,
-        Kind::File => 8,
-        Kind::Instruction => 10,
-        Kind::Label => 136,
-        Kind::Loop => 128,
-        Kind::MacroDefinition => 9223372036854775808,
-        Kind::MacroInvocation => 32768,
-        Kind::ProgramCounterDefinition => 128,
-        Kind::Segment => 136,
-        Kind::Test => 128,
-        Kind::Text => 160,
-        Kind::Trace => 41120,
-        Kind::VariableDefinition => 32768,
-        Kind::Vec => 1,
-        Kind::Leaf => 1,
-        Kind::PathItem => 1,
-        Kind::Block => 128,
-        Kind::BinaryExpression => 128,
-        Kind::Factor => 170,
-        Kind::CurrentProgramCounter => 2,
-        Kind::ExprParens => 128,
-        Kind::FunctionCall => 32768,
-        Kind::IdentifierValue => 10,
-        Kind::Number => 8,
-        Kind::StringFactor => 2,
-        Kind::InterpolatedString => 8,
-        Kind::Operand => 2852170240,
-        Kind::RegisterSuffix => 8,
-        Kind::ImportAs => 8,
-        Kind::ImportAll => 10,
-        Kind::SpecificImportArg => 10,
-        Kind::ArgItem => 10,
+        Kind::Align => maps!(must must),
+        Kind::Assert => maps!(must must may),
+        Kind::Braces => maps!(must),
+        Kind::Config => maps!(must),
+        Kind::ConfigPair => maps!(must must must),
+        Kind::Data => maps!(must must),
+        Kind::Definition => maps!(must must may),
+        Kind::Eof => maps!(must),
+        Kind::Error => maps!(must),
+        Kind::Expression => maps!(must),
+        Kind::If => maps!(must must must may may),
+        Kind::Import => maps!(must must must must may),
+        Kind::File => maps!(must must),
+        Kind::Instruction => maps!(must may),
+        Kind::Label => maps!(must must may),
+        Kind::Loop => maps!(must must must),
+        Kind::MacroDefinition => maps!(must must must must must must),
+        Kind::MacroInvocation => maps!(must must must must),
+        Kind::ProgramCounterDefinition => maps!(must must must),
+        Kind::Segment => maps!(must must may),
+        Kind::Test => maps!(must must must),
+        Kind::Text => maps!(must may must),
+        Kind::Trace => maps!(must may must may),
+        Kind::VariableDefinition => maps!(must must must must),
+        Kind::Vec => maps!(),
+        Kind::Leaf => maps!(),
+        Kind::PathItem => maps!(),
+        Kind::Block => maps!(must must must),
+        Kind::BinaryExpression => maps!(must must must),
+        Kind::Factor => maps!(must may may),
+        Kind::CurrentProgramCounter => maps!(must),
+        Kind::ExprParens => maps!(must must must),
+        Kind::FunctionCall => maps!(must must must must),
+        Kind::IdentifierValue => maps!(must may),
+        Kind::Number => maps!(must must),
+        Kind::StringFactor => maps!(must),
+        Kind::InterpolatedString => maps!(must must),
+        Kind::Operand => maps!(must may may must may),
+        Kind::RegisterSuffix => maps!(must must),
+        Kind::ImportAs => maps!(must must),
+        Kind::ImportAll => maps!(must may),
+        Kind::SpecificImportArg => maps!(must may),
+        Kind::ArgItem => maps!(must may),
     }
 }
 
-// The number of a class in a row.
-fn number_of(class: Class) -> u64
-    ensures { (result ≡ class_number class) × (result < 64) }
-{
-    match class {
-        Class::Word => 1,
-        Class::Char => 2,
-        Class::OpenBrace => 3,
-        Class::CloseBrace => 4,
-        Class::Colon => 5,
-        Class::Unit => 6,
-        Class::Mnemonic => 7,
-        Class::IndexRegister => 8,
-        Class::AddressModifier => 9,
-        Class::VariableType => 10,
-        Class::NumberType => 11,
-        Class::DataSize => 12,
-        Class::BinaryOp => 13,
-        Class::TextEncoding => 14,
-        Class::AddressingMode => 15,
-        Class::StringItem => 16,
-        Class::LocatedExpression => 17,
-        Class::BareExpression => 18,
-        Class::LocatedFactor => 19,
-        Class::BareToken => 20,
-        Class::LocatedToken => 21,
-        Class::BlockRecord => 22,
-        Class::StringRecord => 23,
-        Class::OperandRecord => 24,
-        Class::SuffixRecord => 25,
-        Class::AsRecord => 26,
-        Class::ImportArguments => 27,
-        Class::ImportPath => 28,
-        Class::ExpressionArgument => 29,
-        Class::IdentifierArgument => 30,
-        Class::ImportArgument => 31,
-        Class::Tokens => 32,
-        Class::ExpressionArguments => 33,
-        Class::IdentifierArguments => 34,
-        Class::StringItems => 35,
-    }
-}
-
-// The class of a number in a row.
+// The class of a number in a row; numbers of no class count as the last.
 pub(crate) fn class_of(number: u64) -> Class
     ensures { result ≡ class_of number }
 {
-    match number {
-        0 => Class::Word,
-        1 => Class::Word,
-        2 => Class::Char,
-        3 => Class::OpenBrace,
-        4 => Class::CloseBrace,
-        5 => Class::Colon,
-        6 => Class::Unit,
-        7 => Class::Mnemonic,
-        8 => Class::IndexRegister,
-        9 => Class::AddressModifier,
-        10 => Class::VariableType,
-        11 => Class::NumberType,
-        12 => Class::DataSize,
-        13 => Class::BinaryOp,
-        14 => Class::TextEncoding,
-        15 => Class::AddressingMode,
-        16 => Class::StringItem,
-        17 => Class::LocatedExpression,
-        18 => Class::BareExpression,
-        19 => Class::LocatedFactor,
-        20 => Class::BareToken,
-        21 => Class::LocatedToken,
-        22 => Class::BlockRecord,
-        23 => Class::StringRecord,
-        24 => Class::OperandRecord,
-        25 => Class::SuffixRecord,
-        26 => Class::AsRecord,
-        27 => Class::ImportArguments,
-        28 => Class::ImportPath,
-        29 => Class::ExpressionArgument,
-        30 => Class::IdentifierArgument,
-        31 => Class::ImportArgument,
-        32 => Class::Tokens,
-        33 => Class::ExpressionArguments,
-        34 => Class::IdentifierArguments,
-        35 => Class::StringItems,
-        _ => Class::StringItems,
+    let place = number as usize;
+    if CLASSES.len() <= place {
+        return Class::StringItems;
     }
+    CLASSES[place]
 }

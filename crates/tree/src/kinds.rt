@@ -1,86 +1,88 @@
-// The numbers of the kinds of records by name: the tokens, as ast.rs declares them, then what stands inside them.
-pub const ALIGN: usize = 0;
+// The numbers of the kinds of records by name, for the walks above that take a kind by the number of its first byte.
+use crate::grammar::Kind;
 
-pub const ASSERT: usize = 1;
+pub const ALIGN: usize = Kind::Align as usize;
 
-pub const BRACES: usize = 2;
+pub const ASSERT: usize = Kind::Assert as usize;
 
-pub const CONFIG: usize = 3;
+pub const BRACES: usize = Kind::Braces as usize;
 
-pub const CONFIG_PAIR: usize = 4;
+pub const CONFIG: usize = Kind::Config as usize;
 
-pub const DATA: usize = 5;
+pub const CONFIG_PAIR: usize = Kind::ConfigPair as usize;
 
-pub const DEFINITION: usize = 6;
+pub const DATA: usize = Kind::Data as usize;
 
-pub const EOF: usize = 7;
+pub const DEFINITION: usize = Kind::Definition as usize;
 
-pub const ERROR: usize = 8;
+pub const EOF: usize = Kind::Eof as usize;
 
-pub const EXPRESSION: usize = 9;
+pub const ERROR: usize = Kind::Error as usize;
 
-pub const IF: usize = 10;
+pub const EXPRESSION: usize = Kind::Expression as usize;
 
-pub const IMPORT: usize = 11;
+pub const IF: usize = Kind::If as usize;
 
-pub const FILE: usize = 12;
+pub const IMPORT: usize = Kind::Import as usize;
 
-pub const INSTRUCTION: usize = 13;
+pub const FILE: usize = Kind::File as usize;
 
-pub const LABEL: usize = 14;
+pub const INSTRUCTION: usize = Kind::Instruction as usize;
 
-pub const LOOP: usize = 15;
+pub const LABEL: usize = Kind::Label as usize;
 
-pub const MACRO_DEFINITION: usize = 16;
+pub const LOOP: usize = Kind::Loop as usize;
 
-pub const MACRO_INVOCATION: usize = 17;
+pub const MACRO_DEFINITION: usize = Kind::MacroDefinition as usize;
 
-pub const PROGRAM_COUNTER_DEFINITION: usize = 18;
+pub const MACRO_INVOCATION: usize = Kind::MacroInvocation as usize;
 
-pub const SEGMENT: usize = 19;
+pub const PROGRAM_COUNTER_DEFINITION: usize = Kind::ProgramCounterDefinition as usize;
 
-pub const TEST: usize = 20;
+pub const SEGMENT: usize = Kind::Segment as usize;
 
-pub const TEXT: usize = 21;
+pub const TEST: usize = Kind::Test as usize;
 
-pub const TRACE: usize = 22;
+pub const TEXT: usize = Kind::Text as usize;
 
-pub const VARIABLE_DEFINITION: usize = 23;
+pub const TRACE: usize = Kind::Trace as usize;
 
-pub const VEC: usize = 24;
+pub const VARIABLE_DEFINITION: usize = Kind::VariableDefinition as usize;
 
-pub const LEAF: usize = 25;
+pub const VEC: usize = Kind::Vec as usize;
 
-pub const PATH_ITEM: usize = 26;
+pub const LEAF: usize = Kind::Leaf as usize;
 
-pub const BLOCK: usize = 27;
+pub const PATH_ITEM: usize = Kind::PathItem as usize;
 
-pub const BINARY_EXPRESSION: usize = 28;
+pub const BLOCK: usize = Kind::Block as usize;
 
-pub const FACTOR: usize = 29;
+pub const BINARY_EXPRESSION: usize = Kind::BinaryExpression as usize;
 
-pub const CURRENT_PROGRAM_COUNTER: usize = 30;
+pub const FACTOR: usize = Kind::Factor as usize;
 
-pub const EXPR_PARENS: usize = 31;
+pub const CURRENT_PROGRAM_COUNTER: usize = Kind::CurrentProgramCounter as usize;
 
-pub const FUNCTION_CALL: usize = 32;
+pub const EXPR_PARENS: usize = Kind::ExprParens as usize;
 
-pub const IDENTIFIER_VALUE: usize = 33;
+pub const FUNCTION_CALL: usize = Kind::FunctionCall as usize;
 
-pub const NUMBER: usize = 34;
+pub const IDENTIFIER_VALUE: usize = Kind::IdentifierValue as usize;
 
-pub const STRING_FACTOR: usize = 35;
+pub const NUMBER: usize = Kind::Number as usize;
 
-pub const INTERPOLATED_STRING: usize = 36;
+pub const STRING_FACTOR: usize = Kind::StringFactor as usize;
 
-pub const OPERAND: usize = 37;
+pub const INTERPOLATED_STRING: usize = Kind::InterpolatedString as usize;
 
-pub const REGISTER_SUFFIX: usize = 38;
+pub const OPERAND: usize = Kind::Operand as usize;
 
-pub const IMPORT_AS: usize = 39;
+pub const REGISTER_SUFFIX: usize = Kind::RegisterSuffix as usize;
 
-pub const IMPORT_ALL: usize = 40;
+pub const IMPORT_AS: usize = Kind::ImportAs as usize;
 
-pub const SPECIFIC_IMPORT_ARG: usize = 41;
+pub const IMPORT_ALL: usize = Kind::ImportAll as usize;
 
-pub const ARG_ITEM: usize = 42;
+pub const SPECIFIC_IMPORT_ARG: usize = Kind::SpecificImportArg as usize;
+
+pub const ARG_ITEM: usize = Kind::ArgItem as usize;

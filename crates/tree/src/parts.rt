@@ -1,19 +1,21 @@
 // What the walk over a tree reads beside the records' own bytes: the place behind a record, a trivia item, and a token's head.
-ghost use Rattle.std.specs.Prelude.{◌≡◌, ◌<◌, Err};
-ghost use Rattle.tree.specs.Grammar.{rule, fields};
-ghost use Rattle.tree.specs.Own.{layout};
-ghost use Rattle.tree.specs.Parts.{skipped, trivium_at, first_class, second_field, field_head, inner_head, head_behind, head_at};
+ghost use Rattle.std.specs.Prelude.{◌≡◌, ℕ, ◌<◌, get_or, Some, Ok};
+ghost use Rattle.std.specs.Iterator.{YieldsFirst, item_count};
+ghost use Rattle.tree.specs.Grammar.{kind_of, rule, fields};
+ghost use Rattle.tree.specs.Parts.{trivium_at, spans_at, trivia_left};
+ghost use Rattle.tree.specs.Parts.{skipped, first_class, second_field, field_head, inner_head};
+ghost use Rattle.tree.specs.Parts.{head_on, head_behind, head_at};
+ghost use Rattle.tree.specs.Walk.{first_field};
 ghost use Rattle.tree.specs.Parts.{refused_skip, refused_head, numbers_skipped, read_numbers};
 ghost use Rattle.tree.specs.Parts.{numbers_head, behind_numbers, head_numbers};
 
 use crate::grammar::{Class, Kind};
 use crate::own::Own;
-use crate::{check, codes, grammar, kinds, own};
-use answers::{Reason, Refusal};
-use text::numbers;
+use crate::{check, codes, grammar, own};
+use answers::Refusal;
 
 // A trivia item, by its code and the places of its text, which for a newline are both the place behind it.
-#[derive(Clone, Copy)]
+#[derive(Clone, Copy, Debug, PartialEq, Eq)]
 pub struct TriviumSpan {
     pub code: u8,
     pub start: usize,
@@ -21,7 +23,7 @@ pub struct TriviumSpan {
 }
 
 // A token's head: the record of a class at a place, where so many levels are left.
-#[derive(Clone, Copy)]
+#[derive(Clone, Copy, Debug, PartialEq, Eq)]
 pub struct Head {
     pub place: usize,
     pub class: Class,
@@ -33,10 +35,7 @@ pub fn skip(tree: &[u8], at: usize, class: Class, levels: usize) -> Result<usize
     ensures answer { result ≡ skipped levels tree.now class at }
     ensures numbers { numbers_skipped result ≡ read_numbers levels tree.now class at }
 {
-    let read = check::read_record(tree, at, class, levels, 0);
-    let Ok((end, _)) = read else {
-        return Err(check::refused_record(read));
-    };
+    let (end, _) = check::read_record(tree, at, class, levels, 0)?;
     Ok(end)
 }
 
@@ -46,10 +45,7 @@ pub fn refused_skip(found: Result<usize, Refusal>) -> Refusal
 {
     match found {
         Err(refusal) => refusal,
-        Ok(place) => Refusal {
-            reason: Reason::TreeLayout,
-            place: place,
-        },
+        Ok(place) => own::layout(place),
     }
 }
 
@@ -57,106 +53,143 @@ pub fn refused_skip(found: Result<usize, Refusal>) -> Refusal
 pub fn trivium_at(tree: &[u8], at: usize) -> Option<TriviumSpan>
     ensures { result ≡ trivium_at tree.now at }
 {
-    let item = own::trivium_end(tree, at);
-    let Some(end) = item else {
-        return None;
-    };
+    let end = own::trivium_end(tree, at)?;
     let code = tree[at];
-    if code == codes::NEWLINE {
-        return Some(TriviumSpan {
-            code: code,
-            start: end,
-            end: end,
-        });
+    let start = if code == codes::NEWLINE { end } else { at + 3 };
+    Some(TriviumSpan { code, start, end })
+}
+
+// Trivia items as the walk reads them: so many from a place on, up to one that breaks the layout.
+#[derive(Clone, Copy, Debug, PartialEq, Eq)]
+pub struct Trivia<'a> {
+    tree: &'a [u8],
+    at: usize,
+    left: usize,
+}
+
+impl<'a> Trivia<'a> {
+    pub fn new(tree: &'a [u8], at: usize, count: usize) -> Self
+        ensures { trivia_left result ≡ spans_at tree.entry.now at count }
+    {
+        Trivia {
+            tree,
+            at,
+            left: count,
+        }
     }
-    Some(TriviumSpan {
-        code: code,
-        start: at + 3,
-        end: end,
-    })
+}
+
+impl<'a> Iterator for Trivia<'a> {
+    type Item = TriviumSpan;
+
+    ghost next_gives = { YieldsFirst trivia_left };
+
+    ghost remaining = { item_count trivia_left };
+
+    fn next(&mut self) -> Option<TriviumSpan> {
+        if self.left == 0 {
+            return None;
+        }
+        let Some(item) = trivium_at(self.tree, self.at) else {
+            self.left = 0;
+            return None;
+        };
+        self.at = item.end;
+        self.left -= 1;
+        Some(item)
+    }
 }
 
 // The class of a record's first field.
 fn first_class(class: Class, kind: Kind) -> Class
     ensures { result ≡ first_class class (fields kind (rule class).value) }
 {
-    let rule = grammar::rule_of(class);
-    let value = rule.value;
-    let row = grammar::row_of(kind, value);
+    let row = grammar::row_of(kind, grammar::rule_of(class).value);
     if row == 0 {
         return class;
     }
     check::slot_class(row % 128)
 }
 
-// The field behind a record that is skipped.
-fn second_field(
-    skipped: Result<usize, Refusal>,
+// The first field of a record whose own bytes were read, as a head.
+fn first_field(class: Class, own: Own, levels: usize) -> Head
+    requires { 0 < levels }
+    ensures { result ≡ first_field levels class own }
+{
+    Head {
+        place: own.end,
+        class: first_class(class, own.kind),
+        levels: levels - 1,
+    }
+}
+
+// The field of a class behind the one of another class at a place.
+fn behind_field(
+    tree: &[u8],
+    at: usize,
+    first: Class,
     class: Class,
     levels: usize,
 ) -> Result<Head, Refusal>
-    ensures { result ≡ second_field levels class skipped }
+    ensures { result ≡ second_field levels class (skipped levels tree.now first at) }
 {
-    let Ok(place) = skipped else {
-        return Err(refused_skip(skipped));
-    };
+    let place = skip(tree, at, first, levels)?;
     Ok(Head {
-        place: place,
-        class: class,
-        levels: levels,
+        place,
+        class,
+        levels,
     })
 }
 
 // The head of a record among its own fields: the second for a `Data` and a binary expression, the first otherwise.
 fn field_head(
     tree: &[u8],
-    number: usize,
+    kind: Kind,
     class: Class,
     own: Own,
     levels: usize,
 ) -> Result<Head, Refusal>
     requires { 0 < levels }
-    ensures { result ≡ field_head levels tree.now class number own }
+    ensures { (number : ℕ) → kind_of number ≡ Some kind → result ≡ field_head levels tree.now class number own }
 {
-    let kind = own.kind;
-    let place = own.end;
-    if number == kinds::DATA {
-        let values = skip(tree, place, Class::ExpressionArguments, levels - 1);
-        return second_field(values, Class::DataSize, levels - 1);
+    let values = Class::ExpressionArguments;
+    match kind {
+        Kind::Data => behind_field(tree, own.end, values, Class::DataSize, levels - 1),
+        Kind::BinaryExpression => {
+            let left = Class::LocatedExpression;
+            behind_field(tree, own.end, Class::BinaryOp, left, levels - 1)
+        }
+        _ => Ok(first_field(class, own, levels)),
     }
-    if number == kinds::BINARY_EXPRESSION {
-        let op = skip(tree, place, Class::BinaryOp, levels - 1);
-        return second_field(op, Class::LocatedExpression, levels - 1);
-    }
-    Ok(Head {
-        place: place,
-        class: first_class(class, kind),
-        levels: levels - 1,
-    })
 }
 
 // The head of a record within a token.
 fn inner_head(tree: &[u8], at: usize, class: Class, levels: usize) -> Result<Head, Refusal>
     ensures { result ≡ inner_head levels tree.now class at }
 {
-    let read = own::read_own(tree, at, class, levels);
-    let Ok(own) = read else {
-        return Err(own::refusal_of(read));
-    };
-    field_head(tree, numbers::wide(tree[at]), class, own, levels)
+    let own = own::read_own(tree, at, class, levels)?;
+    field_head(tree, own.kind, class, own, levels)
 }
 
-// No head, where no record can have been read.
-fn no_head(at: usize) -> Result<Head, Refusal>
-    ensures { result ≡ Err (layout at) }
+// The head of a token of a kind: of a block and of an expression that of what is in it.
+fn token_head(
+    tree: &[u8],
+    kind: Kind,
+    class: Class,
+    own: Own,
+    levels: usize,
+) -> Result<Head, Refusal>
+    requires { 0 < levels }
+    ensures { (at : ℕ) → kind_of (get_or tree.now at 0) ≡ Some kind → result ≡ head_on levels tree.now class at (Ok own) }
 {
-    Err(Refusal {
-        reason: Reason::TreeLayout,
-        place: at,
-    })
+    match kind {
+        Kind::Braces | Kind::Config => inner_head(tree, own.end, Class::BlockRecord, levels - 1),
+        Kind::Expression => inner_head(tree, own.end, Class::BareExpression, levels - 1),
+        _ => field_head(tree, kind, class, own, levels),
+    }
 }
 
-// The head of a token's record whose own bytes were read.
+// The head of a token's record whose own bytes were read. A byte of no kind counts as one of those whose head is the first field.
 pub fn head_behind(
     tree: &[u8],
     at: usize,
@@ -167,20 +200,13 @@ pub fn head_behind(
     ensures answer { result ≡ head_behind levels tree.now class at own }
     ensures numbers { numbers_head result ≡ behind_numbers levels tree.now at own }
 {
-    if levels == 0 {
-        return no_head(at);
+    if levels == 0 || tree.len() <= at {
+        return Err(own::layout(at));
     }
-    if tree.len() <= at {
-        return no_head(at);
+    match Kind::of_byte(tree[at]) {
+        Some(kind) => token_head(tree, kind, class, own, levels),
+        None => Ok(first_field(class, own, levels)),
     }
-    let number = numbers::wide(tree[at]);
-    if number == kinds::BRACES || number == kinds::CONFIG {
-        return inner_head(tree, own.end, Class::BlockRecord, levels - 1);
-    }
-    if number == kinds::EXPRESSION {
-        return inner_head(tree, own.end, Class::BareExpression, levels - 1);
-    }
-    field_head(tree, number, class, own, levels)
 }
 
 // The head of a token's record.
@@ -188,10 +214,7 @@ pub fn head_place(tree: &[u8], at: usize, class: Class, levels: usize) -> Result
     ensures answer { result ≡ head_at levels tree.now class at }
     ensures numbers { numbers_head result ≡ head_numbers levels tree.now class at }
 {
-    let read = own::read_own(tree, at, class, levels);
-    let Ok(own) = read else {
-        return Err(own::refusal_of(read));
-    };
+    let own = own::read_own(tree, at, class, levels)?;
     head_behind(tree, at, class, levels, own)
 }
 
@@ -201,9 +224,6 @@ pub fn refused_head(found: Result<Head, Refusal>) -> Refusal
 {
     match found {
         Err(refusal) => refusal,
-        Ok(head) => Refusal {
-            reason: Reason::TreeLayout,
-            place: head.place,
-        },
+        Ok(head) => own::layout(head.place),
     }
 }

@@ -1,24 +1,31 @@
 -- Each answer is the one that the definition has by what the list's own bytes read as; how many tokens are passed is the lesser of the counts.
-use Rattle.std.specs.Prelude.{Err}
-use mathlib.Core.Path.{ap, ◌∙◌}
-use Rattle.answers.specs.declared.Refusal.{Refusal}
-use Rattle.tree.specs.Own.{refusal_of}
+use Rattle.std.specs.Prelude.{min}
+use mathlib.Core.Path.{◌≡◌, ap, ◌∙◌}
+use mathlib.Core.Bool.{cond}
+use Prim.Native.Nat.{ℕ}
+use lib.Dec.{ltb}
+use native.Mathlib.Omega.{arith}
+use borrow.Author.Tests.{ltb-true, ltb-false}
+use Rattle.text.proofs.Choices.{by_test}
+use Rattle.std.proofs.lemmas.Result.{err_from_is_err_and}
 use Rattle.reader.specs.Tokens.{behind_row}
 use Rattle.reader.proofs.Rows.{list_read, tokens_known}
 use Rattle.reader.proofs.behind_tokens.Goals as goal
 
-pub returns-in_default : goal.returns-in_default
-returns-in_default c =
-    let told = c.in_default.is in
-    let told = tokens_known _ _
-    (ap (λ (why : Refusal). Err why) (c.refusal_of.ensures ∙ ap refusal_of told)
-    ∙ list_read _ _ c.list_head-read.ensures.0 _ told) in
+-- the lesser of two numbers by a test
+lesser : (number other : ℕ) → min number other ≡ cond (ltb other number) other number
+lesser number other = by_test (ltb other number)
+    (λ t. rw t (let less = ltb-true other number t in omega arith))
+    (λ t. rw t (let more = ltb-false other number t in omega arith))
+
+pub returns-in_err-list : goal.returns-in_err-list
+returns-in_err-list c =
+    let p = err_from_is_err_and c.from_residual.result c.from_residual.ensures.1 in
+    let told = tokens_known _ _ (p.1 ∙ rw p.2 (list_read _ _ c.list_head.ensures.0 _ c.in_err-list.was)) in
     record { answer = told.0; numbers = told.1 }
 
 pub returns : goal.returns
 returns c =
     let told = tokens_known _ _
-    (c.behind_row.ensures
-    ∙ (ap (behind_row _ _) c.lesser.ensures
-    ∙ list_read _ _ c.list_head-read.ensures.0 _ c.in-Ok.is)) in
+    (c.behind_row.ensures ∙ ap (behind_row _ _) (c.min.ensures ∙ lesser _ _) ∙ list_read _ _ c.list_head.ensures.0 _ c.in_ok-list.was) in
     record { answer = told.0; numbers = told.1 }

@@ -129,4 +129,4 @@ pub returns-in-SpecificImportArg : goal.returns-in-SpecificImportArg
 returns-in-SpecificImportArg c = rw c.in-SpecificImportArg.is
 
 pub returns-in-ArgItem : goal.returns-in-ArgItem
-returns-in-ArgItem c = rw (c.in-ArgItem.is, c.number_of.ensures.0) (omega arith)
+returns-in-ArgItem c = rw (c.in-ArgItem.is, c.number.ensures.0) (omega arith)

@@ -48,7 +48,7 @@ pub returns-in-AddressingMode : goal.returns-in-AddressingMode
 returns-in-AddressingMode c = c.leaf-in-AddressingMode.ensures ∙ rw c.in-AddressingMode.is
 
 pub returns-in-StringItem : goal.returns-in-StringItem
-returns-in-StringItem c = rw c.in-StringItem.is
+returns-in-StringItem c = rw (c.in-StringItem.is, c.leaf-in-StringItem.ensures)
 
 pub returns-in-LocatedExpression : goal.returns-in-LocatedExpression
 returns-in-LocatedExpression c = c.nodes.ensures ∙ rw c.in-LocatedExpression.is
@@ -81,7 +81,7 @@ pub returns-in-AsRecord : goal.returns-in-AsRecord
 returns-in-AsRecord c = c.nodes-in-AsRecord.ensures ∙ rw c.in-AsRecord.is
 
 pub returns-in-ImportArguments : goal.returns-in-ImportArguments
-returns-in-ImportArguments c = rw c.in-ImportArguments.is
+returns-in-ImportArguments c = rw (c.in-ImportArguments.is, c.nodes-in-ImportArguments.ensures)
 
 pub returns-in-ImportPath : goal.returns-in-ImportPath
 returns-in-ImportPath c = c.nodes-in-ImportPath.ensures ∙ rw c.in-ImportPath.is

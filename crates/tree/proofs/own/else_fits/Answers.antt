@@ -1,9 +1,8 @@
--- Each answer is the definition's disjunction after the test of its left part.
-use borrow.Author.Tests.{eq-eqb, ne_eqb}
+-- An `If` has the number that the definition tests.
+use mathlib.Core.Path.{refl}
+use Rattle.tree.specs.declared.grammar.Kind.TheVariants.{If}
+use Rattle.tree.proofs.KindNumbers.{is_kind}
 use Rattle.tree.proofs.own.else_fits.Goals as goal
 
-pub returns-then-number-ne-IF : goal.returns-then-number-ne-IF
-returns-then-number-ne-IF c = simp (ne_eqb _ _ c.if-number-ne-IF.true)
-
-pub returns : goal.returns
-returns c = simp (eq-eqb _ _ c.if-number-ne-IF.false)
+pub returns-in-If : goal.returns-in-If
+returns-in-If c = λ number known. rw (is_kind number _ known 10 If refl c.in-If.is)

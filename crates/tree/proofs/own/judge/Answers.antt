@@ -1,33 +1,24 @@
 -- Each answer is the one that the definition has after the same tests.
+use mathlib.Core.Path.{sym, ◌∙◌}
 use native.Mathlib.Omega.{arith}
-use Rattle.tree.proofs.OwnReading.{first_alien, first_unknown, first_short, first_unfit, first_fits}
+use lib.ListN.{get_or}
+use Rattle.tree.proofs.OwnReading.{first_alien, first_unknown, first_short, first_fits}
 use Rattle.tree.proofs.own.judge.Goals as goal
 
-pub returns-then-not-may_stand : goal.returns-then-not-may_stand
-returns-then-not-may_stand c = first_alien _ _ _ _ c.may_stand.ensures c.if-not-may_stand.true-raw
+pub returns-in_err-kind-clause-judged : goal.returns-in_err-kind-clause-judged
+returns-in_err-kind-clause-judged c = rw c.from_residual.ensures (first_unknown _ _ _ _ (sym c.of_byte.ensures ∙ c.in_err-kind.was))
 
-pub returns-in_default : goal.returns-in_default
-returns-in_default c =
-    let may = c.may_stand.ensures in
-    let stands = c.if-not-may_stand.false-raw in
-    first_unknown _ _ _ _ may stands c.kind_of-read.ensures c.in_default.is
+pub returns-then-not-may_stand-clause-judged : goal.returns-then-not-may_stand-clause-judged
+returns-then-not-may_stand-clause-judged c =
+    first_alien _ _ _ _ (sym (c.may_stand.ensures _ (sym c.of_byte.ensures ∙ c.in_ok-kind.was)) ∙ c.if-not-may_stand.true)
 
-pub returns-then-tree-at-lt2 : goal.returns-then-tree-at-lt2
-returns-then-tree-at-lt2 c =
-    let may = c.may_stand.ensures in
-    let stands = c.if-not-may_stand.false-raw in
-    first_short _ _ _ _ may stands c.kind_of-read.ensures _ c.in-Some.is (omega arith)
+pub returns-then-tree-at-lt2-clause-judged : goal.returns-then-tree-at-lt2-clause-judged
+returns-then-tree-at-lt2-clause-judged c =
+    let known = sym c.of_byte.ensures ∙ c.in_ok-kind.was in
+    first_short _ _ _ _ _ known (sym (c.may_stand.ensures _ known) ∙ c.if-not-may_stand.false) (omega arith)
 
-pub returns-then-not-map_fits : goal.returns-then-not-map_fits
-returns-then-not-map_fits c =
-    let may = c.may_stand.ensures in
-    let stands = c.if-not-may_stand.false-raw in
-    first_unfit _ _ _ _ may stands c.kind_of-read.ensures _ c.in-Some.is (omega arith)
-    c.wide-map.ensures.0 c.map_fits.ensures c.if-not-map_fits.true-raw
-
-pub returns : goal.returns
-returns c =
-    let may = c.may_stand.ensures in
-    let stands = c.if-not-may_stand.false-raw in
-    first_fits _ _ _ _ may stands c.kind_of-read.ensures _ c.in-Some.is (omega arith)
-    c.wide-map.ensures.0 c.map_fits.ensures c.if-not-map_fits.false-raw
+pub returns-clause-judged : goal.returns-clause-judged
+returns-clause-judged c =
+    let known = sym c.of_byte.ensures ∙ c.in_ok-kind.was in
+    rw (c.then_some.ensures, c.map_fits.ensures (get_or c.args.tree.now c.args.at 0) known, c.wide-map.ensures.0)
+    (first_fits _ _ _ _ _ known (sym (c.may_stand.ensures _ known) ∙ c.if-not-may_stand.false) (omega arith))

@@ -1,15 +1,30 @@
--- Each answer is the one that the definition has after the same tests.
-use borrow.Author.Tests.{eq-eqb, ne_eqb, le-leb, lt-leb}
+-- A list has the number that the definition tests; any other kind lies between the bounds by its number.
+use Rattle.std.specs.Prelude.{Option, Some, None, is_some}
+use mathlib.Core.Path.{◌≡◌, refl, ◌∙◌}
+use borrow.Author.Tests.{le-leb, lt-leb}
+use Rattle.tree.specs.Own.{is_list}
+use Rattle.tree.specs.declared.grammar.Class.{Class}
+use Rattle.tree.specs.declared.grammar.Kind.TheVariants.{Vec}
+use Rattle.tree.proofs.KindNumbers.{kind_at, is_kind, no_kind}
 use Rattle.tree.proofs.own.may_stand.Goals as goal
 
-pub returns-in-Some : goal.returns-in-Some
-returns-in-Some c = simp (eq-eqb _ _ c.if-number-eq-VEC.true, c.in-Some.is)
+-- a class of lists has items
+listed : (items : Option Class) → is_some items ≡ is_list items
+listed None = refl
+listed (Some class) = refl
 
-pub returns-then-number-eq-VEC : goal.returns-then-number-eq-VEC
-returns-then-number-eq-VEC c = simp (eq-eqb _ _ c.if-number-eq-VEC.true, c.in_default.is)
+pub returns-in-Vec : goal.returns-in-Vec
+returns-in-Vec c = λ number known. rw (is_kind number _ known 24 Vec refl c.in-Vec.is) (c.is_some.ensures ∙ listed _)
 
-pub returns-then-number-rule : goal.returns-then-number-rule
-returns-then-number-rule c = simp (ne_eqb _ _ c.if-number-eq-VEC.false, lt-leb _ _ c.if-number-rule.true)
+pub returns-then-rule-number : goal.returns-then-rule-number
+returns-then-rule-number c = λ number known.
+    rw (
+      no_kind number _ known 24 Vec refl c.in_default.not-Vec,
+      kind_at number _ known c.number.result c.number.ensures,
+      le-leb _ _ c.if-rule-number.true,
+      kind_at c.number.result _ c.number.ensures c.number-then-rule-number.result c.number-then-rule-number.ensures,
+    )
 
-pub returns : goal.returns
-returns c = simp (ne_eqb _ _ c.if-number-eq-VEC.false, le-leb _ _ c.if-number-rule.false)
+pub returns-else-rule-number : goal.returns-else-rule-number
+returns-else-rule-number c = λ number known.
+    rw (no_kind number _ known 24 Vec refl c.in_default.not-Vec, kind_at number _ known c.number.result c.number.ensures, lt-leb _ _ c.if-rule-number.false)

@@ -2,37 +2,30 @@
 use mathlib.Core.Path.{sym, ◌∙◌}
 use native.Mathlib.Omega.{arith}
 use Rattle.tree.proofs.OwnBytes.{text_held}
-use Rattle.tree.proofs.Spans.{read_inside}
-use Rattle.tree.proofs.OwnReading.{rest_list, rest_leaf, rest_none}
+use Rattle.tree.proofs.OwnReading.{rest_list, rest_leaf, rest_bare, rest_none}
 use Rattle.tree.proofs.own.read_rest.Goals as goal
 
+pub returns-in_err-count-in-Vec : goal.returns-in_err-count-in-Vec
+returns-in_err-count-in-Vec c = λ at number known.
+    rw c.from_residual.ensures (rest_list _ at _ _ _ _ number known c.in-Vec.is _ (sym c.read_number.ensures ∙ c.in_err-count-in-Vec.was))
+
+pub returns-in_ok-count-in-Vec : goal.returns-in_ok-count-in-Vec
+returns-in_ok-count-in-Vec c = λ at number known. rest_list _ at _ _ _ _ number known c.in-Vec.is _ (sym c.read_number.ensures ∙ c.in_ok-count-in-Vec.was)
+
+pub returns-in_err-end-in-Leaf : goal.returns-in_err-end-in-Leaf
+returns-in_err-end-in-Leaf c = λ at number known.
+    rw c.from_residual-in_err-end-in-Leaf.ensures (rest_leaf _ at _ _ _ _ number known c.in-Leaf.is c.if-map-lt2.false _ (sym c.text_end.ensures ∙ c.in_err-end-in-Leaf.was))
+
+pub overflow_add-result-in-Leaf : goal.overflow_add-result-in-Leaf
+overflow_add-result-in-Leaf c = omega (arith, text_held c.args.tree.now c.args.trivia.end _ c.args.text (sym c.text_end.ensures ∙ c.in_ok-end-in-Leaf.was))
+
+pub returns-in_ok-end-in-Leaf : goal.returns-in_ok-end-in-Leaf
+returns-in_ok-end-in-Leaf c = λ at number known.
+    rest_leaf _ at _ _ _ _ number known c.in-Leaf.is c.if-map-lt2.false _ (sym c.text_end.ensures ∙ c.in_ok-end-in-Leaf.was)
+
+pub returns-then-map-lt2 : goal.returns-then-map-lt2
+returns-then-map-lt2 c = λ at number known. rest_bare _ at _ _ _ _ number known c.in-Leaf.is c.if-map-lt2.true
+
 pub returns-in_default : goal.returns-in_default
-returns-in_default c = λ at kind. rest_list _ at _ _ kind _ _ c.if-number-eq-VEC.true c.read_number-read.ensures _ c.in_default.is
-
-pub overflow_add-result : goal.overflow_add-result
-overflow_add-result c =
-    omega (arith, read_inside c.args.tree.now c.args.trivia.end c.read_number-read.ensures _ c.in-Some.is)
-
-pub overflow_add-result-then-number-eq-VEC : goal.overflow_add-result-then-number-eq-VEC
-overflow_add-result-then-number-eq-VEC c =
-    omega (arith, read_inside c.args.tree.now c.args.trivia.end c.read_number-read.ensures _ c.in-Some.is)
-
-pub returns-then-number-eq-VEC : goal.returns-then-number-eq-VEC
-returns-then-number-eq-VEC c = λ at kind. rest_list _ at _ _ kind _ _ c.if-number-eq-VEC.true c.read_number-read.ensures _ c.in-Some.is
-
-pub returns-in_default-span : goal.returns-in_default-span
-returns-in_default-span c =
-    λ at kind.
-    rest_leaf _ at _ _ kind _ _ c.if-number-eq-VEC.false c.has_text.ensures c.if-has_text.true c.text_end-span.ensures _ c.in_default-span.is
-
-pub overflow_add-result-then-has_text : goal.overflow_add-result-then-has_text
-overflow_add-result-then-has_text c =
-    omega (arith, text_held c.args.tree.now c.args.trivia.end _ c.args.text (sym c.text_end-span.ensures ∙ c.in-Some-span.is))
-
-pub returns-then-has_text : goal.returns-then-has_text
-returns-then-has_text c =
-    λ at kind.
-    rest_leaf _ at _ _ kind _ _ c.if-number-eq-VEC.false c.has_text.ensures c.if-has_text.true c.text_end-span.ensures _ c.in-Some-span.is
-
-pub returns : goal.returns
-returns c = λ at kind. rest_none _ at _ _ kind _ _ c.if-number-eq-VEC.false c.has_text.ensures c.if-has_text.false
+returns-in_default c = λ at number known.
+    rest_none _ at _ _ _ _ number known c.in_default.not-Vec c.in_default.not-Leaf c.in_default.not-PathItem

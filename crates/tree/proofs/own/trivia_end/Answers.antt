@@ -1,24 +1,20 @@
--- The loop's invariant: what is left of the items ends where all of them do. The measure is how many are left.
-use mathlib.Core.Path.{refl, sym, ◌∙◌}
+-- The loop's invariant: what is left of the items ends where all of them do.
+use Prim.Native.Nat.{◌+◌, ◌-◌}
+use mathlib.Core.Path.{◌≡◌, sym, ◌∙◌}
+use native.Mathlib.Omega.{arith}
 use Rattle.tree.proofs.Spans.{trivia_none, trivia_next}
 use Rattle.tree.proofs.own.trivia_end.Goals as goal
 
-pub loop-left-init : goal.loop-left-init
-loop-left-init c = refl
+pub returns-in_err-place : goal.returns-in_err-place
+returns-in_err-place c =
+    rw c.from_residual.ensures
+    (sym (c.loop.invariant ∙ trivia_next _ _ (c.args.count - c.loop.counter) (omega arith) c.trivium_end.ensures _ c.in_err-place.was))
 
-pub trivium_end-item-requires : goal.trivium_end-item-requires
-trivium_end-item-requires c = tt
-
-pub returns-in_default : goal.returns-in_default
-returns-in_default c =
-    sym
-    (c.loop-left.invariant
-    ∙ trivia_next _ _ _ c.loop-left-test.true c.trivium_end-item.ensures _ c.in_default.is)
-
-pub loop-left-preserved : goal.loop-left-preserved
-loop-left-preserved c =
-    c.loop-left.invariant
-    ∙ trivia_next _ _ _ c.loop-left-test.true c.trivium_end-item.ensures _ c.in-Some.is
+pub loop-preserved : goal.loop-preserved
+loop-preserved c =
+    let left : c.args.count - c.loop.counter - 1 ≡ c.args.count - (c.loop.counter + 1) = omega arith in
+    c.loop.invariant
+    ∙ rw left at (trivia_next _ _ (c.args.count - c.loop.counter) (omega arith) c.trivium_end.ensures _ c.in_ok-place.was)
 
 pub returns : goal.returns
-returns c = sym (c.loop-left.invariant ∙ trivia_none _ _ _ c.loop-left-test.false)
+returns c = sym (c.loop.invariant ∙ trivia_none _ _ _ (omega arith))

@@ -1,12 +1,15 @@
--- Each answer is the definition's disjunction after the tests that led to it.
-use borrow.Author.Tests.{eq-eqb, ne_eqb}
+-- A path item has the number that the definition tests.
+use mathlib.Core.Path.{◌≡◌, refl}
+use mathlib.Core.Bool.{Bool, true, false, ◌||◌}
+use Rattle.tree.specs.declared.grammar.Kind.TheVariants.{PathItem}
+use Rattle.tree.proofs.KindNumbers.{is_kind}
 use Rattle.tree.proofs.own.trivia_fits.Goals as goal
 
-pub returns-then-map-eq0 : goal.returns-then-map-eq0
-returns-then-map-eq0 c = simp (eq-eqb _ _ c.if-map-eq0.true)
+-- a disjunction whose last part holds
+last : (a b : Bool) → true ≡ (a || (b || true))
+last true b = refl
+last false true = refl
+last false false = refl
 
-pub returns-then-rule : goal.returns-then-rule
-returns-then-rule c = simp (ne_eqb _ _ c.if-map-eq0.false, c.if-rule.true)
-
-pub returns : goal.returns
-returns c = simp (ne_eqb _ _ c.if-map-eq0.false, c.if-rule.false)
+pub returns-in-PathItem : goal.returns-in-PathItem
+returns-in-PathItem c = λ number known. rw (is_kind number _ known 26 PathItem refl c.in-PathItem.is) (last _ _)

@@ -1,19 +1,23 @@
--- The same tests as the definition's.
-use mathlib.Core.Path.{ap, ◌∙◌}
-use borrow.Author.Tests.{eq-eqb, ne_eqb}
-use Rattle.tree.specs.Parts.{second_field, field_head}
+-- The same tests as the definition's, by the kind instead of its number.
+use mathlib.Core.Path.{refl, ap}
+use Rattle.std.specs.Prelude.{Ok}
+use Rattle.tree.specs.Parts.{field_head}
+use Rattle.tree.specs.declared.grammar.Kind.TheVariants.{Data, BinaryExpression}
+use Rattle.tree.specs.declared.parts.Head.{Head}
+use Rattle.tree.proofs.KindNumbers.{kind_moved, no_kind}
 use Rattle.tree.proofs.parts.field_head.Goals as goal
 
-pub returns-then-number-eq-DATA : goal.returns-then-number-eq-DATA
+pub returns-in-Data : goal.returns-in-Data
 unfolding field_head
-returns-then-number-eq-DATA c = simp (eq-eqb _ _ c.if-number-eq-DATA.true) (c.second_field.ensures ∙ ap (second_field _ _) c.skip-values.ensures.answer)
+returns-in-Data c = λ number known. rw (kind_moved number _ known 5 Data refl c.in-Data.is) c.behind_field.ensures
 
-pub returns-then-number-eq-BINARY_EXPRESSION : goal.returns-then-number-eq-BINARY_EXPRESSION
+pub returns-in-BinaryExpression : goal.returns-in-BinaryExpression
 unfolding field_head
-returns-then-number-eq-BINARY_EXPRESSION c =
-    simp (ne_eqb _ _ c.if-number-eq-DATA.false, eq-eqb _ _ c.if-number-eq-BINARY_EXPRESSION.true)
-    (c.second_field-then-number-eq-BINARY_EXPRESSION.ensures ∙ ap (second_field _ _) c.skip-op.ensures.answer)
+returns-in-BinaryExpression c = λ number known.
+    rw (kind_moved number _ known 28 BinaryExpression refl c.in-BinaryExpression.is) c.behind_field-in-BinaryExpression.ensures
 
-pub returns : goal.returns
+pub returns-in_default : goal.returns-in_default
 unfolding field_head
-returns c = simp (ne_eqb _ _ c.if-number-eq-DATA.false, ne_eqb _ _ c.if-number-eq-BINARY_EXPRESSION.false, c.first_class.ensures)
+returns-in_default c = λ number known.
+    rw (no_kind number _ known 5 Data refl c.in_default.not-Data, no_kind number _ known 28 BinaryExpression refl c.in_default.not-BinaryExpression)
+    (ap (λ (head : Head). Ok head) c.first_field.ensures)

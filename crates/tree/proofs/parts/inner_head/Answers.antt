@@ -1,26 +1,22 @@
 -- Own bytes that were not read are the refusal; the fields of those that were are walked.
-use Rattle.std.specs.Prelude.{Err}
-use mathlib.Core.Path.{ap, ◌∙◌}
-use native.Mathlib.Omega.{arith}
-use Rattle.answers.specs.declared.Refusal.{Refusal}
-use Rattle.tree.specs.Own.{refusal_of}
+use mathlib.Core.Path.{sym, ◌∙◌}
+use Rattle.std.proofs.lemmas.Result.{err_from_is_err_and}
+use Rattle.tree.specs.Parts.{inner_head}
 use Rattle.tree.proofs.Records.{level_left}
-use Rattle.tree.proofs.Heads.{own_inside, inner_refused, inner_field}
+use Rattle.tree.proofs.Heads.{kind_read}
 use Rattle.tree.proofs.parts.inner_head.Goals as goal
 
-pub returns-in_default : goal.returns-in_default
-returns-in_default c =
-    let told = c.in_default.is in
-    ap (λ (why : Refusal). Err why) (c.refusal_of.ensures ∙ ap refusal_of told)
-    ∙ inner_refused _ _ _ _ _ c.read_own-read.ensures.answer _ told
-
-pub bounds-tree-at : goal.bounds-tree-at
-bounds-tree-at c = omega (arith, own_inside _ _ _ _ c.read_own-read.ensures.fits c.in-Ok.is)
+pub returns-in_err-own : goal.returns-in_err-own
+unfolding inner_head
+returns-in_err-own c =
+    let p = err_from_is_err_and c.from_residual.result c.from_residual.ensures.1 in
+    rw (p.1, p.2, sym c.read_own.ensures.answer ∙ c.in_err-own.was)
 
 pub field_head-requires : goal.field_head-requires
-field_head-requires c = level_left _ _ _ _ _ c.read_own-read.ensures.answer _ c.in-Ok.is
+field_head-requires c = level_left _ _ _ _ _ c.read_own.ensures.answer _ c.in_ok-own.was
 
 pub returns : goal.returns
+unfolding inner_head
 returns c =
-    inner_field _ _ _ _ _ c.read_own-read.ensures.answer _ c.in-Ok.is _ c.wide.ensures.0 _
-    c.field_head.ensures
+    let read = sym c.read_own.ensures.answer ∙ c.in_ok-own.was in
+    rw read (c.field_head.ensures _ (kind_read _ _ _ _ _ read))

@@ -1,0 +1,43 @@
+-- A kind and the number that is its first byte: each tells the other.
+use Rattle.std.specs.Prelude.{Option, Some, None}
+use mathlib.Core.Path.{◌≡◌, refl, sym, ap, ◌∙◌}
+use mathlib.Core.Bool.{true, false, ◌||◌}
+use mathlib.Core.Logic.{◌⊎◌, ⊎_elim}
+use Prim.Native.Nat.{ℕ}
+use lib.Dec.{eqb}
+use borrow.Author.Tests.{eq-eqb, ne_eqb}
+use Rattle.tree.specs.Grammar.{kind_of}
+use Rattle.tree.specs.declared.grammar.Kind.{Kind}
+use Rattle.tree.specs.declared.grammar.Kind.TheVariants.{Vec, Leaf, PathItem}
+use Rattle.tree.proofs.KindLayout.{kind_number_lem}
+
+module _ (number : ℕ) (kind : Kind) (known : kind_of number ≡ Some kind) where
+  -- a kind has one number
+  pub kind_at : (place : ℕ) → kind_of place ≡ Some kind → number ≡ place
+  kind_at place is = sym (kind_number_lem number kind known) ∙ kind_number_lem place kind is
+
+  -- the kind's number is another's where the kind is
+  pub kind_moved : (place : ℕ) (other : Kind) → kind_of place ≡ Some other → kind ≡ other → number ≡ place
+  kind_moved place other is same = kind_at place (is ∙ ap (λ (kind : Kind). Some kind) (sym same))
+
+  -- the test of the number of a kind that is the other
+  pub is_kind : (place : ℕ) (other : Kind) → kind_of place ≡ Some other → kind ≡ other → eqb number place ≡ true
+  is_kind place other is same = eq-eqb _ _ (kind_moved place other is same)
+
+  -- and of one that is not
+  pub no_kind : (place : ℕ) (other : Kind) → kind_of place ≡ Some other → (kind ≡ other → ⊥) → eqb number place ≡ false
+  no_kind place other is different =
+      ne_eqb _ _ (λ same. different (let here : Some kind ≡ Some other = sym known ∙ ap kind_of same ∙ is in cc))
+
+  -- a leaf and a path item have the numbers of records with a text
+  pub texted : (kind ≡ Leaf) ⊎ (kind ≡ PathItem) → (eqb number 24 ≡ false) × ((eqb number 25 || eqb number 26) ≡ true)
+  texted = ⊎_elim (λ leaf. rw (kind_moved 25 Leaf refl leaf) (refl, refl)) (λ path. rw (kind_moved 26 PathItem refl path) (refl, refl))
+
+  -- no other has
+  pub untexted : (kind ≡ Leaf → ⊥) → (kind ≡ PathItem → ⊥) → (eqb number 25 || eqb number 26) ≡ false
+  untexted leaf path = rw (no_kind 25 Leaf refl leaf, no_kind 26 PathItem refl path)
+
+-- a byte of no kind is no kind's number
+pub none_at : (number : ℕ) → kind_of number ≡ None → (place : ℕ) (other : Kind) → kind_of place ≡ Some other → eqb number place ≡ false
+none_at number none place other is =
+    ne_eqb _ _ (λ same. let z : None ≡ Some other = sym none ∙ ap kind_of same ∙ is in cc)
