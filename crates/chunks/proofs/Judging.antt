@@ -1,27 +1,27 @@
 -- Laws of judging a stored list chunk by chunk.
-use Rattle.std.specs.Prelude.{Option, Some, None, Err}
-use Rattle.answers.specs.Numbers.{no_refusal, Checked}
+use Rattle.std.specs.Prelude.{Some, None, Err, fold, All}
+use Rattle.answers.specs.Numbers.{no_refusal}
 use mathlib.Core.Path.{◌≡◌, refl, sym, ap, ◌∙◌}
 use mathlib.Core.List.{List, [], ◌∷◌, map}
-use mathlib.Core.Bool.{true, cond}
+use mathlib.Core.Bool.{true}
 use Prim.Native.Nat.{ℕ, ◌+◌, ◌≤◌, ◌<◌}
 use native.Mathlib.Omega.{arith}
 use lib.ListN.{length}
+use Rattle.std.proofs.lemmas.List.Elements.{All-head, All-tail}
 use lib.Seq.{slice, length-slice}
 use lib.Dec.{eqb, ltb}
-use borrow.Author.Tests.{le-leb, lt-ltb, le-ltb, eq-eqb, ne_eqb, ltb-false, eqb-true}
+use borrow.Author.Tests.{lt-ltb, le-ltb, eq-eqb, ne_eqb, ltb-false, eqb-true}
 use Rattle.answers.specs.declared.Reason.TheVariants.{ChunkLayout, NotAscii}
 use Rattle.answers.proofs.Cases.{failed_passed}
-use Rattle.text.specs.Numbers.{number_at}
 use Rattle.text.specs.Accepted.{accepted_text, fault_at}
 use Rattle.text.proofs.Choices.{by_test}
 use Rattle.text.proofs.Accepted.{fault_none, fault_some, accepted_part}
-use Rattle.chunks.specs.Stored.{AllAccepted}
-use Rattle.chunks.specs.Reading.{text_at, chunk_at, stored_chunks, chunk_of, ChunkFits}
+use Rattle.chunks.specs.Stored.{AllAccepted, Bytes}
+use Rattle.chunks.specs.Reading.{chunk_at, stored_chunks, chunk_of}
 use Rattle.chunks.specs.Judging.{end_from, layout_checked, texts_checked, chunks_checked}
-use Rattle.chunks.specs.Steps.{first_fault, Plain, end_on}
+use Rattle.chunks.specs.Steps.{ChunkInside}
 use Rattle.chunks.specs.declared.stored.StoredChunk.{StoredChunk}
-use Rattle.chunks.proofs.Reading.{chunk_plain, LaidAs, chunk_laid, chunks_found, chunks_none, chunk_end}
+use Rattle.chunks.proofs.Reading.{chunks_found, chunks_none, chunks_inside}
 
 -- ---- from one chunk to the next
 
@@ -36,66 +36,64 @@ pub end_none : (list : List ℕ) (at : ℕ) → chunk_at list at ≡ None → en
 unfolding end_from
 end_none list at e = ap (end_from at) (chunks_none list at e)
 
--- refusal 7 at a place
-abbrev not_ascii : ℕ → Checked
-not_ascii place = Err (record { reason = NotAscii; place = place })
+-- where the chunks end as a fold
+pub end_folded : (at : ℕ) (chunks : List StoredChunk) → fold (λ (place : ℕ) (chunk : StoredChunk). chunk.end) at chunks ≡ end_from at chunks
+unfolding end_from
+end_folded at [] = refl
+end_folded at (chunk ∷ chunks) = end_folded chunk.end chunks
 
--- the texts are judged by the first, and then by those behind it
-texts_found : (list : List ℕ) (at : ℕ) (chunk : StoredChunk) → chunk_at list at ≡ Some chunk
-    → texts_checked list (stored_chunks list at) ≡ cond (accepted_text (slice chunk.start chunk.end list)) (texts_checked list (stored_chunks list chunk.end))
-    (not_ascii (chunk.start + fault_at (slice chunk.start chunk.end list)))
+-- the first text is judged before those behind it: by its first bad byte
+pub text_bad : (list : List ℕ) (chunk : StoredChunk) (chunks : List StoredChunk) {fault : ℕ} → ChunkInside list chunk → fault ≡ chunk.start + fault_at (slice chunk.start chunk.end list)
+    → fault < chunk.end → texts_checked list (chunk ∷ chunks) ≡ Err (record { reason = NotAscii; place = fault })
 unfolding texts_checked
-texts_found list at chunk e = ap (texts_checked list) (chunks_found list at chunk e)
-
--- no text is refused
-texts_none : (list : List ℕ) (at : ℕ) → chunk_at list at ≡ None → texts_checked list (stored_chunks list at) ≡ no_refusal
-unfolding texts_checked
-texts_none list at e = ap (texts_checked list) (chunks_none list at e)
-
--- ---- the place of the first bad byte, carried on
-
--- refusal 7 where a bad byte was found, else the judgement of the rest
-abbrev judged : List ℕ → ℕ → Checked → Checked
-judged list fault rest = cond (ltb fault (length list)) (not_ascii fault) rest
-
--- the text of a chunk is judged by carrying the place on
-fault_on : (list : List ℕ) (at : ℕ) (chunk : StoredChunk) (fault : ℕ) (rest : Checked) → ChunkFits list at chunk
-    → judged list fault (cond (accepted_text (slice chunk.start chunk.end list)) rest (not_ascii (chunk.start + fault_at (slice chunk.start chunk.end list))))
-    ≡ judged list (first_fault list chunk.start chunk.end fault) rest
-fault_on list at chunk fault rest fit =
+text_bad list chunk chunks inside found before =
     let text = slice chunk.start chunk.end list in
-    let long = length-slice chunk.start chunk.end list fit.inside in
-    by_test (ltb fault (length list))
-    (λ known. rw (known, known))
-    (λ none. by_test (accepted_text text)
-    (λ good.
-    let end : chunk.end ≤ chunk.start + fault_at text = omega (arith, fault_none text good) in
-    rw (none, good, le-ltb _ _ end, none))
-    (λ bad.
-    let before : chunk.start + fault_at text < chunk.end = omega (arith, fault_some text bad) in
-    let inside : chunk.start + fault_at text < length list = omega arith in
-    rw (none, bad, lt-ltb _ _ before, lt-ltb _ _ inside)))
+    let long = length-slice chunk.start chunk.end list inside.end in
+    by_test (accepted_text text)
+    (λ good. absurd (omega (arith, fault_none text good)))
+    (λ bad. rw (bad, found))
 
--- ---- what holds before each turn of the pass
+-- or by those behind it
+pub text_good : (list : List ℕ) (chunk : StoredChunk) (chunks : List StoredChunk) {fault : ℕ} → ChunkInside list chunk → fault ≡ chunk.start + fault_at (slice chunk.start chunk.end list)
+    → chunk.end ≤ fault → texts_checked list (chunk ∷ chunks) ≡ texts_checked list chunks
+unfolding texts_checked
+text_good list chunk chunks inside found past =
+    let text = slice chunk.start chunk.end list in
+    let long = length-slice chunk.start chunk.end list inside.end in
+    by_test (accepted_text text)
+    (λ good. rw good)
+    (λ bad. absurd (omega (arith, fault_some text bad)))
 
--- the judgements of the whole list are those of what is left, and of the bad byte that was found
-pub record Going (list : List ℕ) (at fault : ℕ) : Type 0 where
-  pub within : at ≤ length list
-  pub ends : end_from 0 (stored_chunks list 0) ≡ end_from at (stored_chunks list at)
-  pub texts : texts_checked list (stored_chunks list 0) ≡ judged list fault (texts_checked list (stored_chunks list at))
+-- the texts that are left are judged as all are, and lie within the list
+pub record Going (list : List ℕ) (left : List StoredChunk) : Type 0 where
+  pub texts : texts_checked list (stored_chunks list 0) ≡ texts_checked list left
+  pub inside : All (ChunkInside list) left
 
--- at the start all is left
-pub going_first : (list : List ℕ) → Going list 0 (length list)
-going_first list = record { within = omega arith; ends = refl; texts = rw (le-ltb (length list) (length list) (omega arith)) }
+-- at the start all are left
+pub going_first : (list : List ℕ) → Bytes list → Going list (stored_chunks list 0)
+going_first list bytes = record { texts = refl; inside = chunks_inside list 0 bytes }
 
--- a turn takes one chunk
-pub going_on : (list : List ℕ) (at fault : ℕ) (chunk : StoredChunk) → Going list at fault → chunk_at list at ≡ Some chunk → ChunkFits list at chunk
-    → Going list chunk.end (first_fault list chunk.start chunk.end fault)
-going_on list at fault chunk going e fit = record {
-  within = fit.inside;
-  ends = going.ends ∙ end_found list at chunk e;
-  texts = going.texts ∙ ap (judged list fault) (texts_found list at chunk e) ∙ fault_on list at chunk fault (texts_checked list (stored_chunks list chunk.end)) fit;
-}
+module _ {list : List ℕ} {left : List StoredChunk} {chunk : StoredChunk} {chunks : List StoredChunk} (going : Going list left) (first : left ≡ chunk ∷ chunks) where
+  -- the first of those that are left lies within the list
+  pub going_inside : ChunkInside list chunk
+  going_inside = All-head (ChunkInside list) chunk chunks (rw first at going.inside)
+
+  -- it is refused by its first bad byte
+  pub going_bad : {fault : ℕ} → fault ≡ chunk.start + fault_at (slice chunk.start chunk.end list) → fault < chunk.end
+      → texts_checked list (stored_chunks list 0) ≡ Err (record { reason = NotAscii; place = fault })
+  going_bad found before = rw (going.texts, first) (text_bad list chunk chunks going_inside found before)
+
+  -- or else the others are judged
+  pub going_on : {fault : ℕ} → fault ≡ chunk.start + fault_at (slice chunk.start chunk.end list) → chunk.end ≤ fault → Going list chunks
+  going_on found past = record {
+    texts = going.texts ∙ rw first (text_good list chunk chunks going_inside found past);
+    inside = All-tail (ChunkInside list) chunk chunks (rw first at going.inside);
+  }
+
+-- where none is left all are passed
+pub going_none : {list : List ℕ} {left : List StoredChunk} → Going list left → left ≡ [] → texts_checked list (stored_chunks list 0) ≡ no_refusal
+unfolding texts_checked
+going_none going none = rw (going.texts, none)
 
 -- ---- the answers
 
@@ -104,87 +102,22 @@ pub too_long : (list : List ℕ) → 1048576 < length list → chunks_checked li
 unfolding chunks_checked layout_checked
 too_long list long = rw (lt-ltb _ _ long)
 
-module _ (list : List ℕ) (at fault : ℕ) (short : length list ≤ 1048576) (going : Going list at fault) where
-  -- a place before the end where there is no chunk
-  pub bad_chunk : at < length list → chunk_at list at ≡ None → chunks_checked list ≡ Err (record { reason = ChunkLayout; place = at })
-  unfolding chunks_checked layout_checked
-  bad_chunk inside e =
-      rw (le-ltb _ _ short, going.ends ∙ end_none list at e, ne_eqb at (length list) (λ same. omega arith))
+-- then whether the chunks end with the list
+pub layout_failed : (list : List ℕ) {end : ℕ} → length list ≤ 1048576 → end ≡ end_from 0 (stored_chunks list 0) → (end ≡ length list → ⊥)
+    → chunks_checked list ≡ Err (record { reason = ChunkLayout; place = end })
+unfolding chunks_checked layout_checked
+layout_failed list short ends other = rw (le-ltb _ _ short, ← ends, ne_eqb _ _ other)
 
-  -- the end, where only the texts are left to be judged
-  whole : length list ≤ at → chunks_checked list ≡ judged list fault no_refusal
-  unfolding chunks_checked layout_checked
-  whole done =
-      let last = chunk_end list at done in
-      let all : at ≡ length list = omega (arith, going.within) in
-      rw (le-ltb _ _ short, going.ends ∙ end_none list at last, eq-eqb _ _ all, going.texts, texts_none list at last)
+-- and then the texts
+pub judged_texts : (list : List ℕ) → length list ≤ 1048576 → end_from 0 (stored_chunks list 0) ≡ length list → chunks_checked list ≡ texts_checked list (stored_chunks list 0)
+unfolding chunks_checked layout_checked
+judged_texts list short end = rw (le-ltb _ _ short, eq-eqb _ _ end)
 
-  -- a bad byte was found
-  pub bad_byte : length list ≤ at → fault < length list → chunks_checked list ≡ not_ascii fault
-  bad_byte done found = whole done ∙ rw (lt-ltb _ _ found)
-
-  -- or none
-  pub all_good : length list ≤ at → length list ≤ fault → chunks_checked list ≡ no_refusal
-  all_good done none = whole done ∙ rw (le-ltb _ _ none)
-
--- ---- a list of accepted bytes, of which only the layout is judged
-
--- a chunk without indent ends with its text
-pub plain_end : (list : List ℕ) (at : ℕ) → Plain list at → end_on at (chunk_at list at) ≡ at + 3 + number_at list (at + 1)
-unfolding text_at
-plain_end list at plain =
-    let text = chunk_plain list at (omega (arith, plain.head)) refl (omega (arith, plain.map)) (λ both. omega (arith, plain.map)) (omega (arith, plain.map)) in
-    rw (
-      text,
-      le-leb (at + 1 + 2) (length list) (omega (arith, plain.head)),
-      ne_eqb (number_at list (at + 1)) 0 plain.some,
-      le-ltb (length list) (at + 1 + 2 + number_at list (at + 1)) (omega (arith, plain.enough)),
-    )
-    (omega arith)
-
--- a place that the chunks from the start on lead to
-pub record Ending (list : List ℕ) (at : ℕ) : Type 0 where
-  pub within : at ≤ length list
-  pub ends : end_from 0 (stored_chunks list 0) ≡ end_from at (stored_chunks list at)
-
--- from there to the end of the chunk there
-pub ending_on : {list : List ℕ} {at end : ℕ} → Ending list at → end ≡ end_on at (chunk_at list at) → (end ≡ at → ⊥) → Ending list end × (at < end)
-ending_on {list} {at} {end} ending e other = by_found (chunk_at list at) refl (chunk_laid list at)
-  where
-    by_found : (found : Option StoredChunk) → chunk_at list at ≡ found → LaidAs list at found → Ending list end × (at < end)
-    by_found (Some chunk) f laid =
-        let there : end ≡ chunk.end = e ∙ ap (end_on at) f in
-        (rw there (record { within = laid.inside; ends = ending.ends ∙ end_found list at chunk f }), omega (arith, laid.start, laid.some))
-    by_found None f laid = absurd (other (e ∙ ap (end_on at) f))
-
--- where there is no chunk they end
-pub ending_none : {list : List ℕ} {at : ℕ} → Ending list at → at ≡ end_on at (chunk_at list at) → at ≡ end_from 0 (stored_chunks list 0)
-ending_none {list} {at} ending e = by_found (chunk_at list at) refl (chunk_laid list at)
-  where
-    by_found : (found : Option StoredChunk) → chunk_at list at ≡ found → LaidAs list at found → at ≡ end_from 0 (stored_chunks list 0)
-    by_found (Some chunk) f laid = absurd (omega (arith, e ∙ ap (end_on at) f, laid.start, laid.some))
-    by_found None f laid = sym (ending.ends ∙ end_none list at f)
-
--- and at the list's end
-pub ending_all : {list : List ℕ} {at : ℕ} → Ending list at → length list ≤ at → at ≡ end_from 0 (stored_chunks list 0)
-ending_all {list} {at} ending done = sym (ending.ends ∙ end_none list at (chunk_end list at done))
-
--- no text of such a list is refused
-texts_all : (list : List ℕ) (chunks : List StoredChunk) → accepted_text list ≡ true → texts_checked list chunks ≡ no_refusal
+-- of which none is refused where the whole list is accepted
+pub texts_all : (list : List ℕ) (chunks : List StoredChunk) → accepted_text list ≡ true → texts_checked list chunks ≡ no_refusal
 unfolding texts_checked
 texts_all list [] e = refl
 texts_all list (chunk ∷ chunks) e = rw (accepted_part chunk.start chunk.end list e) (texts_all list chunks e)
-
-module _ (list : List ℕ) (short : length list ≤ 1048576) (accepted : accepted_text list ≡ true) {end : ℕ} (ends : end ≡ end_from 0 (stored_chunks list 0)) where
-  -- it is passed where its chunks end with it
-  pub layout_passed : end ≡ length list → chunks_checked list ≡ no_refusal
-  unfolding chunks_checked layout_checked
-  layout_passed all = rw (le-ltb _ _ short, ← ends, eq-eqb _ _ all) (texts_all list (stored_chunks list 0) accepted)
-
-  -- or else refused where they end
-  pub layout_failed : (end ≡ length list → ⊥) → chunks_checked list ≡ Err (record { reason = ChunkLayout; place = end })
-  unfolding chunks_checked layout_checked
-  layout_failed other = rw (le-ltb _ _ short, ← ends, ne_eqb _ _ other)
 
 -- ---- what a judgement that is passed tells
 
@@ -203,11 +136,6 @@ module _ (list : List ℕ) (passed : chunks_checked list ≡ no_refusal) where
   pub passed_texts : texts_checked list (stored_chunks list 0) ≡ no_refusal
   unfolding chunks_checked layout_checked
   passed_texts = rw (le-ltb _ _ passed_short, eq-eqb _ _ passed_end) at passed
-
--- a list within the limit whose chunks end where it does is judged by its texts
-pub judged_texts : (list : List ℕ) → length list ≤ 1048576 → end_from 0 (stored_chunks list 0) ≡ length list → chunks_checked list ≡ texts_checked list (stored_chunks list 0)
-unfolding chunks_checked layout_checked
-judged_texts list short end = rw (le-ltb _ _ short, eq-eqb _ _ end)
 
 -- ---- judging texts is asking whether each is accepted
 

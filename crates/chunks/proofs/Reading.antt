@@ -1,11 +1,16 @@
 -- Laws of reading a stored list: what a chunk that is found was laid out as, and the chunks from a place as the one there and those behind it.
-use Rattle.std.specs.Prelude.{Option, Some, None}
+use Rattle.std.specs.Prelude.{Option, Some, None, All}
 use mathlib.Core.Path.{◌≡◌, refl, sym, ap, ◌∙◌}
 use mathlib.Core.List.{List, [], ◌∷◌, map}
-use Prim.Native.Nat.{ℕ, zero, suc, ◌+◌, ◌%◌, ◌≤◌, ◌<◌}
+use Prim.Native.Nat.{ℕ, zero, suc, ◌+◌, ◌-◌, ◌*◌, ◌%◌, ◌≤◌, ◌<◌}
+use mathlib.Core.Logic.{◌⊎◌, inl, inr}
 use native.Mathlib.Omega.{arith}
 use native.Mathlib.Nat.{add-zero}
-use lib.ListN.{length, get_or}
+use lib.ListN.{length, get_or, take, drop}
+use Rattle.std.proofs.Common.{rules}
+use Rattle.std.proofs.lemmas.List.{get_or-drop, get_or-take}
+use Rattle.std.proofs.lemmas.List.Elements.{All-cons}
+use Rattle.chunks.specs.Steps.{text_behind, ChunkInside}
 use lib.Seq.{length-slice}
 use lib.Dec.{eqb, ltb, leb}
 use borrow.Author.Tests.{lt-ltb, le-ltb, le-leb, lt-leb, eq-eqb, ne_eqb, ltb-true, ltb-false, leb-true, eqb-false}
@@ -151,6 +156,106 @@ laid_found list at chunk laid =
     ∙ text_found list place chunk.ty chunk.indent (λ none. omega arith) (omega arith)
     ∙ rw (end, start)
 
+-- ---- a chunk that is read from the bytes from its place on
+
+-- what the head of a chunk tells: no indent behind a map of a type alone, and else one of 1 to 4,096
+laid_head : (list : List ℕ) (at : ℕ) (chunk : StoredChunk) → Laid list at chunk
+    → ((at + 3 ≤ length list) × (get_or list at 0 ≤ 2))
+    ⊎ ((at + 5 ≤ length list) × (4 ≤ get_or list at 0) × (get_or list at 0 ≤ 6) × (0 < number_at list (at + 1)) × (number_at list (at + 1) ≤ 4096))
+laid_head list at chunk laid = by_indent chunk.indent refl
+  where
+    by_indent : (indent : ℕ) → chunk.indent ≡ indent
+        → ((at + 3 ≤ length list) × (get_or list at 0 ≤ 2))
+        ⊎ ((at + 5 ≤ length list) × (4 ≤ get_or list at 0) × (get_or list at 0 ≤ 6) × (0 < number_at list (at + 1)) × (number_at list (at + 1) ≤ 4096))
+    by_indent zero e = let bit = ap indent_bit e in let small = type_bits_small chunk.ty in inl (omega arith, omega arith)
+    by_indent (suc n) e =
+        let bit = ap indent_bit e in
+        let small = type_bits_small chunk.ty in
+        let width = ap length (indent_stored chunk.indent (λ none. omega arith)) in
+        let number = laid.indent (λ none. omega arith) in
+        inr (omega arith, omega arith, omega arith, omega arith, omega arith)
+
+-- where nothing is laid out no chunk is found
+none_laid : (list : List ℕ) (at : ℕ) → ((chunk : StoredChunk) → Laid list at chunk → ⊥) → None ≡ chunk_at list at
+none_laid list at never = by_found (chunk_at list at) (chunk_laid list at)
+  where
+    by_found : (found : Option StoredChunk) → LaidAs list at found → None ≡ found
+    by_found (Some chunk) laid = absurd (never chunk laid)
+    by_found None laid = refl
+
+-- a text is judged alike by the bytes behind its start and by the list that they end
+text_same : (list : List ℕ) (place room count : ℕ) (ty : ChunkType) (indent : ℕ) → room + (place + 2) ≡ length list
+    → text_behind room (place + 2) count ty indent ≡ text_on list place ty indent (Some count)
+text_same list place room count ty indent whole =
+    by_test (ltb room count)
+    (λ e. let short = ltb-true room count e in rw (e, lt-ltb (length list) (place + 2 + count) (omega arith)))
+    (λ e. let enough = ltb-false room count e in rw (e, le-ltb (length list) (place + 2 + count) (omega arith)))
+
+-- what `get` hands on of a list from a place on
+pub record Behind (list : List ℕ) (at : ℕ) (part : List ℕ) : Type 0 where
+  pub cut : part ≡ take (length list - at) (drop at list)
+  pub whole : length part + at ≡ length list
+
+pub got_behind : (list : List ℕ) (at : ℕ) (part : List ℕ)
+    → (at ≤ length list) × (length list ≤ length list) × (part ≡ take (length list - at) (drop at list)) × (length part + at ≡ length list) → Behind list at part
+got_behind list at part got = record { cut = got.2; whole = got.3 }
+
+module _ (list : List ℕ) (at : ℕ) (part : List ℕ) (behind : Behind list at part) where
+  -- its bytes are the list's
+  byte_behind : (i : ℕ) {place : ℕ} → i < length part → place ≡ at + i → get_or part i 0 ≡ get_or list place 0
+  byte_behind i inside there =
+      rw (there, behind.cut) (get_or-take (length list - at) (drop at list) i 0 (omega (arith, behind.whole)) ∙ get_or-drop at list i 0)
+
+  -- two of them are the list's number there
+  number_behind : (i : ℕ) {place : ℕ} → i + 1 < length part → place ≡ at + i → get_or part i 0 + 256 * get_or part (i + 1) 0 ≡ number_at list place
+  number_behind i {place} inside there =
+      rw (byte_behind i {place = place} (omega arith) there, byte_behind (i + 1) {place = place + 1} inside (omega arith))
+
+  -- no chunk stands there where neither head does
+  pub none_behind : (3 ≤ length part → get_or part 0 0 ≤ 2 → ⊥)
+      → (5 ≤ length part → 4 ≤ get_or part 0 0 → get_or part 0 0 ≤ 6 → 0 < get_or part 1 0 + 256 * get_or part 2 0 → get_or part 1 0 + 256 * get_or part 2 0 ≤ 4096 → ⊥)
+      → None ≡ chunk_at list at
+  none_behind plain indented = none_laid list at (λ chunk laid.
+      let whole = behind.whole in
+      elim (laid_head list at chunk laid) [
+        inl h ↦
+          let map = byte_behind 0 {place = at} (omega (arith, h)) (omega arith) in
+          plain (omega (arith, h)) (omega (arith, h))
+        | inr h ↦
+          let map = byte_behind 0 {place = at} (omega (arith, h)) (omega arith) in
+          let number = number_behind 1 {place = at + 1} (omega (arith, h)) refl in
+          indented (omega (arith, h)) (omega (arith, h)) (omega (arith, h)) (omega (arith, h)) (omega (arith, h))
+      ])
+
+  -- a text behind a map of its type
+  pub plain_behind : (room count : ℕ) (ty : ChunkType) → 3 ≤ length part → type_bits ty ≡ get_or part 0 0 → room ≡ length part - 3
+      → count ≡ get_or part 1 0 + 256 * get_or part 2 0 → text_behind room (at + 3) count ty 0 ≡ chunk_at list at
+  unfolding text_at stored_indent
+  plain_behind room count ty enough bits left counted =
+      let whole = behind.whole in
+      let map : get_or list at 0 ≡ type_bits ty + indent_bit 0 = omega (arith, byte_behind 0 {place = at} (omega arith) (omega arith)) in
+      let next : at + 3 ≡ at + 1 + 2 = omega arith in
+      let found = rw (add-zero (at + 1), le-leb (at + 1 + 2) (length list) (omega arith)) at
+          (indent_found list at ty 0 (omega arith) map (omega arith) (λ some. absurd (some refl))) in
+      rw (next, counted, number_behind 1 {place = at + 1} (omega arith) refl)
+      (text_same list (at + 1) room (number_at list (at + 1)) ty 0 (omega arith) ∙ sym found)
+
+  -- a text behind a map of its type and of an indent, and the indent
+  pub indented_behind : (room count : ℕ) (ty : ChunkType) (indent : ℕ) → 5 ≤ length part → 4 ≤ get_or part 0 0 → type_bits ty ≡ get_or part 0 0 - 4
+      → indent ≡ get_or part 1 0 + 256 * get_or part 2 0 → (indent ≡ 0 → ⊥) → indent ≤ 4096 → room ≡ length part - 5
+      → count ≡ get_or part 3 0 + 256 * get_or part 4 0 → text_behind room (at + 5) count ty indent ≡ chunk_at list at
+  unfolding text_at
+  indented_behind room count ty indent enough set bits told some low left counted =
+      let whole = behind.whole in
+      let width : length (stored_indent indent) ≡ 2 = ap length (indent_stored indent some) in
+      let map : get_or list at 0 ≡ type_bits ty + indent_bit indent = omega (arith, byte_behind 0 {place = at} (omega arith) (omega arith), indent_bit_lem indent some) in
+      let stored : number_at list (at + 1) ≡ indent = sym (told ∙ number_behind 1 {place = at + 1} (omega arith) refl) in
+      let place : at + 1 + length (stored_indent indent) ≡ at + 3 = omega arith in
+      let found = rw (place, le-leb (at + 3 + 2) (length list) (omega arith)) at (indent_found list at ty indent (omega arith) map low (λ some. stored)) in
+      let next : at + 5 ≡ at + 3 + 2 = omega arith in
+      rw (next, counted, number_behind 3 {place = at + 3} (omega arith) refl)
+      (text_same list (at + 3) room (number_at list (at + 3)) ty indent (omega arith) ∙ sym found)
+
 -- ---- what is found fits
 
 -- of bytes, what is laid out fits
@@ -223,6 +328,15 @@ from_fit (suc n) list at bytes = rest_fit list at (chunks_from n list) (chunk_at
 pub chunks_fit : (list : List ℕ) (at : ℕ) → Bytes list → AllFit list at (stored_chunks list at)
 unfolding stored_chunks
 chunks_fit list at bytes = from_fit (length list) list at bytes
+
+-- so each lies within the list
+fit_inside : (list : List ℕ) (at : ℕ) (chunks : List StoredChunk) → AllFit list at chunks → All (ChunkInside list) chunks
+fit_inside list at [] fit = search rules
+fit_inside list at (chunk ∷ chunks) fit =
+    All-cons (ChunkInside list) chunk chunks (record { start = fit.0.some; end = fit.0.inside }) (fit_inside list chunk.end chunks fit.1)
+
+pub chunks_inside : (list : List ℕ) (at : ℕ) → Bytes list → All (ChunkInside list) (stored_chunks list at)
+chunks_inside list at bytes = fit_inside list at (stored_chunks list at) (chunks_fit list at bytes)
 
 -- a chunk that fits is well formed
 fit_well_formed : (list : List ℕ) (at : ℕ) (chunks : List StoredChunk) → AllFit list at chunks → AllWellFormed (map (chunk_of list) chunks)

@@ -1,6 +1,9 @@
 -- Laws of storing a chunk into a room.
-use Rattle.std.specs.Prelude.{Result, Ok, Err}
-use mathlib.Core.Path.{◌≡◌, refl, sym, ◌∙◌}
+use Rattle.std.specs.Prelude.{Option, Some, Result, Ok, Err, IsSome, IsOk}
+use Rattle.std.specs.Option.{is_some}
+use Rattle.std.specs.Result.{is_ok}
+use mathlib.Core.Logic.{◌⊎◌, inl, inr}
+use mathlib.Core.Path.{◌≡◌, refl, sym, ap, ◌∙◌}
 use mathlib.Core.List.{List, ◌++◌, append-nil}
 use mathlib.Core.Bool.{Bool, true, false, cond}
 use Prim.Native.Nat.{ℕ, suc, ◌+◌, ◌≤◌, ◌<◌}
@@ -11,7 +14,8 @@ use lib.Seq.{sets, length-sets}
 use lib.Dec.{eqb, ltb}
 use borrow.Author.Tests.{lt-ltb, le-ltb, le-leb, eq-eqb, ne_eqb}
 use Rattle.text.specs.Numbers.{two_bytes}
-use Rattle.text.specs.Stores.{stored_buffer, number_buffer}
+use Rattle.text.specs.declared.numbers.Unstored.{Unstored}
+use Rattle.text.specs.Stores.{stored_end, number_end, stored_buffer, number_buffer}
 use Rattle.text.proofs.Buffers.{sets_append}
 use Rattle.text.proofs.Choices.{or_right}
 use Rattle.chunks.specs.Stored.{Chunk, type_bits, indent_bit, stored_indent, stored_head, stored_chunk, WellFormed}
@@ -21,13 +25,37 @@ use Rattle.chunks.specs.declared.stored.ChunkType.{ChunkType}
 use Rattle.chunks.specs.declared.append.Unappended.{Unappended}
 use Rattle.chunks.specs.declared.append.Unappended.TheVariants.{NoRoom, NoChunk, UsedPastRoom}
 
--- bytes that fit are stored
-bytes_fit : (buffer : List ℕ) (at : ℕ) (bytes : List ℕ) → at + length bytes ≤ length buffer → stored_buffer buffer at bytes ≡ sets buffer at bytes
-bytes_fit buffer at bytes room = rw (le-leb _ _ room)
+module _ (buffer : List ℕ) (at : ℕ) (bytes : List ℕ) (room : at + length bytes ≤ length buffer) where
+  -- bytes that fit are stored
+  bytes_fit : stored_buffer buffer at bytes ≡ sets buffer at bytes
+  bytes_fit = rw (le-leb _ _ room)
 
--- so is a number that fits and has a stored form
-pub number_fits : (buffer : List ℕ) (at n : ℕ) → n ≤ 65535 → at + 2 ≤ length buffer → number_buffer buffer at n ≡ sets buffer at (two_bytes n)
-number_fits buffer at n small room = rw (le-ltb _ _ small) (bytes_fit buffer at (two_bytes n) room)
+  -- and the answer is the place behind them
+  module _ {answer : Option ℕ} (told : answer ≡ stored_end buffer at bytes) where
+    behind_bytes : answer ≡ Some (at + length bytes)
+    behind_bytes = told ∙ rw (le-leb _ _ room)
+
+    pub bytes_some : IsSome answer
+    bytes_some = ap is_some behind_bytes
+
+    pub bytes_end : {end : ℕ} → answer ≡ Some end → end ≡ at + length bytes
+    bytes_end e = let behind = behind_bytes in cc
+
+module _ (buffer : List ℕ) (at n : ℕ) (small : n ≤ 65535) (room : at + 2 ≤ length buffer) where
+  -- so is a number that fits and has a stored form
+  pub number_fits : number_buffer buffer at n ≡ sets buffer at (two_bytes n)
+  number_fits = rw (le-ltb _ _ small) (bytes_fit buffer at (two_bytes n) room)
+
+  -- and the answer is the place behind it
+  module _ {answer : Result ℕ Unstored} (told : answer ≡ number_end buffer at n) where
+    behind_number : answer ≡ Ok (at + 2)
+    behind_number = told ∙ rw (le-ltb _ _ small, le-leb _ _ room)
+
+    pub number_ok : IsOk answer
+    number_ok = ap is_ok behind_number
+
+    pub number_place : {end : ℕ} → answer ≡ Ok end → end ≡ at + 2
+    number_place e = let behind = behind_number in cc
 
 -- a map, an indent and a text length, stored one behind the other, are a head stored
 pub head_stores : (room : List ℕ) (at : ℕ) (ty : ChunkType) (indent count : ℕ) {map behind : ℕ} {one two : List ℕ}
@@ -84,10 +112,10 @@ module _ (spaced : Bool) (text : List ℕ) (colon : Bool) where
   text_length = rw (text_parts spaced text colon) (simp length-append)
 
   -- the three stored one behind the other are the whole text stored
-  pub text_stores : (room : List ℕ) (at : ℕ) {start : ℕ} {one two three : List ℕ} → at + length (with_space spaced (with_colon colon text)) ≤ length room
+  pub text_stores : (room : List ℕ) (at : ℕ) {start end : ℕ} {one two three : List ℕ} → at + length (with_space spaced (with_colon colon text)) ≤ length room
       → start ≡ at + length (byte_if spaced 32) → one ≡ sets room at (byte_if spaced 32) → two ≡ stored_buffer one start text
-      → three ≡ sets two (start + length text) (byte_if colon 58) → three ≡ sets room at (with_space spaced (with_colon colon text))
-  text_stores room at fits there first second third =
+      → end ≡ start + length text → three ≡ sets two end (byte_if colon 58) → three ≡ sets room at (with_space spaced (with_colon colon text))
+  text_stores room at fits there first second behind third =
       let between = length-append (byte_if spaced 32) text in
       rw (text_parts spaced text colon)
       (runs_next room at (byte_if spaced 32 ++ text) (byte_if colon 58)
@@ -107,14 +135,16 @@ module _ (room : List ℕ) (used : ℕ) (chunk : Chunk) where
   unfolding appended room_after
   unstored bad = (rw bad, rw bad)
 
-  pub append_deep : 4096 < chunk.indent → Appends room used chunk (Err NoChunk) room
-  append_deep deep = unstored (rw (lt-ltb _ _ deep))
+  -- which the tests tell one after the other
+  refused : (4096 < chunk.indent) ⊎ (((chunk.indent ≤ 4096) × (length chunk.text ≡ 0)) ⊎ ((chunk.indent ≤ 4096) × (length chunk.text ≡ 0 → ⊥) × (65535 < length chunk.text)))
+      → unstorable chunk ≡ true
+  refused (inl deep) = rw (lt-ltb _ _ deep)
+  refused (inr (inl empty)) = or_right (ltb 4096 chunk.indent) _ (rw (eq-eqb _ _ empty.1))
+  refused (inr (inr long)) = or_right (ltb 4096 chunk.indent) _ (or_right (eqb (length chunk.text) 0) _ (lt-ltb _ _ long.2))
 
-  pub append_empty : length chunk.text ≡ 0 → Appends room used chunk (Err NoChunk) room
-  append_empty empty = unstored (or_right (ltb 4096 chunk.indent) _ (rw (eq-eqb _ _ empty)))
-
-  pub append_long : 65535 < length chunk.text → Appends room used chunk (Err NoChunk) room
-  append_long long = unstored (or_right (ltb 4096 chunk.indent) _ (or_right (eqb (length chunk.text) 0) _ (lt-ltb _ _ long)))
+  pub append_none : (4096 < chunk.indent) ⊎ (((chunk.indent ≤ 4096) × (length chunk.text ≡ 0)) ⊎ ((chunk.indent ≤ 4096) × (length chunk.text ≡ 0 → ⊥) × (65535 < length chunk.text)))
+      → Appends room used chunk (Err NoChunk) room
+  append_none why = unstored (refused why)
 
   module _ (good : WellFormed chunk) where
     -- any other has one

@@ -3,6 +3,7 @@ use Rattle.std.specs.Prelude.{ℕ, ◌+◌, min, List, [], ◌∷◌, ◌++◌, 
 use Rattle.std.proofs.lemmas.List.Edits.{sets}
 use Rattle.text.specs.Characters as characters
 use Rattle.chunks.specs.Stored.{Chunk, stored_chunk}
+use Rattle.chunks.specs.declared.append.Text.{Text}
 use Rattle.chunks.specs.declared.append.Unappended.{Unappended}
 use Rattle.chunks.specs.declared.append.Unappended.TheVariants.{NoRoom, NoChunk, UsedPastRoom}
 
@@ -15,6 +16,10 @@ with_space false text = text
 abbrev pub with_colon : Bool → List ℕ → List ℕ
 with_colon true text = text ++ (characters.colon ∷ [])
 with_colon false text = text
+
+-- a chunk's text with its space and its colon
+abbrev pub text_bytes : Text → List ℕ
+text_bytes text = with_space text.spaced (with_colon text.colon text.text.now)
 
 -- "room above 1,048,576 bytes counts as that"
 abbrev pub capacity : ℕ → ℕ

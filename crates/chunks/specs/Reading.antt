@@ -1,15 +1,20 @@
 -- Reading a stored chunk list: what stands at a place, and the chunks from the list's start on.
-use Rattle.std.specs.Prelude.{ℕ, zero, suc, ◌+◌, ◌%◌, ◌≤◌, ◌<◌, List, [], ◌∷◌, map, cond, length, get_or, eqb, ltb, leb, Option, Some, None}
+use Rattle.std.specs.Prelude.{◌≡◌, ℕ, zero, suc, ◌+◌, ◌%◌, ◌≤◌, ◌<◌, List, [], ◌∷◌, map, cond, length, get_or, eqb, ltb, leb, Option, Some, None, Result, MatchResult}
 use Rattle.std.proofs.Math.Seq.{slice}
 use Rattle.text.specs.Numbers.{read_number}
-use Rattle.chunks.specs.Stored.{Chunk}
+use Rattle.chunks.specs.Stored.{Chunk, type_bits}
 use Rattle.chunks.specs.declared.stored.ChunkType.{ChunkType}
 use Rattle.chunks.specs.declared.stored.ChunkType.TheVariants.{Code, Label, Comment}
+use Rattle.chunks.specs.declared.stored.NoType.{NoType}
 use Rattle.chunks.specs.declared.stored.StoredChunk.{StoredChunk}
 
 -- bit 0 is a label, bit 1 a comment, neither is code
 abbrev pub type_of : ℕ → ChunkType
 type_of bits = cond (eqb bits 1) Label (cond (eqb bits 2) Comment Code)
+
+-- the type whose bits these are; they are none's where both stand
+abbrev pub Tells : ℕ → Result ChunkType NoType → Type 0
+Tells bits r = MatchResult r (λ ty. type_bits ty ≡ bits) (λ _. 2 < bits)
 
 -- a text length of at least 1, and as many bytes
 abbrev pub text_on : List ℕ → ℕ → ChunkType → ℕ → Option ℕ → Option StoredChunk

@@ -1,11 +1,12 @@
 // Appending a chunk to a lent room.
-ghost use Rattle.std.specs.Prelude.{◌≡◌, cond, ◌+◌, ◌≤◌, length};
+ghost use Rattle.std.specs.Prelude.{◌≡◌, ◌+◌, ◌≤◌, length};
 ghost use Rattle.std.proofs.lemmas.List.Edits.{sets};
 ghost use Rattle.chunks.specs.Stored.{Chunk, type_bits, indent_bit, stored_indent, stored_head};
-ghost use Rattle.chunks.specs.Appending.{with_space, with_colon, capacity, appended, room_after};
+ghost use Rattle.chunks.specs.Appending.{text_bytes, appended, room_after};
 ghost use Rattle.chunks.specs.Steps.{byte_if};
 
-use crate::stored::ChunkType;
+use crate::list::LONGEST;
+use crate::stored::{ChunkType, LARGEST_INDENT, LONGEST_TEXT};
 use text::{characters, numbers, stores};
 
 // Why a chunk is not appended.
@@ -19,14 +20,33 @@ pub enum Unappended {
     UsedPastRoom,
 }
 
-// The map byte's bits of a type.
-fn type_bits(ty: ChunkType) -> u8
-    ensures { result ≡ type_bits ty }
-{
-    match ty {
-        ChunkType::Code => 0,
-        ChunkType::Label => 1,
-        ChunkType::Comment => 2,
+// A chunk's text: with a space in front and a colon behind where the flags say so.
+#[derive(Clone, Copy, Debug, PartialEq, Eq)]
+pub struct Text<'a> {
+    pub spaced: bool,
+    pub text: &'a [u8],
+    pub colon: bool,
+}
+
+impl<'a> Text<'a> {
+    ghost use Rattle.chunks.specs.Appending.{text_bytes};
+
+    // How long the text is.
+    fn len(self) -> usize
+        ensures { result ≡ length (text_bytes self.entry) }
+    {
+        usize::from(self.spaced) + self.text.len() + usize::from(self.colon)
+    }
+
+    // Stores the text; the place behind it. The space and the colon are written as single bytes: most texts have neither, and a copy of nothing has to be set up all the same.
+    fn store(self, room: &mut [u8], at: usize) -> usize
+        requires { at + length (text_bytes self) ≤ length room.old }
+        ensures answer { result ≡ at + length (text_bytes self.entry) }
+        ensures room { room.new ≡ sets room.old at (text_bytes self.entry) }
+    {
+        let start = store_if(room, at, self.spaced, characters::SPACE);
+        let end = stores::copy(self.text, room, start).unwrap();
+        store_if(room, end, self.colon, characters::COLON)
     }
 }
 
@@ -34,11 +54,8 @@ fn type_bits(ty: ChunkType) -> u8
 fn map_byte(ty: ChunkType, indent: usize) -> u8
     ensures { result ≡ type_bits ty + indent_bit indent }
 {
-    let bits = type_bits(ty);
-    if indent == 0 {
-        return bits;
-    }
-    bits + 4
+    let bits = u8::from(ty);
+    if indent == 0 { bits } else { bits + 4 }
 }
 
 // An indent, which is stored only where it is not 0; the place behind it.
@@ -50,8 +67,7 @@ fn store_indent(room: &mut [u8], at: usize, indent: usize) -> usize
     if indent == 0 {
         return at;
     }
-    let _ = numbers::store_number(room, at, indent);
-    at + 2
+    numbers::store_number(room, at, indent).unwrap()
 }
 
 // What stands before a chunk's text; the place behind it.
@@ -63,38 +79,14 @@ fn store_head(room: &mut [u8], at: usize, ty: ChunkType, indent: usize, count: u
 {
     room[at] = map_byte(ty, indent);
     let behind = store_indent(room, at + 1, indent);
-    let _ = numbers::store_number(room, behind, count);
-    behind + 2
+    numbers::store_number(room, behind, count).unwrap()
 }
 
 // How many bytes stand before a chunk's text.
 fn head_length(indent: usize) -> usize
     ensures { result ≡ 3 + length (stored_indent indent) }
 {
-    if indent == 0 {
-        return 3;
-    }
-    5
-}
-
-// How many bytes a byte takes that stands only where a flag is set.
-fn count_if(flag: bool) -> usize
-    ensures { (result ≡ cond flag 1 0) × (result ≤ 1) }
-{
-    if flag {
-        return 1;
-    }
-    0
-}
-
-// How long a text is with its space and its colon.
-fn text_length(spaced: bool, text: &[u8], colon: bool) -> usize
-    requires { length text.now ≤ 65535 }
-    ensures { result ≡ length (with_space spaced (with_colon colon text.now)) }
-{
-    let front = count_if(spaced);
-    let back = count_if(colon);
-    front + (text.len() + back)
+    if indent == 0 { 3 } else { 5 }
 }
 
 // A byte, which is stored only where a flag is set; the place behind it.
@@ -110,48 +102,24 @@ fn store_if(room: &mut [u8], at: usize, flag: bool, byte: u8) -> usize
     at
 }
 
-// A text with its space and its colon. These are written as single bytes: most texts have neither, and a copy of nothing has to be set up all the same.
-fn store_text(room: &mut [u8], at: usize, spaced: bool, text: &[u8], colon: bool)
-    requires { at + length (with_space spaced (with_colon colon text.now)) ≤ length room.old }
-    ensures { room.new ≡ sets room.old at (with_space spaced (with_colon colon text.now)) }
-{
-    let start = store_if(room, at, spaced, characters::SPACE);
-    stores::copy(text, room, start);
-    let end = start + text.len();
-    store_if(room, end, colon, characters::COLON);
-}
-
-// Appends a chunk behind the used length of a room, its text with a space in front and a colon behind where the flags say so.
+// Appends a chunk behind the used length of a room.
 pub fn append_chunk(
     room: &mut [u8],
     used: usize,
     ty: ChunkType,
     indent: usize,
-    spaced: bool,
-    text: &[u8],
-    colon: bool,
+    text: Text,
 ) -> Result<usize, Unappended>
-    ensures answer { let stored = with_space spaced (with_colon colon text.now) in
-        let chunk : Chunk = record { ty = ty; indent = indent; text = stored } in
+    ensures answer { let chunk : Chunk = record { ty = ty; indent = indent; text = text_bytes text.entry } in
         result ≡ appended (length room.old) used chunk }
-    ensures room { let stored = with_space spaced (with_colon colon text.now) in
-        let chunk : Chunk = record { ty = ty; indent = indent; text = stored } in
+    ensures room { let chunk : Chunk = record { ty = ty; indent = indent; text = text_bytes text.entry } in
         room.new ≡ room_after room.old used chunk }
 {
-    if 4096 < indent {
+    let count = text.len();
+    if LARGEST_INDENT < indent || count == 0 || LONGEST_TEXT < count {
         return Err(Unappended::NoChunk);
     }
-    if 65535 < text.len() {
-        return Err(Unappended::NoChunk);
-    }
-    let count = text_length(spaced, text, colon);
-    if count == 0 {
-        return Err(Unappended::NoChunk);
-    }
-    if 65535 < count {
-        return Err(Unappended::NoChunk);
-    }
-    let limit = capacity(room.len());
+    let limit = room.len().min(LONGEST);
     if limit < used {
         return Err(Unappended::UsedPastRoom);
     }
@@ -160,16 +128,6 @@ pub fn append_chunk(
         return Err(Unappended::NoRoom(end));
     }
     let behind = store_head(room, used, ty, indent, count);
-    store_text(room, behind, spaced, text, colon);
+    text.store(room, behind);
     Ok(end)
-}
-
-// "room above 1,048,576 bytes counts as that"
-fn capacity(room: usize) -> usize
-    ensures { result ≡ capacity room }
-{
-    if room < 1048576 {
-        return room;
-    }
-    1048576
 }

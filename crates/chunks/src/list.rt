@@ -1,102 +1,61 @@
-// A whole chunk list, judged in one pass.
-ghost use Rattle.std.specs.Prelude.{◌≡◌, true, ◌+◌, ◌≤◌, ◌<◌, length};
+// A whole chunk list: its chunks one after the other, and its judgement.
+ghost use Rattle.std.specs.Prelude.{◌≡◌};
+ghost use Rattle.std.specs.Iterator.{YieldsFirst, item_count};
 ghost use Rattle.answers.specs.Numbers.{numbers_checked};
-ghost use Rattle.text.specs.Numbers.{number_at};
-ghost use Rattle.text.specs.Accepted.{accepted_text};
-ghost use Rattle.chunks.specs.Reading.{chunk_at, stored_chunks};
-ghost use Rattle.chunks.specs.Judging.{end_from, chunks_checked, chunks_numbers};
-ghost use Rattle.chunks.specs.Steps.{first_fault, Plain, end_on};
+ghost use Rattle.chunks.specs.Reading.{stored_chunks};
+ghost use Rattle.chunks.specs.Judging.{end_from, texts_checked, chunks_checked, chunks_numbers};
+ghost use Rattle.chunks.specs.Steps.{chunks_left};
 
 use crate::stored;
+use crate::stored::StoredChunk;
 use answers::{Checked, Reason, Refusal};
-use text::{numbers, scans};
+use text::scans;
 
-// The two-byte number at a place.
-fn number_at(list: &[u8], at: usize) -> usize
-    requires { at + 2 ≤ length list.now }
-    ensures { (result ≡ number_at list.now at) × (result < 65536) }
-{
-    numbers::wide(list[at]) + 256 * numbers::wide(list[at + 1])
+// "A chunk list is .. at most 1,048,576 bytes"
+pub const LONGEST: usize = 1048576;
+
+// The chunks of a list from a place on, as long as there are any.
+#[derive(Clone, Copy, Debug)]
+pub struct Chunks<'a> {
+    pub list: &'a [u8],
+    pub at: usize,
 }
 
-// Whether a chunk without indent stands at a place. Most do. The answer is asked apart from where the chunk ends, so that the next place waits for no test.
-fn is_plain(list: &[u8], at: usize) -> bool
-    requires { (at < length list.now) × (length list.now ≤ 1048576) }
-    ensures { result ≡ true → Plain list.now at }
-{
-    if list.len() < at + 3 {
-        return false;
-    }
-    let map = numbers::wide(list[at]);
-    if 2 < map {
-        return false;
-    }
-    let count = number_at(list, at + 1);
-    if count == 0 {
-        return false;
-    }
-    at + 3 + count <= list.len()
-}
+impl<'a> Iterator for Chunks<'a> {
+    type Item = StoredChunk;
 
-// Where the chunk at a place ends; the place itself where there is none.
-fn chunk_end(list: &[u8], at: usize) -> usize
-    requires { (at < length list.now) × (length list.now ≤ 1048576) }
-    ensures { result ≡ end_on at (chunk_at list.now at) }
-{
-    if is_plain(list, at) {
-        return at + 3 + number_at(list, at + 1);
-    }
-    let found = stored::chunk_at(list, at);
-    match found {
-        Some(chunk) => chunk.end,
-        None => at,
+    ghost next_gives = { YieldsFirst chunks_left };
+
+    ghost remaining = { item_count chunks_left };
+
+    fn next(&mut self) -> Option<StoredChunk> {
+        let chunk = stored::chunk_at(self.list, self.at)?;
+        self.at = chunk.end;
+        Some(chunk)
     }
 }
 
 // Where the chunks of a list end.
 fn layout_end(list: &[u8]) -> usize
-    requires { length list.now ≤ 1048576 }
     ensures { result ≡ end_from 0 (stored_chunks list.now 0) }
 {
-    let mut at = 0;
-    while at < list.len() {
-        let end = chunk_end(list, at);
-        if end == at {
-            return at;
+    Chunks { list, at: 0 }.fold(0, |_, chunk| chunk.end)
+}
+
+// Refusal 7 of the first byte of a text that no text may hold.
+fn check_texts(list: &[u8]) -> Checked
+    ensures { result ≡ texts_checked list.now (stored_chunks list.now 0) }
+{
+    for chunk in (Chunks { list, at: 0 }) {
+        let fault = chunk.start + scans::fault_at(&list[chunk.start..chunk.end]);
+        if fault < chunk.end {
+            return Err(Refusal {
+                reason: Reason::NotAscii,
+                place: fault,
+            });
         }
-        at = end;
     }
-    at
-}
-
-// The judgement of a list of accepted bytes: only its layout is left to be judged.
-fn check_layout(list: &[u8]) -> Checked
-    requires { (length list.now ≤ 1048576) × (accepted_text list.now ≡ true) }
-    ensures { result ≡ chunks_checked list.now }
-{
-    let end = layout_end(list);
-    if end == list.len() {
-        return Ok(());
-    }
-    Err(Refusal {
-        reason: Reason::ChunkLayout,
-        place: end,
-    })
-}
-
-// The first byte of list[start..end] that no text may hold, where an earlier text has no such byte; a place past the list stands for none.
-fn fault_in(list: &[u8], start: usize, end: usize, fault: usize) -> usize
-    requires { (start ≤ end) × (end ≤ length list.now) }
-    ensures { result ≡ first_fault list.now start end fault }
-{
-    if fault < list.len() {
-        return fault;
-    }
-    let found = start + scans::fault_at(&list[start..end]);
-    if found < end {
-        return found;
-    }
-    fault
+    Ok(())
 }
 
 // Whether a list keeps the layout and its texts hold only accepted bytes: refusal 6 of the first bad chunk, else 7 of the first bad byte.
@@ -104,34 +63,22 @@ pub fn check_chunks(list: &[u8]) -> Checked
     ensures answer { result ≡ chunks_checked list.now }
     ensures numbers { numbers_checked result ≡ chunks_numbers list.now }
 {
-    let length = list.len();
-    if 1048576 < length {
+    if LONGEST < list.len() {
         return Err(Refusal {
             reason: Reason::ChunkLayout,
             place: 0,
         });
     }
-    if scans::is_accepted(list) {
-        return check_layout(list);
-    }
-    let mut at = 0;
-    let mut fault = length;
-    while at < length {
-        let found = stored::chunk_at(list, at);
-        let Some(chunk) = found else {
-            return Err(Refusal {
-                reason: Reason::ChunkLayout,
-                place: at,
-            });
-        };
-        fault = fault_in(list, chunk.start, chunk.end, fault);
-        at = chunk.end;
-    }
-    if fault < length {
+    let end = layout_end(list);
+    if end != list.len() {
         return Err(Refusal {
-            reason: Reason::NotAscii,
-            place: fault,
+            reason: Reason::ChunkLayout,
+            place: end,
         });
     }
-    Ok(())
+    // Most lists hold no other byte, and the whole list is asked at once.
+    if scans::is_accepted(list) {
+        return Ok(());
+    }
+    check_texts(list)
 }

@@ -7,5 +7,5 @@ pub returns-then-indent-eq0 : goal.returns-then-indent-eq0
 unfolding stored_indent
 returns-then-indent-eq0 c = rw c.if-indent-eq0.true
 
-pub returns : goal.returns
-returns c = rw (indent_stored c.args.indent c.if-indent-eq0.false)
+pub returns-else-indent-eq0 : goal.returns-else-indent-eq0
+returns-else-indent-eq0 c = rw (indent_stored c.args.indent c.if-indent-eq0.false)

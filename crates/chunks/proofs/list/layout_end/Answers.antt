@@ -1,25 +1,12 @@
--- The chunks from the start on lead to each place where the pass stands, so they end where no chunk leads on.
-use mathlib.Core.Path.{refl, sym, ◌∙◌}
-use native.Mathlib.Omega.{arith}
-use Rattle.chunks.proofs.Judging.{ending_on, ending_none, ending_all}
+-- Each chunk in turn gives its end.
+use Rattle.std.proofs.Common.{◌≡◌, ℕ, rules, tests, refl, ◌∙◌}
+use Rattle.std.proofs.lemmas.Iterator.Consumers.{YieldsList-from_first, fold_from_yields_List}
+use Rattle.chunks.specs.Steps.{chunks_left}
+use Rattle.chunks.specs.declared.stored.StoredChunk.{StoredChunk}
+use Rattle.chunks.proofs.Judging.{end_folded}
 use Rattle.chunks.proofs.list.layout_end.Goals as goal
 
-pub loop-at-init : goal.loop-at-init
-loop-at-init c = record { within = omega arith; ends = refl }
-
-pub chunk_end-end-requires : goal.chunk_end-end-requires
-chunk_end-end-requires c = (c.loop-at-test.true, c.requires)
-
-pub returns-then-end-at : goal.returns-then-end-at
-returns-then-end-at c = ending_none c.loop-at.invariant (sym c.if-end-at.true ∙ c.chunk_end-end.ensures)
-
-pub loop-at-smaller : goal.loop-at-smaller
-loop-at-smaller c =
-    let on = ending_on c.loop-at.invariant c.chunk_end-end.ensures c.if-end-at.false in
-    omega (arith, on.1, c.loop-at-test.true)
-
-pub loop-at-preserved : goal.loop-at-preserved
-loop-at-preserved c = (ending_on c.loop-at.invariant c.chunk_end-end.ensures c.if-end-at.false).0
-
 pub returns : goal.returns
-returns c = ending_all c.loop-at.invariant c.loop-at-test.false
+returns c =
+    fold_from_yields_List _ (λ (place : ℕ) (chunk : StoredChunk). chunk.end) 0 _ c.fold.ensures.ran (YieldsList-from_first (λ (chunk : StoredChunk). chunk) chunks_left _ refl) (λ a x b q k. search (rules, tests))
+    ∙ end_folded 0 _

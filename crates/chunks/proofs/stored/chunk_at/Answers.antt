@@ -1,59 +1,61 @@
--- Each answer is the one that the definition has after the same tests; what is found fits since every element is a byte.
-use Prim.Native.Nat.{◌+◌, ◌%◌}
-use mathlib.Core.Path.{◌≡◌, sym, ◌∙◌}
-use native.Mathlib.Omega.{arith}
-use borrow.Author.Tests.{lt-ltb, le-ltb, le-leb, lt-leb, eq-eqb}
-use Rattle.chunks.specs.Reading.{type_of, chunk_at}
-use Rattle.chunks.proofs.Reading.{chunk_plain, chunk_indented, indent_zero, indent_deep, indent_text, chunk_fits}
+-- What no head stands for is no chunk, and a text behind a head is found as the definition finds it.
+use Rattle.std.proofs.Common.{◌≡◌, ℕ, ◌-◌, ◌<◌, List, length, take, drop, Option, Some, None, Result, Ok, Err, arith, sym, ◌∙◌, length-take, length-drop}
+use Rattle.std.specs.Result.{result_ok}
+use Rattle.chunks.specs.Stored.{type_bits}
+use Rattle.chunks.specs.Reading.{Tells}
+use Rattle.chunks.specs.declared.stored.ChunkType.{ChunkType}
+use Rattle.chunks.specs.declared.stored.NoType.{NoType}
+use Rattle.chunks.proofs.Reading.{got_behind, chunk_end, none_behind, plain_behind, indented_behind}
 use Rattle.chunks.proofs.stored.chunk_at.Goals as goal
 
-pub returns-then-list-at : goal.returns-then-list-at
-unfolding chunk_at
-returns-then-list-at c = record { answer = simp (le-leb _ _ c.if-list-at.true); fits = tt }
+-- a type that is told, and bits that tell none
+told : {bits : ℕ} {ty : ChunkType} (r : Result ChunkType NoType) → Tells bits r → result_ok r ≡ Some ty → type_bits ty ≡ bits
+told {bits} {ty} (Ok other) tells e = let same : other ≡ ty = cc in rw same at tells
+told (Err none) tells e = cc
 
-pub returns-then-map-gt7 : goal.returns-then-map-gt7
-unfolding chunk_at
-returns-then-map-gt7 c = record { answer = simp (lt-leb _ _ c.if-list-at.false, ← c.wide-map.ensures.0, lt-ltb _ _ c.if-map-gt7.true); fits = tt }
+untold : {bits : ℕ} (r : Result ChunkType NoType) → Tells bits r → result_ok r ≡ None → 2 < bits
+untold (Ok ty) tells e = cc
+untold (Err none) tells e = tells
 
-pub returns-then-bits-eq3 : goal.returns-then-bits-eq3
-unfolding chunk_at
-returns-then-bits-eq3 c = record { answer = simp (lt-leb _ _ c.if-list-at.false, ← c.wide-map.ensures.0, le-ltb _ _ c.if-map-gt7.false, eq-eqb _ _ c.if-bits-eq3.true); fits = tt }
+-- the bytes behind a head
+rest_length : (head : ℕ) (part : List ℕ) → length (take (length part - head) (drop head part)) ≡ length part - head
+rest_length head part = simp (length-take, length-drop) (omega arith)
 
-pub returns-then-map-lt4 : goal.returns-then-map-lt4
-returns-then-map-lt4 c =
-    let plain = chunk_plain c.args.list.now c.args.at c.if-list-at.false
-    c.wide-map.ensures.0 c.if-map-gt7.false c.if-bits-eq3.false
-    c.if-map-lt4.true in
-    let same : c.text_at.result ≡ chunk_at c.args.list.now c.args.at = c.text_at.ensures ∙ rw c.type_of-ty.ensures (sym plain) in
-    record { answer = same; fits = rw same (chunk_fits c.args.list.now c.args.at (λ i. omega (arith, c.type_inv.list i))) }
+pub returns-in_err-get-clause-answer : goal.returns-in_err-get-clause-answer
+returns-in_err-get-clause-answer c = c.from_residual.ensures ∙ sym (chunk_end _ _ (omega (arith, c.in_err-get.ensures)))
 
-pub returns-in_default : goal.returns-in_default
-returns-in_default c = record {
-  answer = sym (chunk_indented c.args.list.now c.args.at c.if-list-at.false c.wide-map.ensures.0 c.if-map-gt7.false
-      c.if-bits-eq3.false c.if-map-lt4.false (sym c.read_number-number.ensures ∙ c.in_default.is));
-  fits = tt;
-}
+pub returns-in_err-ty-in-len3-up-clause-answer : goal.returns-in_err-ty-in-len3-up-clause-answer
+returns-in_err-ty-in-len3-up-clause-answer c =
+    let large = untold c.try_from.result c.try_from.ensures (sym c.ok.ensures.value ∙ c.in_err-ty-in-len3-up.was) in
+    c.from_residual-in_err-ty-in-len3-up.ensures ∙ none_behind _ _ _ (got_behind _ _ _ c.in_ok-get.ensures.lookup.0) (λ enough map. omega arith) (λ enough set map some low. omega arith)
 
-pub returns-then-indent-eq0 : goal.returns-then-indent-eq0
-returns-then-indent-eq0 c = record {
-  answer = sym (chunk_indented c.args.list.now c.args.at c.if-list-at.false c.wide-map.ensures.0 c.if-map-gt7.false
-      c.if-bits-eq3.false c.if-map-lt4.false (sym c.read_number-number.ensures ∙ c.in-Some.is) ∙ indent_zero _ _ _ _ c.if-indent-eq0.true);
-  fits = tt;
-}
+pub returns-in_ok-ty-in-len3-up-clause-answer : goal.returns-in_ok-ty-in-len3-up-clause-answer
+returns-in_ok-ty-in-len3-up-clause-answer c =
+    c.text_in.ensures ∙ plain_behind _ _ _ (got_behind _ _ _ c.in_ok-get.ensures.lookup.0) _ _ _ c.in-len3-up.len_at_least (told _ c.try_from.ensures (sym c.ok.ensures.value ∙ c.in_ok-ty-in-len3-up.was)) (rest_length 3 _) c.number.ensures
 
-pub returns-then-indent-gt4096 : goal.returns-then-indent-gt4096
-returns-then-indent-gt4096 c =
-    let ty = type_of (c.wide-map.result % 4) in
-    let read = chunk_indented c.args.list.now c.args.at c.if-list-at.false c.wide-map.ensures.0 c.if-map-gt7.false
-    c.if-bits-eq3.false c.if-map-lt4.false (sym c.read_number-number.ensures ∙ c.in-Some.is) in
-    record { answer = sym (read ∙ indent_deep c.args.list.now (c.args.at + 1) ty c.in-Some.indent (omega arith)); fits = tt }
+pub returns-in_err-ty-in-len5-up-clause-answer : goal.returns-in_err-ty-in-len5-up-clause-answer
+returns-in_err-ty-in-len5-up-clause-answer c =
+    let large = untold c.try_from-in-len5-up.result c.try_from-in-len5-up.ensures (sym c.ok-in-len5-up.ensures.value ∙ c.in_err-ty-in-len5-up.was) in
+    c.from_residual-in_err-ty-in-len5-up.ensures ∙ none_behind _ _ _ (got_behind _ _ _ c.in_ok-get.ensures.lookup.0) (λ enough map. omega arith) (λ enough set map some low. omega arith)
 
-pub returns : goal.returns
-returns c =
-    let next : c.args.at + 3 ≡ c.args.at + 1 + 2 = omega arith in
-    let ty = type_of (c.wide-map.result % 4) in
-    let read = chunk_indented c.args.list.now c.args.at c.if-list-at.false c.wide-map.ensures.0 c.if-map-gt7.false
-    c.if-bits-eq3.false c.if-map-lt4.false (sym c.read_number-number.ensures ∙ c.in-Some.is) in
-    let text = read ∙ indent_text c.args.list.now (c.args.at + 1) ty c.in-Some.indent c.if-indent-eq0.false (omega arith) in
-    let same : c.text_at-2.result ≡ chunk_at c.args.list.now c.args.at = c.text_at-2.ensures ∙ rw (next, c.type_of-ty.ensures) (sym text) in
-    record { answer = same; fits = rw same (chunk_fits c.args.list.now c.args.at (λ i. omega (arith, c.type_inv.list i))) }
+pub returns-then-indent-eq0-clause-answer : goal.returns-then-indent-eq0-clause-answer
+returns-then-indent-eq0-clause-answer c =
+    none_behind _ _ _ (got_behind _ _ _ c.in_ok-get.ensures.lookup.0) (λ enough map. omega arith) (λ enough set map some low. omega (arith, c.number-indent.ensures, c.then-indent-eq0.either))
+
+pub returns-else-indent-gt-LARGEST_INDENT-clause-answer : goal.returns-else-indent-gt-LARGEST_INDENT-clause-answer
+returns-else-indent-gt-LARGEST_INDENT-clause-answer c =
+    c.text_in-in-len5-up.ensures ∙ indented_behind _ _ _ (got_behind _ _ _ c.in_ok-get.ensures.lookup.0) _ _ _ _ c.in-len5-up.len_at_least c.if-map-lt4.false
+    (told _ c.try_from-in-len5-up.ensures (sym c.ok-in-len5-up.ensures.value ∙ c.in_ok-ty-in-len5-up.was))
+    c.number-indent.ensures c.if-indent-eq0.false c.if-indent-gt-LARGEST_INDENT.false (rest_length 5 _) c.number-in-len5-up.ensures
+
+pub returns-in_default-clause-answer : goal.returns-in_default-clause-answer
+returns-in_default-clause-answer c =
+    none_behind _ _ _ (got_behind _ _ _ c.in_ok-get.ensures.lookup.0) (λ enough map. omega arith) (λ enough set map some low. omega arith)
+
+pub returns-in_default-2-clause-answer : goal.returns-in_default-2-clause-answer
+returns-in_default-2-clause-answer c =
+    none_behind _ _ _ (got_behind _ _ _ c.in_ok-get.ensures.lookup.0) (λ enough map. omega arith) (λ enough set map some low. omega arith)
+
+pub returns-in_default-3-clause-answer : goal.returns-in_default-3-clause-answer
+returns-in_default-3-clause-answer c =
+    none_behind _ _ _ (got_behind _ _ _ c.in_ok-get.ensures.lookup.0) (λ enough map. omega arith) (λ enough set map some low. omega arith)
