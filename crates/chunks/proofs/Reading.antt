@@ -218,13 +218,13 @@ module _ (list : List ℕ) (at : ℕ) (part : List ℕ) (behind : Behind list at
   none_behind plain indented = none_laid list at (λ chunk laid.
       let whole = behind.whole in
       elim (laid_head list at chunk laid) [
-        inl h ↦
-          let map = byte_behind 0 {place = at} (omega (arith, h)) (omega arith) in
-          plain (omega (arith, h)) (omega (arith, h))
+        | inl h ↦
+            let map = byte_behind 0 {place = at} (omega (arith, h)) (omega arith) in
+            plain (omega (arith, h)) (omega (arith, h))
         | inr h ↦
-          let map = byte_behind 0 {place = at} (omega (arith, h)) (omega arith) in
-          let number = number_behind 1 {place = at + 1} (omega (arith, h)) refl in
-          indented (omega (arith, h)) (omega (arith, h)) (omega (arith, h)) (omega (arith, h)) (omega (arith, h))
+            let map = byte_behind 0 {place = at} (omega (arith, h)) (omega arith) in
+            let number = number_behind 1 {place = at + 1} (omega (arith, h)) refl in
+            indented (omega (arith, h)) (omega (arith, h)) (omega (arith, h)) (omega (arith, h)) (omega (arith, h))
       ])
 
   -- a text behind a map of its type
@@ -236,7 +236,7 @@ module _ (list : List ℕ) (at : ℕ) (part : List ℕ) (behind : Behind list at
       let map : get_or list at 0 ≡ type_bits ty + indent_bit 0 = omega (arith, byte_behind 0 {place = at} (omega arith) (omega arith)) in
       let next : at + 3 ≡ at + 1 + 2 = omega arith in
       let found = rw (add-zero (at + 1), le-leb (at + 1 + 2) (length list) (omega arith)) at
-          (indent_found list at ty 0 (omega arith) map (omega arith) (λ some. absurd (some refl))) in
+      (indent_found list at ty 0 (omega arith) map (omega arith) (λ some. absurd (some refl))) in
       rw (next, counted, number_behind 1 {place = at + 1} (omega arith) refl)
       (text_same list (at + 1) room (number_at list (at + 1)) ty 0 (omega arith) ∙ sym found)
 

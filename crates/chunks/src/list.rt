@@ -63,14 +63,15 @@ pub fn check_chunks(list: &[u8]) -> Checked
     ensures answer { result ≡ chunks_checked list.now }
     ensures numbers { numbers_checked result ≡ chunks_numbers list.now }
 {
-    if LONGEST < list.len() {
+    let length = list.len();
+    if LONGEST < length {
         return Err(Refusal {
             reason: Reason::ChunkLayout,
             place: 0,
         });
     }
     let end = layout_end(list);
-    if end != list.len() {
+    if end != length {
         return Err(Refusal {
             reason: Reason::ChunkLayout,
             place: end,

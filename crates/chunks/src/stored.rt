@@ -68,7 +68,13 @@ fn number(low: u8, high: u8) -> usize
 }
 
 // A chunk whose text starts at a place and is so many of the bytes from there on.
-fn text_in(bytes: &[u8], start: usize, count: usize, ty: ChunkType, indent: usize) -> Option<StoredChunk>
+fn text_in(
+    bytes: &[u8],
+    start: usize,
+    count: usize,
+    ty: ChunkType,
+    indent: usize,
+) -> Option<StoredChunk>
     requires { start + length bytes.now < 2 ^ 64 }
     ensures { result ≡ text_behind (length bytes.now) start count ty indent }
 {

@@ -7,7 +7,7 @@ ghost use Rattle.columns.specs.Setting.{margins_of};
 use options::{Alignment, FormattingOptions};
 
 // The label margin L, the code margin C, and how a label is aligned in its margin.
-#[derive(Clone, Copy)]
+#[derive(Clone, Copy, Debug, PartialEq, Eq)]
 pub struct Margins {
     pub label: usize,
     pub code: usize,
@@ -15,7 +15,7 @@ pub struct Margins {
 }
 
 // What follows a chunk: none, a chunk that is exactly a newline, or another chunk.
-#[derive(Clone, Copy)]
+#[derive(Clone, Copy, Debug, PartialEq, Eq)]
 pub enum Follows {
     Nothing,
     Newline,
@@ -23,14 +23,15 @@ pub enum Follows {
 }
 
 // The margins and the alignment that the options ask for.
-pub fn margins_of(options: FormattingOptions) -> Margins
-    ensures { result ≡ margins_of options }
-{
-    let whitespace = options.whitespace;
-    let alignment = whitespace.label_alignment;
-    Margins {
-        label: whitespace.label_margin,
-        code: whitespace.code_margin,
-        alignment: alignment,
+impl From<FormattingOptions> for Margins {
+    ghost from_gives = { λ options margins. margins ≡ margins_of options };
+
+    fn from(options: FormattingOptions) -> Margins {
+        let whitespace = options.whitespace;
+        Margins {
+            label: whitespace.label_margin,
+            code: whitespace.code_margin,
+            alignment: whitespace.label_alignment,
+        }
     }
 }

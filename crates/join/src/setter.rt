@@ -55,5 +55,5 @@ pub fn join_chunks(chunks: &[u8], options: &[u8], text: &mut [u8]) -> Answer
         numbers result ≡ numbers_in outcome (length text.old) }
 {
     let options = options::read_options(options)?;
-    join_with(chunks, columns::margins_of(options), text)
+    join_with(chunks, Margins::from(options), text)
 }

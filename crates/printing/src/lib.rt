@@ -109,15 +109,12 @@ impl CodeFormatter {
         }
         let pending = self.is_spaced();
         let newline = lone_newline(pending, text, colon);
-        let appended = append::append_chunk(
-            room,
-            self.used,
-            ty,
-            context.indent,
-            pending,
+        let text = append::Text {
+            spaced: pending,
             text,
             colon,
-        );
+        };
+        let appended = append::append_chunk(room, self.used, ty, context.indent, text);
         self.behind(appended, newline)
     }
 

@@ -8,14 +8,14 @@ use Rattle.join.proofs.setter.join_chunks.Goals as goal
 pub join_with-requires : goal.join_with-requires
 join_with-requires c =
     let narrow = rw c.in_ok-options.was at c.read_options.ensures.narrow in
-    rw c.margins_of.ensures (record { label = narrow.label; code = narrow.code })
+    rw c.from.ensures (record { label = narrow.label; code = narrow.code })
 
 pub returns : goal.returns
 unfolding join_outcome
 returns c =
     let read = sym c.read_options.ensures.answer ∙ c.in_ok-options.was in
     let said = c.join_with.ensures in
-    rw (read, ← c.margins_of.ensures) (record { answer = said.answer; buffer = said.buffer; demands = said.demands; numbers = numbers_in_lem _ _ said.answer })
+    rw (read, ← c.from.ensures) (record { answer = said.answer; buffer = said.buffer; demands = said.demands; numbers = numbers_in_lem _ _ said.answer })
 
 pub returns-in_err-options : goal.returns-in_err-options
 unfolding join_outcome
