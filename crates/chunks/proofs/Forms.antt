@@ -1,5 +1,5 @@
 -- Laws of a chunk's stored form: its map byte, its indent and its length.
-use mathlib.Core.Path.{◌≡◌, refl}
+use mathlib.Core.Path.{◌≡◌, refl, sym, ap, ◌∙◌}
 use Prim.Native.Nat.{ℕ, zero, suc, ◌+◌, ◌%◌, ◌≤◌, ◌<◌}
 use native.Mathlib.Omega.{arith}
 use lib.ListN.{length, length-append}
@@ -20,6 +20,10 @@ type_of_bits : (ty : ChunkType) → type_of (type_bits ty) ≡ ty
 type_of_bits Code = refl
 type_of_bits Label = refl
 type_of_bits Comment = refl
+
+-- so no two types have the same bits
+pub same_type : (a b : ChunkType) → type_bits a ≡ type_bits b → a ≡ b
+same_type a b e = sym (type_of_bits a) ∙ ap type_of e ∙ type_of_bits b
 
 -- the bits of the type that they tell
 pub bits_of_type : (bits : ℕ) → bits < 3 → type_bits (type_of bits) ≡ bits

@@ -1,8 +1,10 @@
 pub mod Parts
+pub mod Types
 pub mod Forms
 pub mod Storing
 pub mod Reading
 pub mod Judging
+pub mod Heads
 pub mod Placed
 pub mod Restored
 pub mod RoundTrip

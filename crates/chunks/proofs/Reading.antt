@@ -17,7 +17,7 @@ use borrow.Author.Tests.{lt-ltb, le-ltb, le-leb, lt-leb, eq-eqb, ne_eqb, ltb-tru
 use Rattle.text.specs.Numbers.{number_at, read_number}
 use Rattle.text.proofs.Choices.{cond_both, by_test}
 use Rattle.chunks.specs.Stored.{type_bits, indent_bit, stored_indent, Bytes, AllWellFormed}
-use Rattle.chunks.specs.Reading.{type_of, text_on, text_at, indent_on, chunk_at, Fits, rest_on, chunks_from, stored_chunks, chunk_of, chunks_at, AllFit}
+use Rattle.chunks.specs.Reading.{type_of, text_on, text_at, indent_on, chunk_at, ChunkFits, Fits, rest_on, chunks_from, stored_chunks, chunk_of, chunks_at, AllFit}
 use Rattle.chunks.specs.declared.stored.ChunkType.{ChunkType}
 use Rattle.chunks.specs.declared.stored.StoredChunk.{StoredChunk}
 use Rattle.chunks.proofs.Forms.{type_bits_small, bits_of_type, map_bits, map_type, indent_bit_lem, indent_stored}
@@ -158,22 +158,38 @@ laid_found list at chunk laid =
 
 -- ---- a chunk that is read from the bytes from its place on
 
--- what the head of a chunk tells: no indent behind a map of a type alone, and else one of 1 to 4,096
-laid_head : (list : List ℕ) (at : ℕ) (chunk : StoredChunk) → Laid list at chunk
-    → ((at + 3 ≤ length list) × (get_or list at 0 ≤ 2))
-    ⊎ ((at + 5 ≤ length list) × (4 ≤ get_or list at 0) × (get_or list at 0 ≤ 6) × (0 < number_at list (at + 1)) × (number_at list (at + 1) ≤ 4096))
+-- the head of a chunk without an indent
+pub record PlainHead (list : List ℕ) (at : ℕ) (chunk : StoredChunk) : Type 0 where
+  pub map : get_or list at 0 ≡ type_bits chunk.ty
+  pub indent : chunk.indent ≡ 0
+  pub start : chunk.start ≡ at + 3
+  pub end : chunk.end ≡ chunk.start + number_at list (at + 1)
+
+-- and of one with an indent
+pub record IndentedHead (list : List ℕ) (at : ℕ) (chunk : StoredChunk) : Type 0 where
+  pub map : get_or list at 0 ≡ type_bits chunk.ty + 4
+  pub indent : chunk.indent ≡ number_at list (at + 1)
+  pub some : 0 < chunk.indent
+  pub start : chunk.start ≡ at + 5
+  pub end : chunk.end ≡ chunk.start + number_at list (at + 3)
+
+-- each chunk has one of the two
+pub laid_head : (list : List ℕ) (at : ℕ) (chunk : StoredChunk) → Laid list at chunk → PlainHead list at chunk ⊎ IndentedHead list at chunk
+unfolding stored_indent
 laid_head list at chunk laid = by_indent chunk.indent refl
   where
-    by_indent : (indent : ℕ) → chunk.indent ≡ indent
-        → ((at + 3 ≤ length list) × (get_or list at 0 ≤ 2))
-        ⊎ ((at + 5 ≤ length list) × (4 ≤ get_or list at 0) × (get_or list at 0 ≤ 6) × (0 < number_at list (at + 1)) × (number_at list (at + 1) ≤ 4096))
-    by_indent zero e = let bit = ap indent_bit e in let small = type_bits_small chunk.ty in inl (omega arith, omega arith)
+    by_indent : (indent : ℕ) → chunk.indent ≡ indent → PlainHead list at chunk ⊎ IndentedHead list at chunk
+    by_indent zero e =
+        let bit = ap indent_bit e in
+        let width = ap length (ap stored_indent e) in
+        let place : at + 1 + length (stored_indent chunk.indent) ≡ at + 1 = omega arith in
+        inl (record { map = omega arith; indent = e; start = omega arith; end = rw place at laid.end })
     by_indent (suc n) e =
         let bit = ap indent_bit e in
-        let small = type_bits_small chunk.ty in
-        let width = ap length (indent_stored chunk.indent (λ none. omega arith)) in
+        let width = ap length (ap stored_indent e) in
+        let place : at + 1 + length (stored_indent chunk.indent) ≡ at + 3 = omega arith in
         let number = laid.indent (λ none. omega arith) in
-        inr (omega arith, omega arith, omega arith, omega arith, omega arith)
+        inr (record { map = omega arith; indent = sym number; some = omega arith; start = omega arith; end = rw place at laid.end })
 
 -- where nothing is laid out no chunk is found
 none_laid : (list : List ℕ) (at : ℕ) → ((chunk : StoredChunk) → Laid list at chunk → ⊥) → None ≡ chunk_at list at
@@ -217,14 +233,15 @@ module _ (list : List ℕ) (at : ℕ) (part : List ℕ) (behind : Behind list at
       → None ≡ chunk_at list at
   none_behind plain indented = none_laid list at (λ chunk laid.
       let whole = behind.whole in
+      let small = type_bits_small chunk.ty in
       elim (laid_head list at chunk laid) [
-        | inl h ↦
-            let map = byte_behind 0 {place = at} (omega (arith, h)) (omega arith) in
-            plain (omega (arith, h)) (omega (arith, h))
-        | inr h ↦
-            let map = byte_behind 0 {place = at} (omega (arith, h)) (omega arith) in
-            let number = number_behind 1 {place = at + 1} (omega (arith, h)) refl in
-            indented (omega (arith, h)) (omega (arith, h)) (omega (arith, h)) (omega (arith, h)) (omega (arith, h))
+        inl head ↦
+          let map = byte_behind 0 {place = at} (omega arith) (omega arith) in
+          plain (omega arith) (omega arith)
+        | inr head ↦
+          let map = byte_behind 0 {place = at} (omega arith) (omega arith) in
+          let number = number_behind 1 {place = at + 1} (omega arith) refl in
+          indented (omega arith) (omega arith) (omega arith) (omega arith) (omega arith)
       ])
 
   -- a text behind a map of its type
@@ -258,11 +275,15 @@ module _ (list : List ℕ) (at : ℕ) (part : List ℕ) (behind : Behind list at
 
 -- ---- what is found fits
 
--- of bytes, what is laid out fits
+-- what is laid out fits where its text is not too long
+pub laid_fits : (list : List ℕ) (at : ℕ) (chunk : StoredChunk) → chunk.end ≤ chunk.start + 65535 → Laid list at chunk → ChunkFits list at chunk
+laid_fits list at chunk short laid = record { behind = omega arith; some = laid.some; inside = laid.inside; short = short; indent = laid.low }
+
+-- which of bytes it never is
 fits_laid : (list : List ℕ) (at : ℕ) → Bytes list → (found : Option StoredChunk) → LaidAs list at found → Fits list at found
 fits_laid list at bytes (Some chunk) laid =
     let place = at + 1 + length (stored_indent chunk.indent) in
-    record { behind = omega arith; some = laid.some; inside = laid.inside; short = omega (arith, bytes place, bytes (place + 1)); indent = laid.low }
+    laid_fits list at chunk (omega (arith, laid.end, bytes place, bytes (place + 1))) laid
 fits_laid list at bytes None laid = tt
 
 -- so what is found does

@@ -2,5 +2,6 @@
 #![tactic(auto)]
 
 pub mod append;
+pub mod judged;
 pub mod list;
 pub mod stored;

@@ -61,7 +61,7 @@ pub struct StoredChunk {
 }
 
 // A number of two bytes.
-fn number(low: u8, high: u8) -> usize
+pub(crate) fn number(low: u8, high: u8) -> usize
     ensures { result ≡ low + 256 * high }
 {
     usize::from(low) + 256 * usize::from(high)

@@ -5,17 +5,9 @@ use Rattle.chunks.specs.Stored.{type_bits}
 use Rattle.chunks.specs.Reading.{Tells}
 use Rattle.chunks.specs.declared.stored.ChunkType.{ChunkType}
 use Rattle.chunks.specs.declared.stored.NoType.{NoType}
+use Rattle.chunks.proofs.Types.{told, untold}
 use Rattle.chunks.proofs.Reading.{got_behind, chunk_end, none_behind, plain_behind, indented_behind}
 use Rattle.chunks.proofs.stored.chunk_at.Goals as goal
-
--- a type that is told, and bits that tell none
-told : {bits : ℕ} {ty : ChunkType} (r : Result ChunkType NoType) → Tells bits r → result_ok r ≡ Some ty → type_bits ty ≡ bits
-told {bits} {ty} (Ok other) tells e = let same : other ≡ ty = cc in rw same at tells
-told (Err none) tells e = cc
-
-untold : {bits : ℕ} (r : Result ChunkType NoType) → Tells bits r → result_ok r ≡ None → 2 < bits
-untold (Ok ty) tells e = cc
-untold (Err none) tells e = tells
 
 -- the bytes behind a head
 rest_length : (head : ℕ) (part : List ℕ) → length (take (length part - head) (drop head part)) ≡ length part - head
