@@ -64,7 +64,7 @@ pub struct StoredChunk {
 pub(crate) fn number(low: u8, high: u8) -> usize
     ensures { result ≡ low + 256 * high }
 {
-    usize::from(low) + 256 * usize::from(high)
+    usize::from(u16::from_le_bytes([low, high]))
 }
 
 // A chunk whose text starts at a place and is so many of the bytes from there on.

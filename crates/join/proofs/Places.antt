@@ -35,78 +35,14 @@ by_found : {P : Type 0} (found : Option StoredChunk) → (found ≡ None → ⊥
 by_found (Some chunk) some each = each chunk refl
 by_found None some each = absurd (some refl)
 
--- a chunk that is found is laid out at its place
-found_laid : (list : List ℕ) (place : ℕ) (chunk : StoredChunk) → chunk_at list place ≡ Some chunk → reading.Laid list place chunk
-found_laid list place chunk e = rw e at (chunk_laid list place)
-
--- an indent whose bit is not set is 0
-no_indent : (n : ℕ) → indent_bit n < 4 → n ≡ 0
-no_indent zero unset = refl
-no_indent (suc n) unset = absurd (omega arith)
-
--- a chunk by its fields
-same_chunk : (chunk : StoredChunk) {ty : ChunkType} {indent start end : ℕ} → ty ≡ chunk.ty → indent ≡ chunk.indent → start ≡ chunk.start → end ≡ chunk.end
-    → chunk ≡ record { ty = ty; indent = indent; start = start; end = end }
-same_chunk chunk ty indent start end = rw (ty, indent, start, end)
-
--- the type of a chunk is what the bits tell that its map has beside the indent's
-type_told : (list : List ℕ) (place : ℕ) (chunk : StoredChunk) → reading.Laid list place chunk → (bits : ℕ) → get_or list place 0 ≡ bits + indent_bit chunk.indent
-    → type_of bits ≡ chunk.ty
-type_told list place chunk stored bits e =
-    let same : bits ≡ (type_bits chunk.ty + indent_bit chunk.indent) % 4 = omega (arith, map_bits chunk.ty chunk.indent, stored.map) in
-    rw same (map_type chunk.ty chunk.indent)
+-- no chunk is found at the list's end alone
+pub none_past : (list : List ℕ) (place : ℕ) → Laid list place → chunk_at list place ≡ None → length list ≤ place
+none_past list place laid none = omega (arith, laid, end_none list place none)
 
 module _ (list : List ℕ) (place : ℕ) (laid : Laid list place) (inside : place < length list) where
   -- before the list's end a chunk is found
   by_chunk : {P : Type 0} → ((chunk : StoredChunk) → chunk_at list place ≡ Some chunk → P) → P
   by_chunk each = by_found (chunk_at list place) (λ none. omega (arith, laid, end_none list place none)) each
-
-  -- whose head is three bytes at least
-  pub head_inside : place + 3 ≤ length list
-  head_inside = by_chunk (λ chunk e. let stored = found_laid list place chunk e in omega arith)
-
-  -- a chunk without an indent is found by its map and its text length
-  pub found_plain : {map count : ℕ} {ty : ChunkType} → map ≡ get_or list place 0 → map < 4 → ty ≡ type_of map → count ≡ number_at list (place + 1)
-      → chunk_at list place ≡ Some (record { ty = ty; indent = 0; start = place + 3; end = place + 3 + count })
-  unfolding stored_indent
-  found_plain {map} here unset ty count =
-      by_chunk (λ chunk e.
-      let stored = found_laid list place chunk e in
-      let none : chunk.indent ≡ 0 = no_indent chunk.indent (omega (arith, stored.map)) in
-      let width : length (stored_indent chunk.indent) ≡ 0 = rw none in
-      let there : place + 1 + length (stored_indent chunk.indent) ≡ place + 1 = omega arith in
-      let end = rw there at stored.end in
-      e ∙ ap Some (same_chunk chunk (ty ∙ type_told list place chunk stored map (omega (arith, ap indent_bit none))) (sym none) (omega arith) (omega arith)))
-
-  -- a chunk with an indent
-  module _ {map : ℕ} (here : map ≡ get_or list place 0) (set : 4 ≤ map) where
-    -- its indent is stored
-    indented : (chunk : StoredChunk) → reading.Laid list place chunk → chunk.indent ≡ 0 → ⊥
-    indented chunk stored none = omega (arith, stored.map, type_bits_small chunk.ty, ap indent_bit none)
-
-    -- and its head is five bytes
-    pub indented_inside : place + 5 ≤ length list
-    indented_inside =
-        by_chunk (λ chunk e.
-        let stored = found_laid list place chunk e in
-        omega (arith, ap length (indent_stored chunk.indent (indented chunk stored))))
-
-    -- it is found by its map, its indent and its text length
-    pub found_indented : {indent count : ℕ} {ty : ChunkType} → ty ≡ type_of (map - 4) → indent ≡ number_at list (place + 1) → count ≡ number_at list (place + 3)
-        → chunk_at list place ≡ Some (record { ty = ty; indent = indent; start = place + 5; end = place + 5 + count })
-    found_indented ty indent count =
-        by_chunk (λ chunk e.
-        let stored = found_laid list place chunk e in
-        let some = indented chunk stored in
-        let width : length (stored_indent chunk.indent) ≡ 2 = ap length (indent_stored chunk.indent some) in
-        let there : place + 1 + length (stored_indent chunk.indent) ≡ place + 3 = omega arith in
-        let end = rw there at stored.end in
-        e ∙ ap Some (same_chunk chunk
-        (ty ∙ type_told list place chunk stored (map - 4) (omega (arith, indent_bit_lem chunk.indent some))) (indent ∙ stored.indent some) (omega arith) (omega arith)))
-
--- what is found fits
-pub found_fits : (list : List ℕ) (place : ℕ) (chunk : StoredChunk) → Bytes list → chunk_at list place ≡ Some chunk → ChunkFits list place chunk
-found_fits list place chunk bytes e = rw e at (chunk_fits list place bytes)
 
 -- ---- what follows a place
 

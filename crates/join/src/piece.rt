@@ -1,19 +1,18 @@
 // The pieces of a chunk list: each chunk is cut after every newline. How each is laid on a line of a known length.
 ghost use Rattle.std.specs.Prelude.{◌≡◌, [], true, false, not, ◌&&◌, ◌+◌, ◌-◌, ◌≤◌, ◌<◌, ◌*◌, length, eqb, ltb, leb};
-ghost use Rattle.std.specs.Prelude.{Some};
 ghost use Rattle.std.specs.List.{list_any, fold};
 ghost use Rattle.std.proofs.Math.Seq.{slice};
-ghost use Rattle.text.specs.Numbers.{number_at};
 ghost use Rattle.text.specs.Lines.{newline_at};
-ghost use Rattle.chunks.specs.Reading.{type_of, chunk_at, chunks_at, ChunkFits};
+ghost use Rattle.chunks.specs.Reading.{chunks_at};
 ghost use Rattle.columns.specs.Pieces.{following};
 ghost use Rattle.join.specs.Walk.{Narrow, Laid, Standing, Inside, Reached, Passed, piece_length};
 ghost use Rattle.join.specs.Walk.{lay_label, lay_code, lay_comment, lay_of, Stepped, Whole, LoneNewline, step_bytes, step_length};
 
-use chunks::stored::{ChunkType, StoredChunk};
+use chunks::judged::JudgedPlace;
+use chunks::stored::ChunkType;
 use columns::{Follows, Margins};
 use options::Alignment;
-use text::{characters, numbers, scans};
+use text::{characters, scans};
 
 // Where a walk stands: at `at` in the chunk whose text is list[start..end]; past the last chunk all three are the list's
 // length.
@@ -26,67 +25,12 @@ pub struct Spot {
     pub end: usize,
 }
 
-// The two-byte number at a place.
-fn number_at(list: &[u8], at: usize) -> usize
-    requires { at + 2 ≤ length list.now }
-    ensures { (result ≡ number_at list.now at) × (result < 65536) }
-{
-    numbers::wide(list[at]) + 256 * numbers::wide(list[at + 1])
-}
-
-fn type_of(bits: usize) -> ChunkType
-    ensures { result ≡ type_of bits }
-{
-    if bits == 1 {
-        return ChunkType::Label;
-    }
-    if bits == 2 {
-        return ChunkType::Comment;
-    }
-    ChunkType::Code
-}
-
-// The chunk at a place of a list that was judged: it is not judged again. Most chunks are code without indent, so that
-// is asked first.
-pub(crate) fn chunk_in(list: &[u8], place: usize) -> StoredChunk
-    requires { Laid list.now place × (place < length list.now) }
-    ensures found { chunk_at list.now place ≡ Some result }
-    ensures fits { ChunkFits list.now place result }
-{
-    let map = numbers::wide(list[place]);
-    if map == 0 {
-        let start = place + 3;
-        return StoredChunk {
-            ty: ChunkType::Code,
-            indent: 0,
-            start,
-            end: start + number_at(list, place + 1),
-        };
-    }
-    if map < 4 {
-        let start = place + 3;
-        return StoredChunk {
-            ty: type_of(map),
-            indent: 0,
-            start,
-            end: start + number_at(list, place + 1),
-        };
-    }
-    let start = place + 5;
-    StoredChunk {
-        ty: type_of(map - 4),
-        indent: number_at(list, place + 1),
-        start,
-        end: start + number_at(list, place + 3),
-    }
-}
-
 // The start of the chunk at a place, or past the last chunk.
 pub(crate) fn spot_at(list: &[u8], place: usize) -> Spot
     requires { Laid list.now place × (place ≤ length list.now) }
     ensures { Reached list.now place result }
 {
-    if list.len() <= place {
+    let Some(chunk) = (JudgedPlace { list, at: place }).chunk() else {
         return Spot {
             ty: ChunkType::Code,
             indent: 0,
@@ -94,8 +38,7 @@ pub(crate) fn spot_at(list: &[u8], place: usize) -> Spot
             at: place,
             end: place,
         };
-    }
-    let chunk = chunk_in(list, place);
+    };
     Spot {
         ty: chunk.ty,
         indent: chunk.indent,
@@ -147,10 +90,9 @@ pub(crate) fn behind_chunk(list: &[u8], place: usize) -> Follows
     requires { Laid list.now place × (place ≤ length list.now) }
     ensures { result ≡ following (chunks_at list.now place) }
 {
-    if list.len() <= place {
+    let Some(chunk) = (JudgedPlace { list, at: place }).chunk() else {
         return Follows::Nothing;
-    }
-    let chunk = chunk_in(list, place);
+    };
     if chunk.end - chunk.start == 1 && list[chunk.start] == characters::NEWLINE {
         return Follows::Newline;
     }
