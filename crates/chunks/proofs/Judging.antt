@@ -16,7 +16,7 @@ use Rattle.answers.proofs.Cases.{failed_passed}
 use Rattle.text.specs.Accepted.{accepted_text, fault_at}
 use Rattle.text.proofs.Choices.{by_test}
 use Rattle.text.proofs.Accepted.{fault_none, fault_some, accepted_part}
-use Rattle.chunks.specs.Stored.{AllAccepted, Bytes}
+use Rattle.chunks.specs.Stored.{AllAccepted}
 use Rattle.chunks.specs.Reading.{chunk_at, stored_chunks, chunk_of}
 use Rattle.chunks.specs.Judging.{end_from, layout_checked, texts_checked, chunks_checked}
 use Rattle.chunks.specs.Steps.{ChunkInside}
@@ -65,33 +65,33 @@ text_good list chunk chunks inside found past =
     (λ bad. absurd (omega (arith, fault_some text bad)))
 
 -- the texts that are left are judged as all are, and lie within the list
-pub record Going (list : List ℕ) (left : List StoredChunk) : Type 0 where
-  pub texts : texts_checked list (stored_chunks list 0) ≡ texts_checked list left
+pub record Going (list : List ℕ) (at : ℕ) (left : List StoredChunk) : Type 0 where
+  pub texts : texts_checked list (stored_chunks list at) ≡ texts_checked list left
   pub inside : All (ChunkInside list) left
 
 -- at the start all are left
-pub going_first : (list : List ℕ) → Bytes list → Going list (stored_chunks list 0)
-going_first list bytes = record { texts = refl; inside = chunks_inside list 0 bytes }
+pub going_first : (list : List ℕ) (at : ℕ) → Going list at (stored_chunks list at)
+going_first list at = record { texts = refl; inside = chunks_inside list at }
 
-module _ {list : List ℕ} {left : List StoredChunk} {chunk : StoredChunk} {chunks : List StoredChunk} (going : Going list left) (first : left ≡ chunk ∷ chunks) where
+module _ {list : List ℕ} {at : ℕ} {left : List StoredChunk} {chunk : StoredChunk} {chunks : List StoredChunk} (going : Going list at left) (first : left ≡ chunk ∷ chunks) where
   -- the first of those that are left lies within the list
   pub going_inside : ChunkInside list chunk
   going_inside = All-head (ChunkInside list) chunk chunks (rw first at going.inside)
 
   -- it is refused by its first bad byte
   pub going_bad : {fault : ℕ} → fault ≡ chunk.start + fault_at (slice chunk.start chunk.end list) → fault < chunk.end
-      → texts_checked list (stored_chunks list 0) ≡ Err (record { reason = NotAscii; place = fault })
+      → texts_checked list (stored_chunks list at) ≡ Err (record { reason = NotAscii; place = fault })
   going_bad found before = rw (going.texts, first) (text_bad list chunk chunks going_inside found before)
 
   -- or else the others are judged
-  pub going_on : {fault : ℕ} → fault ≡ chunk.start + fault_at (slice chunk.start chunk.end list) → chunk.end ≤ fault → Going list chunks
+  pub going_on : {fault : ℕ} → fault ≡ chunk.start + fault_at (slice chunk.start chunk.end list) → chunk.end ≤ fault → Going list at chunks
   going_on found past = record {
     texts = going.texts ∙ rw first (text_good list chunk chunks going_inside found past);
     inside = All-tail (ChunkInside list) chunk chunks (rw first at going.inside);
   }
 
 -- where none is left all are passed
-pub going_none : {list : List ℕ} {left : List StoredChunk} → Going list left → left ≡ [] → texts_checked list (stored_chunks list 0) ≡ no_refusal
+pub going_none : {list : List ℕ} {at : ℕ} {left : List StoredChunk} → Going list at left → left ≡ [] → texts_checked list (stored_chunks list at) ≡ no_refusal
 unfolding texts_checked
 going_none going none = rw (going.texts, none)
 

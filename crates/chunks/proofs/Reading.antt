@@ -332,6 +332,24 @@ pub chunks_at_none : (list : List ℕ) (at : ℕ) → chunk_at list at ≡ None 
 unfolding chunks_at
 chunks_at_none list at e = ap (map (chunk_of list)) (chunks_none list at e)
 
+-- ---- every chunk lies within the list
+
+-- one that is laid out, and those behind it
+rest_inside : (list : List ℕ) (at : ℕ) (rest : ℕ → List StoredChunk) (found : Option StoredChunk) → LaidAs list at found → ((end : ℕ) → All (ChunkInside list) (rest end))
+    → All (ChunkInside list) (rest_on rest found)
+rest_inside list at rest (Some chunk) laid others = All-cons (ChunkInside list) chunk (rest chunk.end) (record { start = laid.some; end = laid.inside }) (others chunk.end)
+rest_inside list at rest None laid others = search rules
+
+-- however many are read
+from_inside : (n : ℕ) (list : List ℕ) (at : ℕ) → All (ChunkInside list) (chunks_from n list at)
+unfolding chunks_from
+from_inside zero list at = search rules
+from_inside (suc n) list at = rest_inside list at (chunks_from n list) (chunk_at list at) (chunk_laid list at) (λ end. from_inside n list end)
+
+pub chunks_inside : (list : List ℕ) (at : ℕ) → All (ChunkInside list) (stored_chunks list at)
+unfolding stored_chunks
+chunks_inside list at = from_inside (length list) list at
+
 -- ---- every chunk fits, and is well formed
 
 -- a chunk that fits, and those behind it
@@ -349,15 +367,6 @@ from_fit (suc n) list at bytes = rest_fit list at (chunks_from n list) (chunk_at
 pub chunks_fit : (list : List ℕ) (at : ℕ) → Bytes list → AllFit list at (stored_chunks list at)
 unfolding stored_chunks
 chunks_fit list at bytes = from_fit (length list) list at bytes
-
--- so each lies within the list
-fit_inside : (list : List ℕ) (at : ℕ) (chunks : List StoredChunk) → AllFit list at chunks → All (ChunkInside list) chunks
-fit_inside list at [] fit = search rules
-fit_inside list at (chunk ∷ chunks) fit =
-    All-cons (ChunkInside list) chunk chunks (record { start = fit.0.some; end = fit.0.inside }) (fit_inside list chunk.end chunks fit.1)
-
-pub chunks_inside : (list : List ℕ) (at : ℕ) → Bytes list → All (ChunkInside list) (stored_chunks list at)
-chunks_inside list at bytes = fit_inside list at (stored_chunks list at) (chunks_fit list at bytes)
 
 -- a chunk that fits is well formed
 fit_well_formed : (list : List ℕ) (at : ℕ) (chunks : List StoredChunk) → AllFit list at chunks → AllWellFormed (map (chunk_of list) chunks)

@@ -1,5 +1,6 @@
 // The chunks of a list that was judged, which are read without being judged again.
 ghost use Rattle.std.specs.Prelude.{◌≡◌, ◌+◌, ◌≤◌, ◌<◌, length};
+ghost use Rattle.std.specs.Iterator.{YieldsFirst, item_count};
 ghost use Rattle.text.specs.Numbers.{number_at};
 ghost use Rattle.chunks.specs.Reading.{chunk_at, stored_chunks, Fits};
 ghost use Rattle.chunks.specs.Judging.{end_from};
@@ -50,5 +51,19 @@ impl<'a> JudgedPlace<'a> {
             start,
             end: start + number_at(list, at + 3),
         })
+    }
+}
+
+impl<'a> Iterator for JudgedPlace<'a> {
+    type Item = StoredChunk;
+
+    ghost next_gives = { YieldsFirst (λ place. stored_chunks place.list.now place.at) };
+
+    ghost remaining = { item_count (λ place. stored_chunks place.list.now place.at) };
+
+    fn next(&mut self) -> Option<StoredChunk> {
+        let chunk = self.chunk()?;
+        self.at = chunk.end;
+        Some(chunk)
     }
 }

@@ -6,6 +6,7 @@ ghost use Rattle.chunks.specs.Reading.{stored_chunks};
 ghost use Rattle.chunks.specs.Judging.{end_from, texts_checked, chunks_checked, chunks_numbers};
 ghost use Rattle.chunks.specs.Steps.{chunks_left};
 
+use crate::judged::JudgedPlace;
 use crate::stored;
 use crate::stored::StoredChunk;
 use answers::{Checked, Reason, Refusal};
@@ -42,12 +43,13 @@ fn layout_end(list: &[u8]) -> usize
     Chunks { list, at: 0 }.fold(0, |_, chunk| chunk.end)
 }
 
-// Refusal 7 of the first byte of a text that no text may hold.
-fn check_texts(list: &[u8]) -> Checked
-    ensures { result ≡ texts_checked list.now (stored_chunks list.now 0) }
+// Refusal 7 of the first byte that no text may hold.
+fn check_texts(judged: JudgedPlace) -> Checked
+    ensures { let list = judged.entry.list.now in
+        result ≡ texts_checked list (stored_chunks list judged.entry.at) }
 {
-    for chunk in (Chunks { list, at: 0 }) {
-        let fault = chunk.start + scans::fault_at(&list[chunk.start..chunk.end]);
+    for chunk in judged {
+        let fault = chunk.start + scans::fault_at(&judged.list[chunk.start..chunk.end]);
         if fault < chunk.end {
             return Err(Refusal {
                 reason: Reason::NotAscii,
@@ -81,5 +83,5 @@ pub fn check_chunks(list: &[u8]) -> Checked
     if scans::is_accepted(list) {
         return Ok(());
     }
-    check_texts(list)
+    check_texts(JudgedPlace { list, at: 0 })
 }

@@ -7,7 +7,7 @@ use Rattle.chunks.proofs.list.check_texts.Goals as goal
 
 pub loop-chunk-init : goal.loop-chunk-init
 loop-chunk-init c =
-    let all = going_first c.args.list.now (λ i. omega (arith, c.type_inv.list i)) in
+    let all = going_first c.args.judged.list.now c.args.judged.at in
     search (rules, all)
 
 pub slice_bounds-fault_at-count : goal.slice_bounds-fault_at-count
@@ -16,16 +16,16 @@ slice_bounds-fault_at-count c = let inside = going_inside c.loop-chunk.invariant
 pub overflow_add-fault : goal.overflow_add-fault
 overflow_add-fault c =
     let inside = going_inside c.loop-chunk.invariant.2 c.in-Some.ensures.steps in
-    omega (arith, c.fault_at.ensures, fault_part c.in-Some.chunk.start c.in-Some.chunk.end c.args.list.now inside.end)
+    omega (arith, c.fault_at.ensures, fault_part c.in-Some.chunk.start c.in-Some.chunk.end c.args.judged.list.now inside.end)
 
 pub returns-then-fault-chunk : goal.returns-then-fault-chunk
 returns-then-fault-chunk c =
-    let part = part_slice c.in-Some.chunk.start c.in-Some.chunk.end c.args.list.now in
+    let part = part_slice c.in-Some.chunk.start c.in-Some.chunk.end c.args.judged.list.now in
     sym (going_bad c.loop-chunk.invariant.2 c.in-Some.ensures.steps (rw part at (ap (λ x. c.in-Some.chunk.start + x) c.fault_at.ensures)) c.if-fault-chunk.true)
 
 pub loop-chunk-preserved : goal.loop-chunk-preserved
 loop-chunk-preserved c =
-    let part = part_slice c.in-Some.chunk.start c.in-Some.chunk.end c.args.list.now in
+    let part = part_slice c.in-Some.chunk.start c.in-Some.chunk.end c.args.judged.list.now in
     (tt, tt, going_on c.loop-chunk.invariant.2 c.in-Some.ensures.steps (rw part at (ap (λ x. c.in-Some.chunk.start + x) c.fault_at.ensures)) c.if-fault-chunk.false)
 
 pub returns : goal.returns
