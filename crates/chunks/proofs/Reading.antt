@@ -22,47 +22,6 @@ use Rattle.chunks.specs.declared.stored.ChunkType.{ChunkType}
 use Rattle.chunks.specs.declared.stored.StoredChunk.{StoredChunk}
 use Rattle.chunks.proofs.Forms.{type_bits_small, bits_of_type, map_bits, map_type, indent_bit_lem, indent_stored}
 
--- ---- the number at a place
-
--- a number that is read stands within the list
-pub read_inside : (list : List ℕ) (at n : ℕ) → read_number list at ≡ Some n → at + 2 ≤ length list
-read_inside list at n e = by_test (leb (at + 2) (length list)) (λ q. leb-true _ _ q) (λ q. absurd (missing_read n (rw q at e)))
-  where
-    missing_read : (n : ℕ) → None ≡ Some n → ⊥
-    missing_read n e = let z : ◌≡◌ {A = ℕ} 0 1 = cc in omega arith
-
--- a text stands at a place by the number that is read there
-pub text_read : (list : List ℕ) (at : ℕ) (ty : ChunkType) (indent : ℕ) {number result : Option ℕ} → result ≡ read_number list at → result ≡ number
-    → text_on list at ty indent number ≡ text_at list at ty indent
-unfolding text_at
-text_read list at ty indent e f = ap (text_on list at ty indent) (sym f ∙ e)
-
--- ---- behind a map that may stand
-
-module _ (list : List ℕ) (at : ℕ) {map : ℕ} (inside : at < length list) (here : map ≡ get_or list at 0) (small : map ≤ 7) (known : map % 4 ≡ 3 → ⊥) where
-  -- a text, where the map has no indent
-  pub chunk_plain : map < 4 → chunk_at list at ≡ text_at list (at + 1) (type_of (map % 4)) 0
-  unfolding chunk_at
-  chunk_plain none = rw (← here, lt-leb _ _ inside, le-ltb _ _ small, ne_eqb _ _ known, lt-ltb _ _ none)
-
-  -- an indent and a text, where it has one
-  pub chunk_indented : 4 ≤ map → {number : Option ℕ} → read_number list (at + 1) ≡ number → chunk_at list at ≡ indent_on list (at + 1) (type_of (map % 4)) number
-  unfolding chunk_at
-  chunk_indented some read = rw (← here, lt-leb _ _ inside, le-ltb _ _ small, ne_eqb _ _ known, le-ltb _ _ some) (ap (indent_on list (at + 1) (type_of (map % 4))) read)
-
-module _ (list : List ℕ) (at : ℕ) (ty : ChunkType) (indent : ℕ) where
-  -- an indent of 0 is not stored
-  pub indent_zero : indent ≡ 0 → indent_on list at ty (Some indent) ≡ None
-  indent_zero none = rw (eq-eqb _ _ none)
-
-  -- nor is one above 4,096
-  pub indent_deep : 4096 < indent → indent_on list at ty (Some indent) ≡ None
-  indent_deep deep = rw (ne_eqb indent 0 (λ none. omega arith), lt-ltb _ _ deep)
-
-  -- behind any other stands a text
-  pub indent_text : (indent ≡ 0 → ⊥) → indent ≤ 4096 → indent_on list at ty (Some indent) ≡ text_at list (at + 2) ty indent
-  indent_text some low = rw (ne_eqb _ _ some, le-ltb _ _ low)
-
 -- ---- what a chunk that is found was laid out as
 
 -- a map, an indent or none, a text length and a text, all within the list
@@ -127,17 +86,16 @@ chunk_laid list at =
 -- behind a map and an indent a text is looked for
 indent_found : (list : List ℕ) (at : ℕ) (ty : ChunkType) (indent : ℕ) → at + 3 ≤ length list → get_or list at 0 ≡ type_bits ty + indent_bit indent → indent ≤ 4096
     → ((indent ≡ 0 → ⊥) → number_at list (at + 1) ≡ indent) → chunk_at list at ≡ text_at list (at + 1 + length (stored_indent indent)) ty indent
-unfolding stored_indent
+unfolding chunk_at stored_indent
 indent_found list at ty zero enough map low stored =
+    let small = type_bits_small ty in
     let bits = map_bits ty 0 in
-    let small = type_bits_small ty in
-    rw (add-zero (at + 1)) (rw (map_type ty 0) at (chunk_plain list at (omega arith) (sym map) (omega arith) (λ both. omega arith) (omega arith)))
+    rw (map, lt-leb (length list) at (omega arith), le-ltb 7 (type_bits ty + 0) (omega arith), ne_eqb ((type_bits ty + 0) % 4) 3 (λ both. omega arith), lt-ltb (type_bits ty + 0) 4 (omega arith), map_type ty 0, add-zero (at + 1))
 indent_found list at ty (suc n) enough map low stored =
-    let bits = map_bits ty (suc n) in
     let small = type_bits_small ty in
-    let number : read_number list (at + 1) ≡ Some (suc n) = rw (le-leb (at + 1 + 2) (length list) (omega arith)) (ap Some (stored (λ none. omega arith))) in
-    rw (map_type ty (suc n)) at (chunk_indented list at (omega arith) (sym map) (omega arith) (λ both. omega arith) (omega arith) number)
-    ∙ indent_text list (at + 1) ty (suc n) (λ none. omega arith) low
+    let bits = map_bits ty (suc n) in
+    rw (map, lt-leb (length list) at (omega arith), le-ltb 7 (type_bits ty + 4) (omega arith), ne_eqb ((type_bits ty + 4) % 4) 3 (λ both. omega arith), le-ltb (type_bits ty + 4) 4 (omega arith), map_type ty (suc n),
+      le-leb (at + 1 + 2) (length list) (omega arith), stored (λ none. omega arith), ne_eqb (suc n) 0 (λ none. omega arith), le-ltb 4096 (suc n) low)
 
 -- a text length of at least 1 with as many bytes behind it is a text
 text_found : (list : List ℕ) (place : ℕ) (ty : ChunkType) (indent : ℕ) → (number_at list place ≡ 0 → ⊥) → place + 2 + number_at list place ≤ length list

@@ -94,12 +94,7 @@ chunk_stores room used chunk {count} counted there first second =
 
 -- ---- a text with its space and its colon
 
--- a byte that stands only where a flag is set takes one place there
-pub byte_length : (flag : Bool) (byte : ℕ) → length (byte_if flag byte) ≡ cond flag 1 0
-byte_length true byte = refl
-byte_length false byte = refl
-
--- the space and the colon are such bytes
+-- the space and the colon are bytes that stand only where a flag is set
 text_parts : (spaced : Bool) (text : List ℕ) (colon : Bool) → with_space spaced (with_colon colon text) ≡ (byte_if spaced 32 ++ text) ++ byte_if colon 58
 text_parts true text true = refl
 text_parts true text false = rw append-nil
