@@ -1,7 +1,7 @@
 -- Laws of judging a stored list chunk by chunk.
 use Rattle.std.specs.Prelude.{Some, None, Err, fold, All}
 use Rattle.answers.specs.Numbers.{no_refusal}
-use mathlib.Core.Path.{◌≡◌, refl, sym, ap, ◌∙◌}
+use mathlib.Core.Path.{◌≡◌, refl, ap, ◌∙◌}
 use mathlib.Core.List.{List, [], ◌∷◌, map}
 use mathlib.Core.Bool.{true}
 use Prim.Native.Nat.{ℕ, ◌+◌, ◌≤◌, ◌<◌}

@@ -13,8 +13,8 @@ use Rattle.std.proofs.lemmas.List.Elements.{All-cons}
 use Rattle.chunks.specs.Steps.{text_behind, ChunkInside}
 use lib.Seq.{length-slice}
 use lib.Dec.{eqb, ltb, leb}
-use borrow.Author.Tests.{lt-ltb, le-ltb, le-leb, lt-leb, eq-eqb, ne_eqb, ltb-true, ltb-false, leb-true, eqb-false}
-use Rattle.text.specs.Numbers.{number_at, read_number}
+use borrow.Author.Tests.{lt-ltb, le-ltb, le-leb, lt-leb, ne_eqb, ltb-true, ltb-false, eqb-false}
+use Rattle.text.specs.Numbers.{number_at}
 use Rattle.text.proofs.Choices.{cond_both, by_test}
 use Rattle.chunks.specs.Stored.{type_bits, indent_bit, stored_indent, Bytes, AllWellFormed}
 use Rattle.chunks.specs.Reading.{type_of, text_on, text_at, indent_on, chunk_at, ChunkFits, Fits, rest_on, chunks_from, stored_chunks, chunk_of, chunks_at, AllFit}

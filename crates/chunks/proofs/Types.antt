@@ -1,5 +1,5 @@
 -- Laws of the types that bits tell.
-use Rattle.std.proofs.Common.{◌≡◌, ℕ, ◌<◌, ◌≤◌, Option, Some, None, Result, Ok, Err, IsOk, refl, ap, arith}
+use Rattle.std.proofs.Common.{◌≡◌, ℕ, ◌<◌, ◌≤◌, Some, None, Result, Ok, Err, IsOk, refl, ap, arith}
 use Rattle.std.specs.Result.{result_ok}
 use Rattle.chunks.specs.Stored.{type_bits}
 use Rattle.chunks.specs.Reading.{Tells}

@@ -1,5 +1,5 @@
 -- Each answer is the one that the definition has after the same tests, and the head and the text, stored one behind the other, are the chunk stored.
-use Rattle.std.proofs.Common.{ℕ, ◌≤◌, ◌≢◌, Bool, List, length, arith}
+use Rattle.std.proofs.Common.{ℕ, ◌≤◌, ◌≢◌, length, arith}
 use Rattle.chunks.specs.declared.stored.ChunkType.{ChunkType}
 use Rattle.chunks.specs.declared.append.Text.{Text}
 use Rattle.chunks.specs.Stored.{Chunk, WellFormed}

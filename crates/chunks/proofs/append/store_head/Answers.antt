@@ -1,5 +1,5 @@
 -- The map byte, the indent and the text length, stored one behind the other, are the head stored.
-use Rattle.std.proofs.Common.{◌≡◌, ◌+◌, ◌≤◌, length, ◌∙◌, arith, length-set}
+use Rattle.std.proofs.Common.{◌≡◌, length, ◌∙◌, arith, length-set}
 use Rattle.chunks.proofs.Forms.{head_length}
 use Rattle.chunks.proofs.Storing.{number_ok, number_place, head_stores}
 use Rattle.chunks.proofs.append.store_head.Goals as goal

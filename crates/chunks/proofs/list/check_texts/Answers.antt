@@ -1,8 +1,8 @@
 -- Each text in turn is the first that is left.
-use Rattle.std.proofs.Common.{◌+◌, rules, arith, refl, sym, ap}
+use Rattle.std.proofs.Common.{◌+◌, rules, arith, sym, ap}
 use Rattle.text.proofs.Parts.{part_slice}
 use Rattle.text.proofs.Accepted.{fault_part}
-use Rattle.chunks.proofs.Judging.{Going, going_first, going_inside, going_bad, going_on, going_none}
+use Rattle.chunks.proofs.Judging.{going_first, going_inside, going_bad, going_on, going_none}
 use Rattle.chunks.proofs.list.check_texts.Goals as goal
 
 pub loop-chunk-init : goal.loop-chunk-init

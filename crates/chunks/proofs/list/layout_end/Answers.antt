@@ -1,5 +1,5 @@
 -- Each chunk in turn gives its end.
-use Rattle.std.proofs.Common.{◌≡◌, ℕ, rules, tests, refl, ◌∙◌}
+use Rattle.std.proofs.Common.{ℕ, rules, tests, refl, ◌∙◌}
 use Rattle.std.proofs.lemmas.Iterator.Consumers.{YieldsList-from_first, fold_from_yields_List}
 use Rattle.chunks.specs.Steps.{chunks_left}
 use Rattle.chunks.specs.declared.stored.StoredChunk.{StoredChunk}

@@ -1,10 +1,5 @@
 -- What no head stands for is no chunk, and a text behind a head is found as the definition finds it.
-use Rattle.std.proofs.Common.{◌≡◌, ℕ, ◌-◌, ◌<◌, List, length, take, drop, Option, Some, None, Result, Ok, Err, arith, sym, ◌∙◌, length-take, length-drop}
-use Rattle.std.specs.Result.{result_ok}
-use Rattle.chunks.specs.Stored.{type_bits}
-use Rattle.chunks.specs.Reading.{Tells}
-use Rattle.chunks.specs.declared.stored.ChunkType.{ChunkType}
-use Rattle.chunks.specs.declared.stored.NoType.{NoType}
+use Rattle.std.proofs.Common.{◌≡◌, ℕ, ◌-◌, List, length, take, drop, arith, sym, ◌∙◌, length-take, length-drop}
 use Rattle.chunks.proofs.Types.{told, untold}
 use Rattle.chunks.proofs.Reading.{got_behind, chunk_end, none_behind, plain_behind, indented_behind}
 use Rattle.chunks.proofs.stored.chunk_at.Goals as goal

@@ -1,5 +1,5 @@
 -- The chunk at the place is the first of those that are left, and the others stand behind it.
-use Rattle.std.proofs.Common.{rules, arith, ap, length, sym, ◌∙◌}
+use Rattle.std.proofs.Common.{rules, ap, length, sym, ◌∙◌}
 use Rattle.chunks.proofs.Reading.{chunks_found, chunks_none}
 use Rattle.chunks.proofs.Judging.{end_found}
 use Rattle.chunks.proofs.judged.JudgedPlaceIterator.next.Goals as goal
