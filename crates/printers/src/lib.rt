@@ -92,7 +92,12 @@ impl Printer<'_> {
         }
         let newline = lone_newline(self.spaced, text, colon);
         let indent = self.context.indent;
-        match append::append_chunk(self.room, self.used, ty, indent, self.spaced, text, colon) {
+        let text = append::Text {
+            spaced: self.spaced,
+            text,
+            colon,
+        };
+        match append::append_chunk(self.room, self.used, ty, indent, text) {
             Ok(end) => {
                 self.used = end;
                 self.solid = if newline { self.solid } else { end };
