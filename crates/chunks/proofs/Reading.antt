@@ -94,8 +94,18 @@ indent_found list at ty zero enough map low stored =
 indent_found list at ty (suc n) enough map low stored =
     let small = type_bits_small ty in
     let bits = map_bits ty (suc n) in
-    rw (map, lt-leb (length list) at (omega arith), le-ltb 7 (type_bits ty + 4) (omega arith), ne_eqb ((type_bits ty + 4) % 4) 3 (λ both. omega arith), le-ltb (type_bits ty + 4) 4 (omega arith), map_type ty (suc n),
-      le-leb (at + 1 + 2) (length list) (omega arith), stored (λ none. omega arith), ne_eqb (suc n) 0 (λ none. omega arith), le-ltb 4096 (suc n) low)
+    rw (
+      map,
+      lt-leb (length list) at (omega arith),
+      le-ltb 7 (type_bits ty + 4) (omega arith),
+      ne_eqb ((type_bits ty + 4) % 4) 3 (λ both. omega arith),
+      le-ltb (type_bits ty + 4) 4 (omega arith),
+      map_type ty (suc n),
+      le-leb (at + 1 + 2) (length list) (omega arith),
+      stored (λ none. omega arith),
+      ne_eqb (suc n) 0 (λ none. omega arith),
+      le-ltb 4096 (suc n) low,
+    )
 
 -- a text length of at least 1 with as many bytes behind it is a text
 text_found : (list : List ℕ) (place : ℕ) (ty : ChunkType) (indent : ℕ) → (number_at list place ≡ 0 → ⊥) → place + 2 + number_at list place ≤ length list
@@ -193,13 +203,13 @@ module _ (list : List ℕ) (at : ℕ) (part : List ℕ) (behind : Behind list at
       let whole = behind.whole in
       let small = type_bits_small chunk.ty in
       elim (laid_head list at chunk laid) [
-        inl head ↦
-          let map = byte_behind 0 {place = at} (omega arith) (omega arith) in
-          plain (omega arith) (omega arith)
+        | inl head ↦
+            let map = byte_behind 0 {place = at} (omega arith) (omega arith) in
+            plain (omega arith) (omega arith)
         | inr head ↦
-          let map = byte_behind 0 {place = at} (omega arith) (omega arith) in
-          let number = number_behind 1 {place = at + 1} (omega arith) refl in
-          indented (omega arith) (omega arith) (omega arith) (omega arith) (omega arith)
+            let map = byte_behind 0 {place = at} (omega arith) (omega arith) in
+            let number = number_behind 1 {place = at + 1} (omega arith) refl in
+            indented (omega arith) (omega arith) (omega arith) (omega arith) (omega arith)
       ])
 
   -- a text behind a map of its type
