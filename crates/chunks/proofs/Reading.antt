@@ -90,7 +90,15 @@ unfolding chunk_at stored_indent
 indent_found list at ty zero enough map low stored =
     let small = type_bits_small ty in
     let bits = map_bits ty 0 in
-    rw (map, lt-leb (length list) at (omega arith), le-ltb 7 (type_bits ty + 0) (omega arith), ne_eqb ((type_bits ty + 0) % 4) 3 (λ both. omega arith), lt-ltb (type_bits ty + 0) 4 (omega arith), map_type ty 0, add-zero (at + 1))
+    rw (
+      map,
+      lt-leb (length list) at (omega arith),
+      le-ltb 7 (type_bits ty + 0) (omega arith),
+      ne_eqb ((type_bits ty + 0) % 4) 3 (λ both. omega arith),
+      lt-ltb (type_bits ty + 0) 4 (omega arith),
+      map_type ty 0,
+      add-zero (at + 1),
+    )
 indent_found list at ty (suc n) enough map low stored =
     let small = type_bits_small ty in
     let bits = map_bits ty (suc n) in
@@ -175,20 +183,15 @@ text_same list place room count ty indent whole =
     (λ e. let short = ltb-true room count e in rw (e, lt-ltb (length list) (place + 2 + count) (omega arith)))
     (λ e. let enough = ltb-false room count e in rw (e, le-ltb (length list) (place + 2 + count) (omega arith)))
 
--- what `get` hands on of a list from a place on
-pub record Behind (list : List ℕ) (at : ℕ) (part : List ℕ) : Type 0 where
-  pub cut : part ≡ take (length list - at) (drop at list)
-  pub whole : length part + at ≡ length list
-
-pub got_behind : (list : List ℕ) (at : ℕ) (part : List ℕ)
-    → (at ≤ length list) × (length list ≤ length list) × (part ≡ take (length list - at) (drop at list)) × (length part + at ≡ length list) → Behind list at part
-got_behind list at part got = record { cut = got.2; whole = got.3 }
+-- what `get` hands on of a list from a place on, in the words of its contract
+abbrev pub Behind : List ℕ → ℕ → List ℕ → Type 0
+Behind list at part = (at ≤ length list) × (length list ≤ length list) × (part ≡ take (length list - at) (drop at list)) × (length part + at ≡ length list)
 
 module _ (list : List ℕ) (at : ℕ) (part : List ℕ) (behind : Behind list at part) where
   -- its bytes are the list's
   byte_behind : (i : ℕ) {place : ℕ} → i < length part → place ≡ at + i → get_or part i 0 ≡ get_or list place 0
   byte_behind i inside there =
-      rw (there, behind.cut) (get_or-take (length list - at) (drop at list) i 0 (omega (arith, behind.whole)) ∙ get_or-drop at list i 0)
+      rw (there, behind.2) (get_or-take (length list - at) (drop at list) i 0 (omega (arith, behind.3)) ∙ get_or-drop at list i 0)
 
   -- two of them are the list's number there
   number_behind : (i : ℕ) {place : ℕ} → i + 1 < length part → place ≡ at + i → get_or part i 0 + 256 * get_or part (i + 1) 0 ≡ number_at list place
@@ -200,7 +203,7 @@ module _ (list : List ℕ) (at : ℕ) (part : List ℕ) (behind : Behind list at
       → (5 ≤ length part → 4 ≤ get_or part 0 0 → get_or part 0 0 ≤ 6 → 0 < get_or part 1 0 + 256 * get_or part 2 0 → get_or part 1 0 + 256 * get_or part 2 0 ≤ 4096 → ⊥)
       → None ≡ chunk_at list at
   none_behind plain indented = none_laid list at (λ chunk laid.
-      let whole = behind.whole in
+      let whole = behind.3 in
       let small = type_bits_small chunk.ty in
       elim (laid_head list at chunk laid) [
         | inl head ↦
@@ -217,7 +220,7 @@ module _ (list : List ℕ) (at : ℕ) (part : List ℕ) (behind : Behind list at
       → count ≡ get_or part 1 0 + 256 * get_or part 2 0 → text_behind room (at + 3) count ty 0 ≡ chunk_at list at
   unfolding text_at stored_indent
   plain_behind room count ty enough bits left counted =
-      let whole = behind.whole in
+      let whole = behind.3 in
       let map : get_or list at 0 ≡ type_bits ty + indent_bit 0 = omega (arith, byte_behind 0 {place = at} (omega arith) (omega arith)) in
       let next : at + 3 ≡ at + 1 + 2 = omega arith in
       let found = rw (add-zero (at + 1), le-leb (at + 1 + 2) (length list) (omega arith)) at
@@ -231,7 +234,7 @@ module _ (list : List ℕ) (at : ℕ) (part : List ℕ) (behind : Behind list at
       → count ≡ get_or part 3 0 + 256 * get_or part 4 0 → text_behind room (at + 5) count ty indent ≡ chunk_at list at
   unfolding text_at
   indented_behind room count ty indent enough set bits told some low left counted =
-      let whole = behind.whole in
+      let whole = behind.3 in
       let width : length (stored_indent indent) ≡ 2 = ap length (indent_stored indent some) in
       let map : get_or list at 0 ≡ type_bits ty + indent_bit indent = omega (arith, byte_behind 0 {place = at} (omega arith) (omega arith), indent_bit_lem indent some) in
       let stored : number_at list (at + 1) ≡ indent = sym (told ∙ number_behind 1 {place = at + 1} (omega arith) refl) in

@@ -1,5 +1,6 @@
 -- Reading a stored chunk list: what stands at a place, and the chunks from the list's start on.
-use Rattle.std.specs.Prelude.{◌≡◌, ℕ, zero, suc, ◌+◌, ◌%◌, ◌≤◌, ◌<◌, List, [], ◌∷◌, map, cond, length, get_or, eqb, ltb, leb, Option, Some, None, Result, MatchResult}
+use Rattle.std.specs.Prelude.{◌≡◌, ℕ, zero, suc, ◌+◌, ◌%◌, ◌≤◌, ◌<◌, List, [], ◌∷◌, map, cond, length, get_or}
+use Rattle.std.specs.Prelude.{eqb, ltb, leb, Option, Some, None, Result, MatchResult}
 use Rattle.std.proofs.Math.Seq.{slice}
 use Rattle.text.specs.Numbers.{read_number}
 use Rattle.chunks.specs.Stored.{Chunk, type_bits}
@@ -30,7 +31,8 @@ text_at list at ty indent = text_on list at ty indent (read_number list at)
 -- a stored indent is 1 to 4,096
 abbrev pub indent_on : List ℕ → ℕ → ChunkType → Option ℕ → Option StoredChunk
 indent_on list at ty None = None
-indent_on list at ty (Some indent) = cond (eqb indent 0) None (cond (ltb 4096 indent) None (text_at list (at + 2) ty indent))
+indent_on list at ty (Some indent) =
+    cond (eqb indent 0) None (cond (ltb 4096 indent) None (text_at list (at + 2) ty indent))
 
 -- a map with no bit above bit 2 and not both of bits 0 and 1; where bit 2 stands the indent; then the text
 unfoldable pub chunk_at : List ℕ → ℕ → Option StoredChunk
@@ -41,7 +43,8 @@ chunk_at list at =
     (cond (ltb (get_or list at 0) 4) (text_at list (at + 1) (type_of (get_or list at 0 % 4)) 0)
     (indent_on list (at + 1) (type_of (get_or list at 0 % 4)) (read_number list (at + 1))))))
 
--- The chunks from a place on, as long as there are any. The first argument bounds how many; a list has no more chunks than bytes.
+-- The chunks from a place on, as long as there are any. The first argument bounds how many; a list has no more chunks
+-- than bytes.
 abbrev pub rest_on : (ℕ → List StoredChunk) → Option StoredChunk → List StoredChunk
 rest_on rest (Some chunk) = chunk ∷ rest chunk.end
 rest_on rest None = []

@@ -38,7 +38,8 @@ impl<'a> Text<'a> {
         usize::from(self.spaced) + self.text.len() + usize::from(self.colon)
     }
 
-    // Stores the text; the place behind it. The space and the colon are written as single bytes: most texts have neither, and a copy of nothing has to be set up all the same.
+    // Stores the text; the place behind it. The space and the colon are written as single bytes: most texts have
+    // neither, and a copy of nothing has to be set up all the same.
     fn store(self, room: &mut [u8], at: usize) -> usize
         requires { at + length (text_bytes self) ≤ length room.old }
         ensures answer { result ≡ at + length (text_bytes self.entry) }

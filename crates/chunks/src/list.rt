@@ -60,7 +60,8 @@ fn check_texts(judged: JudgedPlace) -> Checked
     Ok(())
 }
 
-// Whether a list keeps the layout and its texts hold only accepted bytes: refusal 6 of the first bad chunk, else 7 of the first bad byte.
+// Whether a list keeps the layout and its texts hold only accepted bytes: refusal 6 of the first bad chunk, else 7 of
+// the first bad byte.
 pub fn check_chunks(list: &[u8]) -> Checked
     ensures answer { result ≡ chunks_checked list.now }
     ensures numbers { numbers_checked result ≡ chunks_numbers list.now }

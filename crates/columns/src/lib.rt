@@ -1,4 +1,5 @@
-// What the text of a chunk list is, set in columns: the types that its definitions name, and what is read of the options. The code that sets it is crate `join`.
+// What the text of a chunk list is, set in columns: the types that its definitions name, and what is read of the
+// options. The code that sets it is crate `join`.
 #![tactic(auto)]
 
 ghost use Rattle.std.specs.Prelude.{◌≡◌};

@@ -8,5 +8,6 @@ use Rattle.chunks.proofs.list.layout_end.Goals as goal
 
 pub returns : goal.returns
 returns c =
-    fold_from_yields_List _ (λ (place : ℕ) (chunk : StoredChunk). chunk.end) 0 _ c.fold.ensures.ran (YieldsList-from_first (λ (chunk : StoredChunk). chunk) chunks_left _ refl) (λ a x b q k. search (rules, tests))
+    fold_from_yields_List _ (λ (place : ℕ) (chunk : StoredChunk). chunk.end) 0 _ c.fold.ensures.ran
+    (YieldsList-from_first (λ (chunk : StoredChunk). chunk) chunks_left _ refl) (λ a x b q k. search (rules, tests))
     ∙ end_folded 0 _

@@ -30,5 +30,6 @@ number_at-requires-3 c = let head = indented_inside _ _ c.args.self.laid c.if-li
 
 pub returns : goal.returns
 returns c =
-    let found = indented_found _ _ c.args.self.laid c.if-list-at.false c.if-map-lt4.false (told_ok _ c.try_from-2.ensures c.unwrap-2.ensures) c.number_at-2.ensures.value c.number_at-3.ensures.value in
+    let found = indented_found _ _ c.args.self.laid c.if-list-at.false c.if-map-lt4.false
+    (told_ok _ c.try_from-2.ensures c.unwrap-2.ensures) c.number_at-2.ensures.value c.number_at-3.ensures.value in
     record { answer = found; fits = found_fits _ _ found (omega arith) }
