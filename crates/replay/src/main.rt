@@ -228,7 +228,7 @@ fn answer_case(
     )
 }
 
-// The buffers have the longest lengths that a case may have.
+// The buffers have the longest lengths that a case may have, which are others than those of `lesson`.
 fn main(rt: HostRuntime) -> io::Result<()> {
     let mut input = BufReader::new(rt.alloc(), rt.reader())?;
     let mut out = BufWriter::new(rt.alloc(), io::writer(&rt))?;
