@@ -1,84 +1,51 @@
-// The command `lesson`: answers cases from standard input on standard output; README.md beside src/ says how a case and an answer are written.
-// What it says is put together in crate `wording`; here it is only read, asked for and written.
+// The command `lesson`: answers cases from standard input on standard output; README.md beside src/ says how a case and
+// an answer are written. What it says is put together in crate `wording`; here it is only read, asked for and written.
 #![tactic(auto)]
 
 ghost use Rattle.std.specs.Prelude.{◌≤◌};
 
-use answers::{Answer, Checked, Refusal};
+use answers::Refusal;
+use cases::input;
+use cases::input::NoCommand;
+use cases::uses::Uses;
 use chunks::stored;
-use losses::Loss;
 use std::io;
-use std::io::{BufReader, BufWriter, ErrorKind, Read, Write};
-use text::numbers;
+use std::io::{BufReader, BufWriter, Read, Write};
 use tree::grammar::Class;
 use tree::{check, kinds, own};
-use wording::{lines, places, records, sentences};
+use wording::lines::Line;
+use wording::{places, records, sentences};
 
-// A number that was read, or the end of the input.
+// What is asked of a lesson.
 #[derive(Clone, Copy)]
-enum Got {
-    Number(usize),
-    Ended,
+enum Command {
+    // The formatted text.
+    Format,
+    // The records of the tree.
+    Tree,
+    // The chunks.
+    Chunks,
+    // What will be lost.
+    Lost,
 }
 
-// Fills a buffer; false where the input ends before.
-fn read_full(input: &mut impl Read, buffer: &mut [u8]) -> io::Result<bool> {
-    match input.read_exact(buffer) {
-        Ok(()) => Ok(true),
-        Err(error) => {
-            if error.kind() == ErrorKind::UnexpectedEof {
-                return Ok(false);
-            }
-            Err(error)
+impl TryFrom<u8> for Command {
+    type Error = NoCommand;
+
+    fn try_from(byte: u8) -> Result<Command, NoCommand> {
+        match byte {
+            b'F' => Ok(Command::Format),
+            b'T' => Ok(Command::Tree),
+            b'C' => Ok(Command::Chunks),
+            b'L' => Ok(Command::Lost),
+            _ => Err(NoCommand),
         }
     }
 }
 
-// A number of four bytes, the low byte first.
-fn read_four(input: &mut impl Read) -> io::Result<Got> {
-    let mut bytes = [0u8; 4];
-    if !read_full(input, &mut bytes)? {
-        return Ok(Got::Ended);
-    }
-    let low = numbers::wide(bytes[0]) + 256 * numbers::wide(bytes[1]);
-    let high = numbers::wide(bytes[2]) + 256 * numbers::wide(bytes[3]);
-    Ok(Got::Number(low + 65536 * high))
-}
-
-// Reads `count` bytes to a buffer's start; false where they do not fit or the input ends.
-fn read_part(input: &mut impl Read, buffer: &mut [u8], count: usize) -> io::Result<bool> {
-    if buffer.len() < count {
-        return Ok(false);
-    }
-    read_full(input, &mut buffer[..count])
-}
-
-// Reads a length and as many bytes.
-fn read_sized(input: &mut impl Read, buffer: &mut [u8]) -> io::Result<Got> {
-    let length = read_four(input)?;
-    let Got::Number(count) = length else {
-        return Ok(Got::Ended);
-    };
-    if read_part(input, buffer, count)? {
-        return Ok(Got::Number(count));
-    }
-    Ok(Got::Ended)
-}
-
-// Writes what a line holds.
-fn write_line(out: &mut impl Write, line: &[u8], used: usize) -> io::Result<()> {
-    if used <= line.len() {
-        out.write_all(&line[..used])?;
-    }
-    Ok(())
-}
-
 // The exit status, which begins an answer.
 fn write_status(out: &mut impl Write, status: usize) -> io::Result<()> {
-    let mut line = [0u8; 32];
-    let digits = lines::put_number(&mut line, 0, status);
-    let used = lines::put(&mut line, digits, b"\n");
-    write_line(out, &line, used)
+    writeln!(out, "{status}")
 }
 
 // A refusal: its number is the status, and its sentence follows.
@@ -90,11 +57,12 @@ fn write_refusal(
     work: usize,
     text: usize,
 ) -> io::Result<()> {
-    let reason = refusal.reason;
-    let mut line = [0u8; 256];
-    let used = sentences::put_refusal(&mut line, 0, refusal, tree, options, work, text);
-    write_status(out, reason.number())?;
-    write_line(out, &line, used)
+    write_status(out, refusal.reason.number())?;
+    // No sentence has more than 200 bytes.
+    let mut room = [0u8; 256];
+    let mut line = Line::new(&mut room);
+    sentences::put_refusal(&mut line, refusal, tree, options, work, text);
+    out.write_all(line.written())
 }
 
 // The formatted text.
@@ -105,29 +73,25 @@ fn answer_format(
     work: &mut [u8],
     text: &mut [u8],
 ) -> io::Result<()> {
-    let answer = formatting::format(tree, options, work, text);
-    match answer {
+    match formatting::format(tree, options, work, text) {
         Ok(length) => {
             write_status(out, 0)?;
-            write_line(out, text, length)?;
+            if let Some(written) = text.get(..length) {
+                out.write_all(written)?;
+            }
+            Ok(())
         }
-        Err(refusal) => {
-            write_refusal(out, refusal, tree, options, work.len(), text.len())?;
-        }
+        Err(refusal) => write_refusal(out, refusal, tree, options, work.len(), text.len()),
     }
-    Ok(())
 }
 
-// A line for each chunk of a list.
-fn show_chunks(out: &mut impl Write, list: &[u8], line: &mut [u8]) -> io::Result<()> {
+// A line for each chunk of a list, put together in a room.
+fn show_chunks(out: &mut impl Write, list: &[u8], room: &mut [u8]) -> io::Result<()> {
     let mut at = 0;
-    while at < list.len() {
-        let found = stored::chunk_at(list, at);
-        let Some(chunk) = found else {
-            return Ok(());
-        };
-        let used = records::put_chunk(line, 0, list, at, chunk);
-        write_line(out, line, used)?;
+    while let Some(chunk) = stored::chunk_at(list, at) {
+        let mut line = Line::new(room);
+        records::put_chunk(&mut line, list, at, chunk);
+        out.write_all(line.written())?;
         at = chunk.end;
     }
     Ok(())
@@ -139,24 +103,21 @@ fn answer_chunks(
     options: &[u8],
     tree: &[u8],
     work: &mut [u8],
-    line: &mut [u8],
+    room: &mut [u8],
 ) -> io::Result<()> {
-    let answer = tokens::chunks(tree, options, work);
-    match answer {
+    match tokens::chunks(tree, options, work) {
         Ok(length) => {
             write_status(out, 0)?;
-            if length <= work.len() {
-                show_chunks(out, &work[..length], line)?;
+            if let Some(list) = work.get(..length) {
+                show_chunks(out, list, room)?;
             }
+            Ok(())
         }
-        Err(refusal) => {
-            write_refusal(out, refusal, tree, options, work.len(), line.len())?;
-        }
+        Err(refusal) => write_refusal(out, refusal, tree, options, work.len(), room.len()),
     }
-    Ok(())
 }
 
-// A class in which a kind may stand.
+// A class in which a kind may stand, by the kind's number. Both are of crate `tree`, so no `From` can stand here.
 fn class_of(number: usize) -> Class {
     match number {
         kinds::VEC => Class::Tokens,
@@ -178,32 +139,30 @@ fn class_of(number: usize) -> Class {
 
 // A line for the record of a class at a place and one for each record in it; the place behind them. The tree was
 // checked, so that every record is read: a refusal could not be told any more, behind the status of an accepted tree.
+// Place, class and levels are told apart as `read_own` asks for them.
 fn show_record(
     out: &mut impl Write,
     tree: &[u8],
     at: usize,
     class: Class,
     levels: usize,
-    line: &mut [u8],
+    room: &mut [u8],
 ) -> io::Result<usize>
     requires { levels ≤ 64 }
 {
-    let read = own::read_own(tree, at, class, levels);
-    let Ok(own) = read else {
+    let Ok(own) = own::read_own(tree, at, class, levels) else {
         return Ok(at);
     };
-    let used = records::put_record(line, 0, tree, at, 65 - levels, class, own);
-    write_line(out, line, used)?;
+    let mut line = Line::new(room);
+    records::put_record(&mut line, tree, at, 65 - levels, class, own);
+    out.write_all(line.written())?;
     let mut place = own.end;
     let mut plan = check::plan_of(class, own);
-    loop {
-        let part = check::next_part(plan);
-        let Some((field, rest)) = part else {
-            return Ok(place);
-        };
-        place = show_record(out, tree, place, field, levels - 1, line)?;
+    while let Some((field, rest)) = check::next_part(plan) {
+        place = show_record(out, tree, place, field, levels - 1, room)?;
         plan = rest;
     }
+    Ok(place)
 }
 
 // The records of a tree.
@@ -211,79 +170,37 @@ fn answer_tree(
     out: &mut impl Write,
     tree: &[u8],
     options: &[u8],
-    line: &mut [u8],
+    room: &mut [u8],
 ) -> io::Result<()> {
-    let checked = tree::check_tree(tree);
-    match checked {
+    match tree::check_tree(tree) {
         Ok(()) => {
             write_status(out, 0)?;
-            show_record(out, tree, 0, Class::Tokens, 64, line)?;
+            show_record(out, tree, 0, Class::Tokens, 64, room)?;
+            Ok(())
         }
-        Err(refusal) => {
-            write_refusal(out, refusal, tree, options, 0, line.len())?;
-        }
+        Err(refusal) => write_refusal(out, refusal, tree, options, 0, room.len()),
     }
-    Ok(())
 }
 
-// A line for a record that uses a place.
-fn show_loss(
-    out: &mut impl Write,
-    tree: &[u8],
-    at: usize,
-    letters: usize,
-    line: &mut [u8],
-) -> io::Result<()> {
-    if tree.len() <= at {
-        return Ok(());
-    }
-    let class = class_of(numbers::wide(tree[at]));
-    let read = own::read_own(tree, at, class, 64);
-    if let Ok(own) = read {
-        let used = places::put_loss(line, 0, tree, at, letters, own);
-        write_line(out, line, used)?;
-    }
-    Ok(())
-}
-
-// A line for each record that uses a place; there are no more records than bytes.
-fn show_losses(out: &mut impl Write, tree: &[u8], line: &mut [u8]) -> io::Result<()> {
-    let mut from = 0;
-    let mut left = tree.len();
-    while 0 < left {
-        let found = losses::lost(tree, from);
-        let Ok(Some(Loss { place, letters })) = found else {
+// A line for each record that uses a place.
+fn show_losses(out: &mut impl Write, tree: &[u8], room: &mut [u8]) -> io::Result<()> {
+    for loss in Uses::of(tree) {
+        let Some(&number) = tree.get(loss.place) else {
             return Ok(());
         };
-        if tree.len() <= place {
-            return Ok(());
+        let class = class_of(usize::from(number));
+        if let Ok(own) = own::read_own(tree, loss.place, class, 64) {
+            let mut line = Line::new(room);
+            places::put_loss(&mut line, tree, loss.place, loss.letters, own);
+            out.write_all(line.written())?;
         }
-        show_loss(out, tree, place, letters, line)?;
-        from = place + 1;
-        left -= 1;
     }
     Ok(())
 }
 
 // 1 where ink is lost or doubled: by every use of a place but a register letter's, whose comment is kept.
 fn lost_status(tree: &[u8]) -> usize {
-    let mut from = 0;
-    let mut left = tree.len();
-    while 0 < left {
-        let found = losses::lost(tree, from);
-        let Ok(Some(Loss { place, letters })) = found else {
-            return 0;
-        };
-        if letters != places::REGISTER_LETTER {
-            return 1;
-        }
-        if tree.len() <= place {
-            return 0;
-        }
-        from = place + 1;
-        left -= 1;
-    }
-    0
+    usize::from(Uses::of(tree).any(|loss| loss.letters != places::REGISTER_LETTER))
 }
 
 // What formatting a tree will lose or double.
@@ -291,82 +208,30 @@ fn answer_lost(
     out: &mut impl Write,
     tree: &[u8],
     options: &[u8],
-    line: &mut [u8],
+    room: &mut [u8],
 ) -> io::Result<()> {
-    let found = losses::lost(tree, 0);
-    match found {
-        Ok(Some(_)) => {
-            write_status(out, lost_status(tree))?;
-            show_losses(out, tree, line)?;
-        }
-        Ok(None) => write_status(out, 0)?,
-        Err(refusal) => {
-            write_refusal(out, refusal, tree, options, 0, line.len())?;
-        }
+    if let Err(refusal) = losses::lost(tree, 0) {
+        return write_refusal(out, refusal, tree, options, 0, room.len());
     }
-    Ok(())
+    write_status(out, lost_status(tree))?;
+    show_losses(out, tree, room)
 }
 
-// Answers a case by its command; false where there is no such command.
+// Answers a case by its command.
 fn answer_command(
     out: &mut impl Write,
-    command: u8,
+    command: Command,
     options: &[u8],
     tree: &[u8],
     work: &mut [u8],
     text: &mut [u8],
-) -> io::Result<bool> {
-    if command == b'F' {
-        answer_format(out, options, tree, work, text)?;
-        return Ok(true);
+) -> io::Result<()> {
+    match command {
+        Command::Format => answer_format(out, options, tree, work, text),
+        Command::Tree => answer_tree(out, tree, options, text),
+        Command::Chunks => answer_chunks(out, options, tree, work, text),
+        Command::Lost => answer_lost(out, tree, options, text),
     }
-    if command == b'T' {
-        answer_tree(out, tree, options, text)?;
-        return Ok(true);
-    }
-    if command == b'C' {
-        answer_chunks(out, options, tree, work, text)?;
-        return Ok(true);
-    }
-    if command == b'L' {
-        answer_lost(out, tree, options, text)?;
-        return Ok(true);
-    }
-    Ok(false)
-}
-
-// The lengths of the work room and the text buffer, and the answer; false where the input ends, or a length is too large.
-fn answer_lengths(
-    input: &mut impl Read,
-    out: &mut impl Write,
-    command: u8,
-    options: &[u8],
-    tree: &[u8],
-    work: &mut [u8],
-    text: &mut [u8],
-) -> io::Result<bool> {
-    let first = read_four(input)?;
-    let Got::Number(work_length) = first else {
-        return Ok(false);
-    };
-    if work.len() < work_length {
-        return Ok(false);
-    }
-    let second = read_four(input)?;
-    let Got::Number(text_length) = second else {
-        return Ok(false);
-    };
-    if text.len() < text_length {
-        return Ok(false);
-    }
-    answer_command(
-        out,
-        command,
-        options,
-        tree,
-        &mut work[..work_length],
-        &mut text[..text_length],
-    )
 }
 
 // One case; false where the input ends, or a case is cut, too long or of no command.
@@ -378,59 +243,24 @@ fn answer_case(
     work: &mut [u8],
     text: &mut [u8],
 ) -> io::Result<bool> {
-    let mut command = [0u8; 1];
-    if !read_full(input, &mut command)? {
-        return Ok(false);
-    }
-    let first = read_sized(input, options)?;
-    let Got::Number(options_length) = first else {
+    let Some(case) = input::read_case(input, options, tree, work.len(), text.len())? else {
         return Ok(false);
     };
-    let second = read_sized(input, tree)?;
-    let Got::Number(tree_length) = second else {
+    let Ok(command) = Command::try_from(case.command) else {
         return Ok(false);
     };
-    if options.len() < options_length {
-        return Ok(false);
-    }
-    if tree.len() < tree_length {
-        return Ok(false);
-    }
-    let first_byte = command[0];
-    answer_lengths(
-        input,
+    answer_command(
         out,
-        first_byte,
-        &options[..options_length],
-        &tree[..tree_length],
-        work,
-        text,
-    )
+        command,
+        &options[..case.options],
+        &tree[..case.payload],
+        &mut work[..case.work],
+        &mut text[..case.text],
+    )?;
+    Ok(true)
 }
 
-// Answers every case, each before the next is read; the buffers have the longest lengths that a case may have.
-fn answer_all(
-    input: &mut impl Read,
-    out: &mut impl Write,
-    options: &mut [u8; 16],
-    tree: &mut [u8; 65536],
-    work: &mut [u8; 1048576],
-    text: &mut [u8; 2097152],
-) -> io::Result<()> {
-    let option_bytes: &mut [u8] = options;
-    let tree_bytes: &mut [u8] = tree;
-    let work_bytes: &mut [u8] = work;
-    let text_bytes: &mut [u8] = text;
-    // More cases than any input has: a program is proved to end.
-    for _ in 0..u64::MAX {
-        if !answer_case(input, out, option_bytes, tree_bytes, work_bytes, text_bytes)? {
-            return Ok(());
-        }
-        out.flush()?;
-    }
-    Ok(())
-}
-
+// The buffers have the longest lengths that a case may have, which are others than those of `replay`.
 fn main(rt: HostRuntime) -> io::Result<()> {
     let mut input = BufReader::new(rt.alloc(), rt.reader())?;
     let mut out = BufWriter::new(rt.alloc(), io::writer(&rt))?;
@@ -438,12 +268,7 @@ fn main(rt: HostRuntime) -> io::Result<()> {
     let mut tree = [0u8; 65536];
     let mut work = [0u8; 1048576];
     let mut text = [0u8; 2097152];
-    answer_all(
-        &mut input,
-        &mut out,
-        &mut options,
-        &mut tree,
-        &mut work,
-        &mut text,
-    )
+    input::answer_all(&mut input, &mut out, |input, out| {
+        answer_case(input, out, &mut options, &mut tree, &mut work, &mut text)
+    })
 }

@@ -1,150 +1,99 @@
 -- Laws of lines and their pieces.
-use Rattle.std.specs.Prelude.{Option, Some, None}
-use mathlib.Core.Path.{◌≡◌, refl, sym, ◌∙◌}
+use mathlib.Core.Path.{◌≡◌, refl}
 use mathlib.Core.List.{List, [], ◌∷◌, ◌++◌, map}
 use Prim.Native.Nat.{ℕ, zero, suc, ◌+◌, ◌-◌, ◌/◌, ◌%◌, ◌≤◌, ◌<◌}
-use native.Mathlib.Numerals.{sub-one}
+use Prim.Native.String.{String}
 use native.Mathlib.Omega.{arith}
-use lib.ListN.{length, get_or, drop, drop_of_length-le}
-use borrow.Author.Tests.{lt-ltb, le-ltb}
+use native.Mathlib.Numerals.{sub-one}
+use lib.ListN.{length, get_or, get_or-map, get_or-append}
+use lib.Dec.{ltb}
+use lib.Seq.{get_or-append_right}
+use borrow.Author.Tests.{lt-ltb, le-ltb, ltb-true, ltb-false}
+use Rattle.std.specs.Prelude.{Option, Some, None}
+use Rattle.std.proofs.lemmas.Grind.{common_steps}
+use Rattle.std.proofs.lemmas.List.{map_more}
 use Rattle.text.specs.Stores.{fits, stored_end, stored_buffer}
+use Rattle.text.specs.Literals.{ascii}
 use Rattle.text.proofs.Choices.{by_test}
-use Rattle.text.proofs.Parts.{drop_step}
-use Rattle.tree.specs.Parts.{trivium_at}
-use Rattle.tree.specs.declared.parts.TriviumSpan.{TriviumSpan}
-use Rattle.leaves.specs.Items.{item_of, items_at}
-use Rattle.leaves.proofs.Items.{items_none, items_next}
-use Rattle.wording.specs.Lines.{Line, line_in, put, puts, digits, shown}
-use Rattle.wording.specs.Records.{trivium, trivia}
-use Rattle.wording.specs.Losses.{letter, letters, comment, comments}
+use Rattle.text.proofs.Parts.{part_slice}
+use Rattle.wording.specs.Lines.{Line, line_in, put, puts, digits}
+use Rattle.wording.specs.Losses.{letter, letters}
+use Rattle.wording.specs.Names.{token_kinds, part_kinds, kind_name}
 
 -- pieces behind pieces
-puts_append : (pieces more : List (List ℕ)) (line : Line) → puts (pieces ++ more) line ≡ puts more (puts pieces line)
+pub puts_append : (pieces more : List (List ℕ)) (line : Line) → puts (pieces ++ more) line ≡ puts more (puts pieces line)
 unfolding puts
 puts_append [] more line = refl
 puts_append (piece ∷ pieces) more line = puts_append pieces more (put piece line)
 
--- so two calls put the pieces of both
-pub after : (pieces more : List (List ℕ)) (line : Line) {next last : Line} → next ≡ puts pieces line → last ≡ puts more next → last ≡ puts (pieces ++ more) line
-after pieces more line first second = second ∙ rw first (sym (puts_append pieces more line))
-
--- no pieces change nothing
-pub put_nothing : (line : Line) → line ≡ puts [] line
-unfolding puts
-put_nothing line = refl
-
 -- a store that succeeded
-pub put_stored : (buffer : List ℕ) (at : ℕ) (piece : List ℕ) {next : List ℕ} {end : ℕ} → stored_end buffer at piece ≡ Some end → next ≡ stored_buffer buffer at piece
+pub put_stored : (buffer : List ℕ) (at : ℕ) (piece : List ℕ) {next : List ℕ} {end : ℕ} → stored_end buffer at piece ≡ Some end
+    → next ≡ stored_buffer buffer at piece
     → line_in next end ≡ puts (piece ∷ []) (line_in buffer at)
-unfolding puts
+unfolding put puts
 put_stored buffer at piece {next} {end} stored held =
     by_test (fits buffer at piece)
     (λ t. let s : Some (at + length piece) ≡ Some end = rw t at stored in let e : at + length piece ≡ end = cc in rw (held, t, ← e))
-    (λ t. let s : None ≡ Some end = rw t at stored in let z : ◌≡◌ {A = ℕ} 0 1 = cc in absurd (omega arith))
+    (λ t. let s : None ≡ Some end = rw t at stored in cc)
 
 -- and one for which there was no room
-pub put_left : (buffer : List ℕ) (at : ℕ) (piece : List ℕ) {next : List ℕ} → stored_end buffer at piece ≡ None → next ≡ stored_buffer buffer at piece
-    → line_in next at ≡ puts (piece ∷ []) (line_in buffer at)
-unfolding puts
-put_left buffer at piece {next} stored held =
+pub put_left : (buffer : List ℕ) (at : ℕ) (piece : List ℕ) {answer : Option ℕ} {next : List ℕ} → answer ≡ stored_end buffer at piece
+    → next ≡ stored_buffer buffer at piece
+    → ((end : ℕ) → answer ≡ Some end → ⊥) → line_in next at ≡ puts (piece ∷ []) (line_in buffer at)
+unfolding put puts
+put_left buffer at piece answer held none =
     by_test (fits buffer at piece)
-    (λ t. let s : Some (at + length piece) ≡ None = rw t at stored in let z : ◌≡◌ {A = ℕ} 0 1 = cc in absurd (omega arith))
+    (λ t. absurd (none (at + length piece) (rw t at answer)))
     (λ t. rw (held, t))
 
--- an empty piece changes nothing, nor does one that equals it
-pub put_empty : (buffer : List ℕ) (at : ℕ) {piece : List ℕ} → piece ≡ [] → line_in buffer at ≡ puts (piece ∷ []) (line_in buffer at)
-unfolding puts
-put_empty buffer at empty =
-    let same : at + 0 ≡ at = omega arith in
-    rw empty (by_test (fits buffer at []) (λ t. rw (t, same)) (λ t. rw t))
+-- an empty piece changes nothing
+pub put_empty : (line : Line) → put [] line ≡ line
+unfolding put
+put_empty line =
+    let same : line.used + 0 ≡ line.used = omega arith in
+    by_test (fits line.buffer line.used []) (λ t. rw (t, same) refl) (λ t. rw t refl)
+
+-- what joins the pieces of calls
+pub ruleset joined = (common_steps, map_more, part_slice, puts_append, put_empty)
 
 -- ---- the digits of a number
 
--- none may stand
-pub digits_none : (most n : ℕ) (line : Line) → most ≡ 0 → line ≡ puts (digits most n) line
-unfolding puts digits
-digits_none most n line none = rw none
-
 -- one is enough
-pub digits_one : (most n : ℕ) (line : Line) {next : Line} {digit : ℕ} → (most ≡ 0 → ⊥) → n < 10 → digit ≡ 48 + n → next ≡ puts ((digit ∷ []) ∷ []) line
-    → next ≡ puts (digits most n) line
+pub digits_few : (most n : ℕ) → (most ≡ 0 → ⊥) → n < 10 → digits most n ≡ ((48 + n % 10) ∷ []) ∷ []
 unfolding digits
-digits_one zero n line some small is done = absurd (some refl)
-digits_one (suc most) n line some small is done = rw (lt-ltb _ _ small, ← is) done
+digits_few zero n some few = absurd (some refl)
+digits_few (suc most) n some few = let same : n % 10 ≡ n = omega arith in rw (lt-ltb _ _ few, same)
 
 -- there are more
-pub digits_more : (most n : ℕ) (line : Line) {next last : Line} {digit : ℕ} → (most ≡ 0 → ⊥) → 10 ≤ n → digit ≡ 48 + n % 10
-    → next ≡ puts (digits (most - 1) (n / 10)) line → last ≡ puts ((digit ∷ []) ∷ []) next → last ≡ puts (digits most n) line
+pub digits_many : (most n : ℕ) → (most ≡ 0 → ⊥) → 10 ≤ n → digits most n ≡ digits (most - 1) (n / 10) ++ ((48 + n % 10) ∷ []) ∷ []
 unfolding digits
-digits_more zero n line some large is front back = absurd (some refl)
-digits_more (suc most) n line some large is front back =
-    rw (le-ltb _ _ large, ← is) (after _ _ line (rw sub-one at front) back)
+digits_many zero n some many = absurd (some refl)
+digits_many (suc most) n some many = rw (le-ltb _ _ many, sub-one)
 
--- ---- a text, a byte a piece
+-- ---- tables of names
 
-module _ (bytes : List ℕ) (i : ℕ) (line : Line) where
-  -- a byte, and what stands behind it
-  pub shown_next : i < length bytes → {next : Line} → next ≡ puts (shown (get_or bytes i 0) ∷ []) line
-      → puts (map shown (drop i bytes)) line ≡ puts (map shown (drop (i + 1) bytes)) next
-  unfolding puts
-  shown_next within done = rw (drop_step bytes i within, done)
+-- the name of an index, or none past the last
+pub name_of : (table : List String) (names : List (List ℕ)) (index : ℕ) → names ≡ map ascii table → get_or names index [] ≡ ascii (get_or table index "")
+unfolding ascii
+name_of table names index tied = rw tied (get_or-map ascii table index "")
 
-  -- none is left
-  pub shown_last : length bytes ≤ i → puts (map shown (drop i bytes)) line ≡ line
-  unfolding puts
-  shown_last past = rw (drop_of_length-le bytes past)
-
--- ---- trivia
-
-module _ (bytes : List ℕ) (at left : ℕ) (line : Line) where
-  -- where no item is left nothing is put
-  pub trivia_left : left ≤ 0 → puts (trivia (items_at bytes at left)) line ≡ line
-  unfolding puts trivia
-  trivia_left none = rw (items_none bytes at left none)
-
-  module _ (some : 0 < left) {found : Option TriviumSpan} (same : found ≡ trivium_at bytes at) where
-    -- nor before an item that breaks the layout
-    pub trivia_broken : found ≡ None → puts (trivia (items_at bytes at left)) line ≡ line
-    unfolding puts trivia
-    trivia_broken told = rw (items_next bytes at left some same None told)
-
-    -- an item is put, and those behind it go on from there
-    pub trivia_next : (item : TriviumSpan) → found ≡ Some item → {next : Line} → next ≡ puts (trivium (item_of bytes item)) line
-        → puts (trivia (items_at bytes at left)) line ≡ puts (trivia (items_at bytes item.end (left - 1))) next
-    unfolding trivia
-    trivia_next item told done = rw (items_next bytes at left some same (Some item) told, done) (puts_append _ _ line)
-
--- ---- comments
-
-module _ (bytes : List ℕ) (at left : ℕ) (line : Line) where
-  -- where no item is left nothing is put
-  pub comments_left : left ≤ 0 → puts (comments (items_at bytes at left)) line ≡ line
-  unfolding puts comments
-  comments_left none = rw (items_none bytes at left none)
-
-  module _ (some : 0 < left) {found : Option TriviumSpan} (same : found ≡ trivium_at bytes at) where
-    -- nor before an item that breaks the layout
-    pub comments_broken : found ≡ None → puts (comments (items_at bytes at left)) line ≡ line
-    unfolding puts comments
-    comments_broken told = rw (items_next bytes at left some same None told)
-
-    -- an item's comment is put, and those behind it go on from there
-    pub comments_next : (item : TriviumSpan) → found ≡ Some item → {next : Line} → next ≡ puts (comment (item_of bytes item)) line
-        → puts (comments (items_at bytes at left)) line ≡ puts (comments (items_at bytes item.end (left - 1))) next
-    unfolding comments
-    comments_next item told done = rw (items_next bytes at left some same (Some item) told, done) (puts_append _ _ line)
+-- the tokens, and behind them their parts
+pub kind_of : (number : ℕ) → get_or (token_kinds ++ part_kinds) number "" ≡ kind_name number
+kind_of number =
+    by_test (ltb number 24)
+    (λ t. rw t (get_or-append token_kinds part_kinds "" number (ltb-true _ _ t)))
+    (λ t. rw t (get_or-append_right token_kinds part_kinds number "" (ltb-false _ _ t)))
 
 -- ---- letters
 
 -- none is left
-pub letters_left : (left place bits : ℕ) (line : Line) → left ≤ 0 → puts (letters left place bits) line ≡ line
-unfolding puts letters
-letters_left zero place bits line none = refl
-letters_left (suc left) place bits line none = absurd (omega arith)
+pub letters_none : (left place bits : ℕ) → left ≤ 0 → letters left place bits ≡ []
+unfolding letters
+letters_none zero place bits none = refl
+letters_none (suc left) place bits none = absurd (omega arith)
 
 -- one is put where its bit stands, and those behind it go on from there
-pub letters_next : (left place bits : ℕ) (line : Line) {next : Line} → 0 < left → next ≡ puts (letter place (bits % 2)) line
-    → puts (letters left place bits) line ≡ puts (letters (left - 1) (place + 1) (bits / 2)) next
+pub letters_next : (left place bits next : ℕ) → left ≡ next + 1 → letters left place bits ≡ letter place (bits % 2) ++ letters next (place + 1) (bits / 2)
 unfolding letters
-letters_next zero place bits line some done = absurd (omega arith)
-letters_next (suc left) place bits line some done = rw (sub-one, done) (puts_append _ _ line)
+letters_next zero place bits next more = absurd (omega arith)
+letters_next (suc left) place bits next more = let same : left ≡ next = omega arith in rw same

@@ -37,7 +37,7 @@ size_digits (suc most) n =
 
 -- what stands at a place
 size_standing : (input : List ℕ) (place : ℕ) → size (standing input place) ≤ 40
-unfolding flat ascii standing
+unfolding flat ascii
 size_standing input place =
     let number = decimal (get_or input place 0) in
     by_test (leb (length input) place) (λ t. rw t (omega arith))
@@ -45,12 +45,12 @@ size_standing input place =
 
 -- a limit
 size_limited : (limit : ℕ) → size (limited limit) ≤ 39
-unfolding flat ascii limited
+unfolding flat ascii
 size_limited limit = omega (arith, size_append (say ", and the limit is ") (decimal limit), size_digits 20 limit)
 
 -- a name
 size_name : (reason : Reason) → size (say (get_or reasons (number reason) "")) ≤ 14
-unfolding flat ascii reasons
+unfolding flat ascii
 size_name OptionsLength = omega arith
 size_name OptionsValue = omega arith
 size_name TreeLength = omega arith
@@ -63,7 +63,7 @@ size_name TextRoom = omega arith
 
 -- a number and a name
 size_named : (reason : Reason) → size (named reason) ≤ 44
-unfolding flat ascii named
+unfolding flat ascii
 size_named reason =
     let name = say (get_or reasons (number reason) "") in
     let digits = decimal (number reason) in
@@ -87,7 +87,7 @@ module _ (place : ℕ) (tree options : List ℕ) (work text : ℕ) where
 
   -- what a place means
   size_meaning : (reason : Reason) → size (meaning reason place tree options work text) ≤ 123
-  unfolding flat ascii meaning
+  unfolding flat ascii
   size_meaning OptionsLength = in_options_lem
   size_meaning OptionsValue = in_options_lem
   size_meaning TreeLength = in_tree_lem
@@ -100,7 +100,7 @@ module _ (place : ℕ) (tree options : List ℕ) (work text : ℕ) where
 
 -- the whole sentence
 pub size_sentence : (refusal : Refusal) (tree options : List ℕ) (work text : ℕ) → length (flat (sentence refusal tree options work text)) ≤ 200
-unfolding flat ascii sentence
+unfolding flat ascii
 size_sentence refusal tree options work text =
     let front = named refusal.reason in
     let place = decimal refusal.place in

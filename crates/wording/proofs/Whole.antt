@@ -24,7 +24,7 @@ stored_front buffer at piece room =
 -- a piece that fits is stored, and the others go on behind it
 put_fits : (piece : List ℕ) (pieces : List (List ℕ)) (buffer : List ℕ) (at : ℕ) → fits buffer at piece ≡ true
     → puts (piece ∷ pieces) (line_in buffer at) ≡ puts pieces (line_in (sets buffer at piece) (at + length piece))
-unfolding puts
+unfolding puts put
 put_fits piece pieces buffer at fit =
     let stored : put piece (line_in buffer at) ≡ line_in (sets buffer at piece) (at + length piece) = rw fit in
     ap (puts pieces) stored

@@ -14,7 +14,7 @@ pub record Line : Type 0 where
 abbrev pub line_in : List ℕ → ℕ → Line
 line_in buffer used = record { buffer = buffer; used = used }
 
-abbrev pub put : List ℕ → Line → Line
+unfoldable pub put : List ℕ → Line → Line
 put piece line =
     cond (fits line.buffer line.used piece) (line_in (sets line.buffer line.used piece) (line.used + length piece)) line
 

@@ -1,5 +1,5 @@
 -- A line for a record that uses one of the eight places of document 01.
-use Rattle.std.specs.Prelude.{ℕ, zero, suc, ◌+◌, ◌/◌, ◌%◌, List, [], ◌∷◌, ◌++◌, cond, length, eqb, ltb, leb}
+use Rattle.std.specs.Prelude.{ℕ, zero, suc, ◌+◌, ◌/◌, ◌%◌, List, [], ◌∷◌, ◌++◌, cond, None, length, eqb, ltb, leb}
 use Prim.Native.String.{String}
 use Rattle.tree.specs.Kinds as kinds
 use Rattle.tree.specs.Codes as codes
@@ -8,10 +8,9 @@ use Rattle.tree.specs.declared.own.Own.{Own}
 use Rattle.leaves.specs.Items.{items_at}
 use Rattle.wording.specs.Lines.{say, quoted}
 use Rattle.wording.specs.Records.{offset, content}
-use Rattle.wording.specs.declared.entries.Form.TheVariants.{Text}
 
 -- a letter in parentheses, where its bit stands
-unfoldable pub letter : ℕ → ℕ → List (List ℕ)
+abbrev pub letter : ℕ → ℕ → List (List ℕ)
 letter place bit = cond (eqb bit 1) ((40 ∷ place ∷ 41 ∷ []) ∷ []) []
 
 -- so many letters, from one on, of bits
@@ -27,11 +26,11 @@ abbrev pub expression_head : ℕ
 expression_head = 64
 
 -- what becomes of it: (f) alone is kept, (g) alone printed twice, all else dropped
-unfoldable pub fate : ℕ → String
+abbrev pub fate : ℕ → String
 fate bits = cond (eqb bits register_letter) " kept" (cond (eqb bits expression_head) " printed twice" " dropped")
 
 -- the text of a comment; whitespace and newlines have none
-unfoldable pub comment : Trivium → List (List ℕ)
+abbrev pub comment : Trivium → List (List ℕ)
 comment item = cond (ltb item.code codes.c_style) [] (say " " ++ quoted item.text)
 
 unfoldable pub comments : List Trivium → List (List ℕ)
@@ -39,11 +38,11 @@ comments [] = []
 comments (item ∷ items) = comment item ++ comments items
 
 -- the closing character itself, for (h)
-unfoldable pub closing : List ℕ → ℕ → Own → List (List ℕ)
-closing tree bit own = cond (eqb bit 1) (content tree kinds.leaf Text own) []
+abbrev pub closing : List ℕ → ℕ → Own → List (List ℕ)
+closing tree bit own = cond (eqb bit 1) (content tree kinds.leaf None own) []
 
 -- a loss's line: its record's offset, the letters (a) to (h) of its places, the texts that stand there, and what becomes of them
-unfoldable pub loss_pieces : List ℕ → ℕ → ℕ → Own → List (List ℕ)
+abbrev pub loss_pieces : List ℕ → ℕ → ℕ → Own → List (List ℕ)
 loss_pieces tree place bits own =
     offset place ++ (letters 8 97 bits ++ (comments (items_at tree own.trivia own.trivia_count)
     ++ (closing tree (bits / 128 % 2) own ++ (say (fate bits) ++ say "\n"))))

@@ -6,19 +6,19 @@ use Rattle.chunks.specs.declared.stored.ChunkType.{ChunkType}
 use Rattle.chunks.specs.declared.stored.ChunkType.TheVariants.{Code, Label, Comment}
 
 -- the refusals by their numbers, of which 0 is none
-unfoldable pub reasons : List String
+abbrev pub reasons : List String
 reasons =
     "" ∷ "options length" ∷ "options value" ∷ "tree length" ∷ "tree depth" ∷ "tree layout" ∷ "chunk layout" ∷ "not ASCII" ∷ "work room" ∷ "text room" ∷ []
 
 -- the kinds 0 to 23, which are the tokens
-unfoldable pub token_kinds : List String
+abbrev pub token_kinds : List String
 token_kinds =
     "Align" ∷ "Assert" ∷ "Braces" ∷ "Config" ∷ "ConfigPair" ∷ "Data" ∷ "Definition" ∷ "Eof" ∷ "Error" ∷ "Expression" ∷ "If" ∷ "Import" ∷ "File" ∷
     "Instruction" ∷ "Label" ∷ "Loop" ∷ "MacroDefinition" ∷ "MacroInvocation" ∷ "ProgramCounterDefinition" ∷ "Segment" ∷ "Test" ∷ "Text" ∷
     "Trace" ∷ "VariableDefinition" ∷ []
 
 -- the kinds from 24 on
-unfoldable pub part_kinds : List String
+abbrev pub part_kinds : List String
 part_kinds =
     "list" ∷ "leaf" ∷ "path item" ∷ "Block" ∷ "BinaryExpression" ∷ "Factor" ∷ "CurrentProgramCounter" ∷ "ExprParens" ∷ "FunctionCall" ∷
     "IdentifierValue" ∷ "Number" ∷ "InterpolatedString factor" ∷ "InterpolatedString" ∷ "Operand" ∷ "RegisterSuffix" ∷ "ImportAs" ∷
@@ -28,7 +28,7 @@ abbrev pub kind_name : ℕ → String
 kind_name number = cond (ltb number kinds.vec) (get_or token_kinds number "") (get_or part_kinds (number - kinds.vec) "")
 
 -- trivia by their codes
-unfoldable pub trivia_names : List String
+abbrev pub trivia_names : List String
 trivia_names = "whitespace" ∷ "newline" ∷ "comment" ∷ "line comment" ∷ []
 
 abbrev pub type_name : ChunkType → String

@@ -1,5 +1,5 @@
 -- A line for a record of a tree, and one for a chunk.
-use Rattle.std.specs.Prelude.{ℕ, List, [], ◌∷◌, ◌++◌, cond, ◌&&◌, length, get_or, eqb, ltb, leb}
+use Rattle.std.specs.Prelude.{ℕ, List, [], ◌∷◌, ◌++◌, cond, ◌&&◌, Option, Some, None, length, get_or, eqb, ltb, leb}
 use Rattle.std.proofs.Math.Seq.{slice}
 use Rattle.tree.specs.Kinds as kinds
 use Rattle.tree.specs.Codes as codes
@@ -10,23 +10,22 @@ use Rattle.chunks.specs.declared.stored.StoredChunk.{StoredChunk}
 use Rattle.leaves.specs.Items.{items_at}
 use Rattle.wording.specs.Lines.{say, spaces, decimal, quoted}
 use Rattle.wording.specs.Names.{kind_name, trivia_names, type_name}
-use Rattle.wording.specs.Entries.{indexed, form_of}
-use Rattle.wording.specs.declared.entries.Form.{Form}
-use Rattle.wording.specs.declared.entries.Form.TheVariants.{Text, Entry}
+use Rattle.wording.specs.Entries.{indexed, table_of}
+use Rattle.wording.specs.declared.entries.Table.{Table}
 
 -- so many spaces that an offset's last digit is the fifth of its line
-unfoldable pub spaces_before : ℕ → ℕ
+abbrev pub spaces_before : ℕ → ℕ
 spaces_before n = cond (ltb n 10) 4 (cond (ltb n 100) 3 (cond (ltb n 1000) 2 (cond (ltb n 10000) 1 0)))
 
-unfoldable pub offset : ℕ → List (List ℕ)
+abbrev pub offset : ℕ → List (List ℕ)
 offset n = spaces (spaces_before n) ++ (decimal n ++ say " ")
 
 -- a depth, and as much indentation
-unfoldable pub deep : ℕ → List (List ℕ)
+abbrev pub deep : ℕ → List (List ℕ)
 deep depth = decimal depth ++ (spaces depth ++ spaces depth)
 
 -- a trivia item in brackets: what it is, and its text, of which a newline has none
-unfoldable pub trivium : Trivium → List (List ℕ)
+abbrev pub trivium : Trivium → List (List ℕ)
 trivium item =
     say " [" ++ (say (get_or trivia_names item.code "")
     ++ cond (eqb item.code codes.newline) (say "]") (say " " ++ (quoted item.text ++ say "]")))
@@ -36,21 +35,21 @@ trivia [] = []
 trivia (item ∷ items) = trivium item ++ trivia items
 
 -- a leaf's text in quotes, or the case of an enum whose index is its first byte
-unfoldable pub leaf_shown : List ℕ → Form → Own → List (List ℕ)
-leaf_shown tree Text own = quoted (slice own.text own.end tree)
-leaf_shown tree (Entry table) own = indexed table (get_or tree own.text 0)
+abbrev pub leaf_shown : List ℕ → Option Table → Own → List (List ℕ)
+leaf_shown tree None own = quoted (slice own.text own.end tree)
+leaf_shown tree (Some table) own = indexed table (get_or tree own.text 0)
 
 -- what stands in a record beside its parts: how many a list has, or what a leaf shows
-unfoldable pub content : List ℕ → ℕ → Form → Own → List (List ℕ)
-content tree number form own =
+abbrev pub content : List ℕ → ℕ → Option Table → Own → List (List ℕ)
+content tree number table own =
     cond (eqb number kinds.vec) (say " of " ++ decimal own.count)
-    (cond (leb own.end own.text) [] (say " " ++ leaf_shown tree form own))
+    (cond (leb own.end own.text) [] (say " " ++ leaf_shown tree table own))
 
 -- a record's line: its offset, its depth, its kind by name, a list's count or what a leaf shows, and its trivia
-unfoldable pub record_pieces : List ℕ → ℕ → ℕ → Class → Own → List (List ℕ)
+abbrev pub record_pieces : List ℕ → ℕ → ℕ → Class → Own → List (List ℕ)
 record_pieces tree place depth class own =
     offset place ++ (deep depth ++ (say (kind_name (get_or tree place 0))
-    ++ (content tree (get_or tree place 0) (form_of class) own
+    ++ (content tree (get_or tree place 0) (table_of class) own
     ++ (trivia (items_at tree own.trivia own.trivia_count) ++ say "\n"))))
 
 -- own bytes that do not stand in the tree have no line
@@ -59,7 +58,7 @@ record_line tree place depth class own =
     cond (ltb place (length tree) && leb own.end (length tree)) (record_pieces tree place depth class own) []
 
 -- a chunk's line: its place among the stored ones, its type, its indent and its text
-unfoldable pub chunk_pieces : List ℕ → ℕ → StoredChunk → List (List ℕ)
+abbrev pub chunk_pieces : List ℕ → ℕ → StoredChunk → List (List ℕ)
 chunk_pieces list place chunk =
     offset place ++ (say (type_name chunk.ty) ++ (say " " ++ (decimal chunk.indent ++ (say " "
     ++ (quoted (slice chunk.start chunk.end list) ++ say "\n")))))

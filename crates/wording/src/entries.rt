@@ -1,12 +1,9 @@
-// What a leaf shows: its text, or for a case of an enum what is printed of it under the default options, and its index.
-ghost use Rattle.std.specs.Prelude.{◌≡◌};
-ghost use Rattle.wording.specs.Lines.{line_in, puts};
-ghost use Rattle.wording.specs.Entries.{entry, indexed, form_of};
-ghost use Rattle.wording.specs.declared.entries.Table.TheVariants.{Mnemonics, Registers, Modifiers};
-ghost use Rattle.wording.specs.declared.entries.Table.TheVariants.{VariableTypes, NumberTypes, DataSizes};
-ghost use Rattle.wording.specs.declared.entries.Table.TheVariants.{Operators, Encodings, Modes};
+// What a leaf shows of a case of an enum: what is printed of it under the default options, and its index.
+ghost use Rattle.std.specs.Prelude.{◌≡◌, map};
+ghost use Rattle.wording.specs.Lines.{puts};
+ghost use Rattle.wording.specs.Entries.{entries, indexed, table_of};
 
-use crate::lines;
+use crate::lines::Line;
 use tree::grammar::Class;
 
 // The enums whose cases stand in leaves, by index in declared order.
@@ -23,131 +20,69 @@ pub enum Table {
     Modes,
 }
 
-// How a leaf is shown.
-#[derive(Clone, Copy)]
-pub enum Form {
-    Text,
-    Entry(Table),
+const MNEMONICS: [&str; 56] = [
+    "adc", "and", "asl", "bcc", "bcs", "beq", "bit", "bmi", "bne", "bpl", "brk", "bvc", "bvs",
+    "clc", "cld", "cli", "clv", "cmp", "cpx", "cpy", "dec", "dex", "dey", "eor", "inc", "inx",
+    "iny", "jmp", "jsr", "lda", "ldx", "ldy", "lsr", "nop", "ora", "pha", "php", "pla", "plp",
+    "rol", "ror", "rti", "rts", "sbc", "sec", "sed", "sei", "sta", "stx", "sty", "tax", "tay",
+    "tsx", "txa", "txs", "tya",
+];
+
+const OPERATORS: [&str; 16] = [
+    "+", "-", "*", "/", "%", "<<", ">>", "^", "==", "!=", ">", ">=", "<", "<=", "&&", "||",
+];
+
+const MODES: [&str; 5] = [
+    "AbsoluteOrZp",
+    "Immediate",
+    "Implied",
+    "Indirect",
+    "OuterIndirect",
+];
+
+impl Table {
+    // What is told of its cases.
+    fn names(self) -> &'static [&'static str]
+        ensures { map (λ name. name.now) result.now ≡ entries self }
+    {
+        match self {
+            Table::Mnemonics => &MNEMONICS,
+            Table::Registers => &["x", "y"],
+            Table::Modifiers => &[">", "<"],
+            Table::VariableTypes => &[".const", ".var"],
+            Table::NumberTypes => &["$", "nothing", "%"],
+            Table::DataSizes => &[".byte", ".word", ".dword"],
+            Table::Operators => &OPERATORS,
+            Table::Encodings => &["ascii", "petscii", "petscreen", "nothing"],
+            Table::Modes => &MODES,
+        }
+    }
 }
 
-// How a leaf is shown, by the class of its field.
-pub(crate) fn form_of(class: Class) -> Form
-    ensures { result ≡ form_of class }
+// The enum that a leaf shows a case of, by the class of its field; all other leaves show their text.
+pub(crate) fn table_of(class: Class) -> Option<Table>
+    ensures { result ≡ table_of class }
 {
     match class {
-        Class::Mnemonic => Form::Entry(Table::Mnemonics),
-        Class::IndexRegister => Form::Entry(Table::Registers),
-        Class::AddressModifier => Form::Entry(Table::Modifiers),
-        Class::VariableType => Form::Entry(Table::VariableTypes),
-        Class::NumberType => Form::Entry(Table::NumberTypes),
-        Class::DataSize => Form::Entry(Table::DataSizes),
-        Class::BinaryOp => Form::Entry(Table::Operators),
-        Class::TextEncoding => Form::Entry(Table::Encodings),
-        Class::AddressingMode => Form::Entry(Table::Modes),
-        _ => Form::Text,
-    }
-}
-
-fn put_mnemonic(line: &mut [u8], at: usize, index: usize) -> usize
-    ensures { line_in line.new result ≡ puts (entry Mnemonics index) (line_in line.old at) }
-{
-    if 55 < index {
-        return at;
-    }
-    let names =
-        b"adcandaslbccbcsbeqbitbmibnebplbrkbvcbvsclccldcliclvcmpcpxcpydecdexdeyeorincinxinyjmp\
-            jsrldaldxldylsrnoporaphaphpplaplprolrorrtirtssbcsecsedseistastxstytaxtaytsxtxatxstya";
-    let from = 3 * index;
-    lines::put(line, at, &[names[from], names[from + 1], names[from + 2]])
-}
-
-fn put_register(line: &mut [u8], at: usize, index: usize) -> usize
-    ensures { line_in line.new result ≡ puts (entry Registers index) (line_in line.old at) }
-{
-    let places = [0usize, 1, 2];
-    lines::put_entry(line, at, b"xy", &places, index)
-}
-
-fn put_modifier(line: &mut [u8], at: usize, index: usize) -> usize
-    ensures { line_in line.new result ≡ puts (entry Modifiers index) (line_in line.old at) }
-{
-    let places = [0usize, 1, 2];
-    lines::put_entry(line, at, b"><", &places, index)
-}
-
-fn put_variable_type(line: &mut [u8], at: usize, index: usize) -> usize
-    ensures { line_in line.new result ≡ puts (entry VariableTypes index) (line_in line.old at) }
-{
-    let places = [0usize, 6, 10];
-    lines::put_entry(line, at, b".const.var", &places, index)
-}
-
-fn put_number_type(line: &mut [u8], at: usize, index: usize) -> usize
-    ensures { line_in line.new result ≡ puts (entry NumberTypes index) (line_in line.old at) }
-{
-    let places = [0usize, 1, 8, 9];
-    lines::put_entry(line, at, b"$nothing%", &places, index)
-}
-
-fn put_data_size(line: &mut [u8], at: usize, index: usize) -> usize
-    ensures { line_in line.new result ≡ puts (entry DataSizes index) (line_in line.old at) }
-{
-    let places = [0usize, 5, 10, 16];
-    lines::put_entry(line, at, b".byte.word.dword", &places, index)
-}
-
-fn put_operator(line: &mut [u8], at: usize, index: usize) -> usize
-    ensures { line_in line.new result ≡ puts (entry Operators index) (line_in line.old at) }
-{
-    let places = [
-        0usize, 1, 2, 3, 4, 5, 7, 9, 10, 12, 14, 15, 17, 18, 20, 22, 24,
-    ];
-    lines::put_entry(line, at, b"+-*/%<<>>^==!=>>=<<=&&||", &places, index)
-}
-
-fn put_encoding(line: &mut [u8], at: usize, index: usize) -> usize
-    ensures { line_in line.new result ≡ puts (entry Encodings index) (line_in line.old at) }
-{
-    let places = [0usize, 5, 12, 21, 28];
-    lines::put_entry(line, at, b"asciipetsciipetscreennothing", &places, index)
-}
-
-fn put_mode(line: &mut [u8], at: usize, index: usize) -> usize
-    ensures { line_in line.new result ≡ puts (entry Modes index) (line_in line.old at) }
-{
-    let places = [0usize, 12, 21, 28, 36, 49];
-    lines::put_entry(
-        line,
-        at,
-        b"AbsoluteOrZpImmediateImpliedIndirectOuterIndirect",
-        &places,
-        index,
-    )
-}
-
-// What is told of a case.
-fn put_case(line: &mut [u8], at: usize, table: Table, index: usize) -> usize
-    ensures { line_in line.new result ≡ puts (entry table index) (line_in line.old at) }
-{
-    match table {
-        Table::Mnemonics => put_mnemonic(line, at, index),
-        Table::Registers => put_register(line, at, index),
-        Table::Modifiers => put_modifier(line, at, index),
-        Table::VariableTypes => put_variable_type(line, at, index),
-        Table::NumberTypes => put_number_type(line, at, index),
-        Table::DataSizes => put_data_size(line, at, index),
-        Table::Operators => put_operator(line, at, index),
-        Table::Encodings => put_encoding(line, at, index),
-        Table::Modes => put_mode(line, at, index),
+        Class::Mnemonic => Some(Table::Mnemonics),
+        Class::IndexRegister => Some(Table::Registers),
+        Class::AddressModifier => Some(Table::Modifiers),
+        Class::VariableType => Some(Table::VariableTypes),
+        Class::NumberType => Some(Table::NumberTypes),
+        Class::DataSize => Some(Table::DataSizes),
+        Class::BinaryOp => Some(Table::Operators),
+        Class::TextEncoding => Some(Table::Encodings),
+        Class::AddressingMode => Some(Table::Modes),
+        _ => None,
     }
 }
 
 // A case, and its index in parentheses.
-pub(crate) fn put_indexed(line: &mut [u8], at: usize, table: Table, index: usize) -> usize
-    ensures { line_in line.new result ≡ puts (indexed table index) (line_in line.old at) }
+pub(crate) fn put_indexed(line: &mut Line, table: Table, index: usize)
+    ensures { line.new ≡ puts (indexed table index) line.old }
 {
-    let first = put_case(line, at, table, index);
-    let second = lines::put(line, first, b" (");
-    let third = lines::put_number(line, second, index);
-    lines::put(line, third, b")")
+    line.put_name(table.names(), index);
+    line.put(b" (");
+    line.put_number(index);
+    line.put(b")");
 }

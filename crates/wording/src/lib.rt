@@ -1,5 +1,5 @@
 // What the command `lesson` says, as lines in a lent buffer: refusals as sentences, records, chunks and losses.
-#![tactic(auto)]
+#![tactic(auto, using(crate::proofs::Pieces::joined), unfolding(crate::specs::Lines::puts, crate::specs::Lines::ascii))]
 
 mod entries;
 pub mod lines;
@@ -7,3 +7,4 @@ mod names;
 pub mod places;
 pub mod records;
 pub mod sentences;
+mod trivia;

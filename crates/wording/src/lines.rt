@@ -1,132 +1,122 @@
-// A line in a lent buffer, put together from pieces: the buffer and how much of it is used. A piece that does not fit is left out.
-ghost use Rattle.std.specs.Prelude.{◌≡◌, [], ◌∷◌, map, true, ◌+◌, ◌<◌, length, get_or};
-ghost use Rattle.leaves.specs.Texts.{cuts, in_order};
+// A line in a lent buffer, put together from pieces. A piece that does not fit is left out.
+ghost use Rattle.std.specs.Prelude.{◌≡◌, [], ◌∷◌, map, take, get_or};
 ghost use Rattle.wording.specs.Lines.{line_in, puts, spaces, digits, decimal, coded, shown, quoted};
 
-use text::{characters, numbers, stores};
+use std::marker::Model;
+use text::{characters, stores};
 
-// Puts bytes behind what a line holds.
-pub fn put(line: &mut [u8], at: usize, bytes: &[u8]) -> usize
-    ensures { line_in line.new result ≡ puts (bytes.now ∷ []) (line_in line.old at) }
-{
-    let stored = stores::copy(bytes, line, at);
-    match stored {
-        Some(end) => end,
-        None => at,
-    }
+// The buffer, and how much of it is used.
+#[derive(Drop)]
+pub struct Line<'a> {
+    buffer: &'a mut [u8],
+    used: usize,
 }
 
-pub(crate) fn put_spaces(line: &mut [u8], at: usize, count: usize) -> usize
-    ensures { line_in line.new result ≡ puts (spaces count) (line_in line.old at) }
-{
-    let stored = stores::fill(line, at, count, characters::SPACE);
-    match stored {
-        Some(end) => end,
-        None => at,
-    }
+impl<'a> Model for Line<'a> {
+    ghost use Rattle.std.specs.Prelude.{◌≤◌, length};
+    ghost use Rattle.wording.specs.Lines as lines;
+
+    ghost Value = { lines.Line };
+
+    ghost view = { λ line. lines.line_in line.buffer.now line.used };
+
+    ghost invariant = { λ line. line.used ≤ length line.buffer.now };
 }
 
-// The text of an index: the bytes between two of the places where the texts of a table begin and end.
-pub(crate) fn put_entry(
-    line: &mut [u8],
-    at: usize,
-    texts: &[u8],
-    places: &[usize],
-    index: usize,
-) -> usize
-    requires { in_order (length texts.now) places.now ≡ true }
-    ensures { line_in line.new result ≡ puts (get_or (cuts texts.now places.now) index [] ∷ [])
-        (line_in line.old at) }
-{
-    if places.len() < 2 {
-        return at;
+impl<'a> Line<'a> {
+    // A line with nothing in it.
+    pub fn new(buffer: &'a mut [u8]) -> Line<'a>
+        ensures { result ≡ line_in buffer.old 0 }
+    {
+        Line { buffer, used: 0 }
     }
-    if places.len() - 2 < index {
-        return at;
-    }
-    let from = places[index];
-    let to = places[index + 1];
-    put(line, at, &texts[from..to])
-}
 
-fn digit(n: usize) -> u8
-    requires { n < 10 }
-    ensures { result ≡ 48 + n }
-{
-    48 + n as u8
-}
+    // What the line holds.
+    pub fn written(&self) -> &[u8]
+        ensures { result.now ≡ take self.now.used self.now.buffer }
+    {
+        &self.buffer[..self.used]
+    }
 
-// The last digits of a number, at most so many.
-fn put_digits(line: &mut [u8], at: usize, n: usize, most: usize) -> usize
-    ensures { line_in line.new result ≡ puts (digits most n) (line_in line.old at) }
-{
-    if most == 0 {
-        return at;
+    // Puts bytes behind what the line holds.
+    pub fn put(&mut self, bytes: &[u8])
+        ensures { self.new ≡ puts (bytes.now ∷ []) self.old }
+    {
+        if let Some(end) = stores::copy(bytes, self.buffer, self.used) {
+            self.used = end;
+        }
     }
-    if n < 10 {
-        return put(line, at, &[digit(n)]);
-    }
-    let next = put_digits(line, at, n / 10, most - 1);
-    put(line, next, &[digit(n % 10)])
-}
 
-// A number in decimal: no number that a computer's word holds has more than twenty digits.
-pub fn put_number(line: &mut [u8], at: usize, n: usize) -> usize
-    ensures { line_in line.new result ≡ puts (decimal n) (line_in line.old at) }
-{
-    put_digits(line, at, n, 20)
-}
+    pub(crate) fn put_spaces(&mut self, count: usize)
+        ensures { self.new ≡ puts (spaces count) self.old }
+    {
+        if let Some(end) = stores::fill(self.buffer, self.used, count, characters::SPACE) {
+            self.used = end;
+        }
+    }
 
-// A byte by its two digits of base sixteen.
-fn put_coded(line: &mut [u8], at: usize, byte: u8) -> usize
-    ensures { line_in line.new result ≡ puts (coded byte ∷ []) (line_in line.old at) }
-{
-    let digits = b"0123456789abcdef";
-    let high = numbers::wide(byte / 16);
-    let low = numbers::wide(byte % 16);
-    put(line, at, &[b'\\', b'x', digits[high], digits[low]])
-}
+    // The name of an index; past the last there is none.
+    pub(crate) fn put_name(&mut self, names: &[&str], index: usize)
+        ensures { self.new ≡ puts (get_or (map (λ name. name.now) names.now) index [] ∷ []) self.old }
+    {
+        if let Some(name) = names.get(index) {
+            self.put(name.as_bytes());
+        }
+    }
 
-// A byte as a person reads it: a newline as \n, a quote and a backslash behind a backslash, and what is no visible character by its number.
-fn put_shown(line: &mut [u8], at: usize, byte: u8) -> usize
-    ensures { line_in line.new result ≡ puts (shown byte ∷ []) (line_in line.old at) }
-{
-    if byte == characters::NEWLINE {
-        return put(line, at, b"\\n");
+    // The last digits of a number, at most so many.
+    fn put_digits(&mut self, n: usize, most: usize)
+        ensures { self.new ≡ puts (digits most n) self.old }
+    {
+        if most == 0 {
+            return;
+        }
+        if 10 <= n {
+            self.put_digits(n / 10, most - 1);
+        }
+        self.put(&[b'0' + (n % 10) as u8]);
     }
-    if byte == characters::QUOTE {
-        return put(line, at, b"\\\"");
-    }
-    if byte == 92 {
-        return put(line, at, b"\\\\");
-    }
-    if byte < 32 {
-        return put_coded(line, at, byte);
-    }
-    if 126 < byte {
-        return put_coded(line, at, byte);
-    }
-    put(line, at, &[byte])
-}
 
-// Each byte of a text so.
-fn put_all_shown(line: &mut [u8], at: usize, bytes: &[u8]) -> usize
-    ensures { line_in line.new result ≡ puts (map shown bytes.now) (line_in line.old at) }
-{
-    let mut next = at;
-    let mut i = 0;
-    while i < bytes.len() {
-        next = put_shown(line, next, bytes[i]);
-        i += 1;
+    // A number in decimal: no number that a computer's word holds has more than twenty digits.
+    pub fn put_number(&mut self, n: usize)
+        ensures { self.new ≡ puts (decimal n) self.old }
+    {
+        self.put_digits(n, 20);
     }
-    next
-}
 
-// A text in quotes.
-pub(crate) fn put_quoted(line: &mut [u8], at: usize, bytes: &[u8]) -> usize
-    ensures { line_in line.new result ≡ puts (quoted bytes.now) (line_in line.old at) }
-{
-    let first = put(line, at, b"\"");
-    let last = put_all_shown(line, first, bytes);
-    put(line, last, b"\"")
+    // A byte by its two digits of base sixteen.
+    fn put_coded(&mut self, byte: u8)
+        ensures { self.new ≡ puts (coded byte ∷ []) self.old }
+    {
+        let digits = b"0123456789abcdef";
+        let high = digits[usize::from(byte / 16)];
+        let low = digits[usize::from(byte % 16)];
+        self.put(&[b'\\', b'x', high, low]);
+    }
+
+    // A byte as a person reads it: a newline as \n, a quote and a backslash behind a backslash, and what is no visible
+    // character by its number.
+    #[tactic(auto, using(std::proofs::lemmas::Bool::Decides::nat_tests), unfolding(crate::specs::Lines::shown))]
+    fn put_shown(&mut self, byte: u8)
+        ensures { self.new ≡ puts (shown byte ∷ []) self.old }
+    {
+        match byte {
+            characters::NEWLINE => self.put(b"\\n"),
+            characters::QUOTE => self.put(b"\\\""),
+            b'\\' => self.put(b"\\\\"),
+            b' '..=b'~' => self.put(&[byte]),
+            _ => self.put_coded(byte),
+        }
+    }
+
+    // A text in quotes.
+    pub(crate) fn put_quoted(&mut self, bytes: &[u8])
+        ensures { self.new ≡ puts (quoted bytes.now) self.old }
+    {
+        self.put(b"\"");
+        for &byte in bytes {
+            self.put_shown(byte);
+        }
+        self.put(b"\"");
+    }
 }

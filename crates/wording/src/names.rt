@@ -1,78 +1,99 @@
 // The names of refusals, kinds, chunk types and trivia.
 ghost use Rattle.std.specs.Prelude.{◌≡◌, get_or};
 ghost use Rattle.answers.specs.Numbers.{number};
-ghost use Rattle.wording.specs.Lines.{line_in, puts, say};
-ghost use Rattle.wording.specs.Names.{reasons, token_kinds, part_kinds, kind_name, trivia_names, type_name};
+ghost use Rattle.wording.specs.Lines.{puts, say, ascii};
+ghost use Rattle.wording.specs.Names.{reasons, kind_name, trivia_names, type_name};
 
-use crate::lines;
+use crate::lines::Line;
 use answers::Reason;
 use chunks::stored::ChunkType;
-use tree::kinds;
 
-pub(crate) fn put_reason(line: &mut [u8], at: usize, reason: Reason) -> usize
-    ensures { line_in line.new result ≡ puts (say (get_or reasons (number reason) "")) (line_in line.old at) }
-{
-    let names =
-        b"options lengthoptions valuetree lengthtree depthtree layoutchunk layoutnot ASCIIwork roomtext room";
-    let places = [0usize, 0, 14, 27, 38, 48, 59, 71, 80, 89, 98];
-    lines::put_entry(line, at, names, &places, reason.number())
-}
-
-// The kinds that are tokens, by their numbers.
-fn put_token(line: &mut [u8], at: usize, number: usize) -> usize
-    ensures { line_in line.new result ≡ puts (say (get_or token_kinds number "")) (line_in line.old at) }
-{
-    let names =
-        b"AlignAssertBracesConfigConfigPairDataDefinitionEofErrorExpressionIfImportFileInstructionLabelLoopMacroDefinitionMacroInvocationProgramCounterDefinitionSegmentTestTextTraceVariableDefinition";
-    let places = [
-        0usize, 5, 11, 17, 23, 33, 37, 47, 50, 55, 65, 67, 73, 77, 88, 93, 97, 112, 127, 151, 158,
-        162, 166, 171, 189,
-    ];
-    lines::put_entry(line, at, names, &places, number)
-}
-
-// The others, from a list on.
-fn put_part(line: &mut [u8], at: usize, number: usize) -> usize
-    ensures { line_in line.new result ≡ puts (say (get_or part_kinds number "")) (line_in line.old at) }
-{
-    let names =
-        b"listleafpath itemBlockBinaryExpressionFactorCurrentProgramCounterExprParensFunctionCallIdentifierValueNumberInterpolatedString factorInterpolatedStringOperandRegisterSuffixImportAsImportArgs::AllSpecificImportArgArgItem";
-    let places = [
-        0usize, 4, 8, 17, 22, 38, 44, 65, 75, 87, 102, 108, 133, 151, 158, 172, 180, 195, 212, 219,
-    ];
-    lines::put_entry(line, at, names, &places, number)
-}
-
-// A kind, by its number.
-pub(crate) fn put_kind(line: &mut [u8], at: usize, number: usize) -> usize
-    ensures { line_in line.new result ≡ puts (say (kind_name number)) (line_in line.old at) }
-{
-    if number < kinds::VEC {
-        return put_token(line, at, number);
-    }
-    put_part(line, at, number - kinds::VEC)
-}
+// The kinds by their numbers: the tokens, and from a list on their parts.
+const KINDS: [&str; 43] = [
+    "Align",
+    "Assert",
+    "Braces",
+    "Config",
+    "ConfigPair",
+    "Data",
+    "Definition",
+    "Eof",
+    "Error",
+    "Expression",
+    "If",
+    "Import",
+    "File",
+    "Instruction",
+    "Label",
+    "Loop",
+    "MacroDefinition",
+    "MacroInvocation",
+    "ProgramCounterDefinition",
+    "Segment",
+    "Test",
+    "Text",
+    "Trace",
+    "VariableDefinition",
+    "list",
+    "leaf",
+    "path item",
+    "Block",
+    "BinaryExpression",
+    "Factor",
+    "CurrentProgramCounter",
+    "ExprParens",
+    "FunctionCall",
+    "IdentifierValue",
+    "Number",
+    "InterpolatedString factor",
+    "InterpolatedString",
+    "Operand",
+    "RegisterSuffix",
+    "ImportAs",
+    "ImportArgs::All",
+    "SpecificImportArg",
+    "ArgItem",
+];
 
 // What a trivia item is, by its code.
-pub(crate) fn put_code(line: &mut [u8], at: usize, code: usize) -> usize
-    ensures { line_in line.new result ≡ puts (say (get_or trivia_names code "")) (line_in line.old at) }
+const TRIVIA: [&str; 4] = ["whitespace", "newline", "comment", "line comment"];
+
+pub(crate) fn reason_name(reason: Reason) -> &'static str
+    ensures { result.now ≡ ascii (get_or reasons (number reason) "") }
 {
-    let places = [0usize, 10, 17, 24, 36];
-    lines::put_entry(
-        line,
-        at,
-        b"whitespacenewlinecommentline comment",
-        &places,
-        code,
-    )
+    match reason {
+        Reason::OptionsLength => "options length",
+        Reason::OptionsValue => "options value",
+        Reason::TreeLength => "tree length",
+        Reason::TreeDepth => "tree depth",
+        Reason::TreeLayout => "tree layout",
+        Reason::ChunkLayout => "chunk layout",
+        Reason::NotAscii => "not ASCII",
+        Reason::WorkRoom => "work room",
+        Reason::TextRoom => "text room",
+    }
 }
 
-pub(crate) fn put_type(line: &mut [u8], at: usize, ty: ChunkType) -> usize
-    ensures { line_in line.new result ≡ puts (say (type_name ty)) (line_in line.old at) }
+pub(crate) fn type_name(ty: ChunkType) -> &'static str
+    ensures { result.now ≡ ascii (type_name ty) }
 {
     match ty {
-        ChunkType::Code => lines::put(line, at, b"code"),
-        ChunkType::Label => lines::put(line, at, b"label"),
-        ChunkType::Comment => lines::put(line, at, b"comment"),
+        ChunkType::Code => "code",
+        ChunkType::Label => "label",
+        ChunkType::Comment => "comment",
     }
+}
+
+// A kind, by its number: a byte of a tree, which may be no kind's and then has no name.
+pub(crate) fn put_kind(line: &mut Line, number: usize)
+    ensures { line.new ≡ puts (say (kind_name number)) line.old }
+{
+    line.put_name(&KINDS, number);
+}
+
+// What a trivia item is, by its code: a byte of a tree, as above.
+pub(crate) fn put_code(line: &mut Line, code: u8)
+    ensures { line.new ≡ puts (say (get_or trivia_names code "")) line.old }
+{
+    line.put_name(&TRIVIA, usize::from(code));
 }

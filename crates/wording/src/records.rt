@@ -1,212 +1,127 @@
 // A line for a record of a tree, and one for a chunk.
-ghost use Rattle.std.specs.Prelude.{◌≡◌, ◌≤◌, ◌<◌, length};
-ghost use Rattle.leaves.specs.Items.{item_of, items_at};
-ghost use Rattle.wording.specs.Lines.{line_in, puts};
-ghost use Rattle.wording.specs.Records.{spaces_before, offset, deep, trivium, trivia, leaf_shown, content, record_pieces, record_line, chunk_pieces, chunk_line};
+ghost use Rattle.std.specs.Prelude.{◌≡◌, ◌≤◌, length};
+ghost use Rattle.leaves.specs.Items.{items_at};
+ghost use Rattle.wording.specs.Lines.{puts};
+ghost use Rattle.wording.specs.Records.{spaces_before, offset, deep, trivium, trivia, content, record_line, chunk_line};
 
-use crate::entries::Form;
-use crate::{entries, lines, names};
+use crate::entries::Table;
+use crate::lines::Line;
+use crate::trivia::Items;
+use crate::{entries, names};
 use chunks::stored::StoredChunk;
-use text::numbers;
 use tree::grammar::Class;
 use tree::own::Own;
-use tree::parts::TriviumSpan;
-use tree::{codes, kinds, parts};
+use tree::{codes, kinds};
 
 // How many spaces stand before an offset, so that its last digit is the fifth of the line.
 fn spaces_before(n: usize) -> usize
     ensures { result ≡ spaces_before n }
 {
-    if n < 10 {
-        return 4;
+    match n {
+        0..10 => 4,
+        10..100 => 3,
+        100..1000 => 2,
+        1000..10000 => 1,
+        _ => 0,
     }
-    if n < 100 {
-        return 3;
-    }
-    if n < 1000 {
-        return 2;
-    }
-    if n < 10000 {
-        return 1;
-    }
-    0
 }
 
 // An offset, which begins a line.
-pub(crate) fn put_offset(line: &mut [u8], at: usize, place: usize) -> usize
-    ensures { line_in line.new result ≡ puts (offset place) (line_in line.old at) }
+pub(crate) fn put_offset(line: &mut Line, place: usize)
+    ensures { line.new ≡ puts (offset place) line.old }
 {
-    let first = lines::put_spaces(line, at, spaces_before(place));
-    let second = lines::put_number(line, first, place);
-    lines::put(line, second, b" ")
+    line.put_spaces(spaces_before(place));
+    line.put_number(place);
+    line.put(b" ");
 }
 
 // A depth, and as much indentation.
-fn put_depth(line: &mut [u8], at: usize, depth: usize) -> usize
-    ensures { line_in line.new result ≡ puts (deep depth) (line_in line.old at) }
+fn put_depth(line: &mut Line, depth: usize)
+    ensures { line.new ≡ puts (deep depth) line.old }
 {
-    let first = lines::put_number(line, at, depth);
-    let second = lines::put_spaces(line, first, depth);
-    lines::put_spaces(line, second, depth)
+    line.put_number(depth);
+    line.put_spaces(depth);
+    line.put_spaces(depth);
 }
 
-// A trivia item in brackets: what it is, and its text.
-fn put_trivium(line: &mut [u8], at: usize, tree: &[u8], item: TriviumSpan) -> usize
-    requires { (item.start ≤ item.end) × (item.end ≤ length tree.now) }
-    ensures { line_in line.new result ≡ puts (trivium (item_of tree.now item))
-        (line_in line.old at) }
+// A trivia item in brackets: what it is, and its text, of which a newline has none.
+fn put_trivium(line: &mut Line, code: u8, text: &[u8])
+    ensures { line.new ≡ puts (trivium (record { code = code; text = text.now })) line.old }
 {
-    let start = item.start;
-    let end = item.end;
-    let code = numbers::wide(item.code);
-    let first = lines::put(line, at, b" [");
-    let second = names::put_code(line, first, code);
-    if item.code == codes::NEWLINE {
-        return lines::put(line, second, b"]");
+    line.put(b" [");
+    names::put_code(line, code);
+    if code != codes::NEWLINE {
+        line.put(b" ");
+        line.put_quoted(text);
     }
-    let third = lines::put(line, second, b" ");
-    let fourth = lines::put_quoted(line, third, &tree[start..end]);
-    lines::put(line, fourth, b"]")
+    line.put(b"]");
 }
 
-// So many trivia items from a place on.
-fn put_trivia(line: &mut [u8], at: usize, tree: &[u8], place: usize, count: usize) -> usize
-    ensures { line_in line.new result ≡ puts (trivia (items_at tree.now place count))
-        (line_in line.old at) }
+// The trivia items of a record.
+fn put_trivia(line: &mut Line, tree: &[u8], own: Own)
+    ensures { line.new ≡ puts (trivia (items_at tree.now own.trivia own.trivia_count)) line.old }
 {
-    let mut next = at;
-    let mut from = place;
-    let mut left = count;
-    while 0 < left {
-        let read = parts::trivium_at(tree, from);
-        let Some(item) = read else {
-            return next;
-        };
-        next = put_trivium(line, next, tree, item);
-        from = item.end;
-        left -= 1;
-    }
-    next
-}
-
-// What a leaf shows: its text in quotes, or the case of an enum whose index is its first byte.
-fn put_leaf(line: &mut [u8], at: usize, tree: &[u8], form: Form, own: Own) -> usize
-    requires { (own.text < own.end) × (own.end ≤ length tree.now) }
-    ensures { line_in line.new result ≡ puts (leaf_shown tree.now form own)
-        (line_in line.old at) }
-{
-    let start = own.text;
-    let end = own.end;
-    match form {
-        Form::Text => lines::put_quoted(line, at, &tree[start..end]),
-        Form::Entry(table) => entries::put_indexed(line, at, table, numbers::wide(tree[start])),
+    for (code, text) in Items::of(tree, own) {
+        put_trivium(line, code, text);
     }
 }
 
-// What stands in a record beside its parts: how many a list has, or what a leaf shows.
+// What stands in a record beside its parts: how many a list has, or what a leaf shows, its text in quotes or the case
+// of an enum whose index is its first byte. The kind is told by a byte of a tree, which may be no kind's.
 pub(crate) fn put_content(
-    line: &mut [u8],
-    at: usize,
+    line: &mut Line,
     tree: &[u8],
     number: usize,
-    form: Form,
+    table: Option<Table>,
     own: Own,
-) -> usize
+)
     requires { own.end ≤ length tree.now }
-    ensures { line_in line.new result ≡ puts (content tree.now number form own)
-        (line_in line.old at) }
+    ensures { line.new ≡ puts (content tree.now number table own) line.old }
 {
     if number == kinds::VEC {
-        let first = lines::put(line, at, b" of ");
-        return lines::put_number(line, first, own.count);
+        line.put(b" of ");
+        return line.put_number(own.count);
     }
     if own.end <= own.text {
-        return at;
+        return;
     }
-    let first = lines::put(line, at, b" ");
-    put_leaf(line, first, tree, form, own)
+    line.put(b" ");
+    match table {
+        None => line.put_quoted(&tree[own.text..own.end]),
+        Some(table) => entries::put_indexed(line, table, usize::from(tree[own.text])),
+    }
 }
 
-// A record's line: its offset, its depth, its kind by name, a list's count or what a leaf shows, and its trivia.
-fn put_standing_record(
-    line: &mut [u8],
-    at: usize,
-    tree: &[u8],
-    place: usize,
-    depth: usize,
-    class: Class,
-    own: Own,
-) -> usize
-    requires { (place < length tree.now) × (own.end ≤ length tree.now) }
-    ensures { line_in line.new result ≡ puts (record_pieces tree.now place depth class own)
-        (line_in line.old at) }
+// A record's line: its offset, its depth, its kind by name, a list's count or what a leaf shows, and its trivia;
+// nothing where its own bytes do not stand in the tree.
+pub fn put_record(line: &mut Line, tree: &[u8], place: usize, depth: usize, class: Class, own: Own)
+    ensures { line.new ≡ puts (record_line tree.now place depth class own) line.old }
 {
-    let number = numbers::wide(tree[place]);
-    let form = entries::form_of(class);
-    let first = put_offset(line, at, place);
-    let second = put_depth(line, first, depth);
-    let third = names::put_kind(line, second, number);
-    let fourth = put_content(line, third, tree, number, form, own);
-    let last = put_trivia(line, fourth, tree, own.trivia, own.trivia_count);
-    lines::put(line, last, b"\n")
+    if tree.len() <= place || tree.len() < own.end {
+        return;
+    }
+    let number = usize::from(tree[place]);
+    put_offset(line, place);
+    put_depth(line, depth);
+    names::put_kind(line, number);
+    put_content(line, tree, number, entries::table_of(class), own);
+    put_trivia(line, tree, own);
+    line.put(b"\n");
 }
 
-// The same, and nothing where the own bytes do not stand in the tree.
-pub fn put_record(
-    line: &mut [u8],
-    at: usize,
-    tree: &[u8],
-    place: usize,
-    depth: usize,
-    class: Class,
-    own: Own,
-) -> usize
-    ensures { line_in line.new result ≡ puts (record_line tree.now place depth class own)
-        (line_in line.old at) }
+// A chunk's line: its place among the stored ones, its type, its indent and its text; nothing where it does not stand
+// in the list.
+pub fn put_chunk(line: &mut Line, list: &[u8], place: usize, chunk: StoredChunk)
+    ensures { line.new ≡ puts (chunk_line list.now place chunk) line.old }
 {
-    if tree.len() <= place {
-        return at;
-    }
-    if tree.len() < own.end {
-        return at;
-    }
-    put_standing_record(line, at, tree, place, depth, class, own)
-}
-
-// A chunk's line: its place among the stored ones, its type, its indent and its text.
-fn put_standing_chunk(
-    line: &mut [u8],
-    at: usize,
-    list: &[u8],
-    place: usize,
-    chunk: StoredChunk,
-) -> usize
-    requires { (chunk.start ≤ chunk.end) × (chunk.end ≤ length list.now) }
-    ensures { line_in line.new result ≡ puts (chunk_pieces list.now place chunk)
-        (line_in line.old at) }
-{
-    let start = chunk.start;
-    let end = chunk.end;
-    let ty = chunk.ty;
-    let first = put_offset(line, at, place);
-    let second = names::put_type(line, first, ty);
-    let third = lines::put(line, second, b" ");
-    let fourth = lines::put_number(line, third, chunk.indent);
-    let fifth = lines::put(line, fourth, b" ");
-    let sixth = lines::put_quoted(line, fifth, &list[start..end]);
-    lines::put(line, sixth, b"\n")
-}
-
-// The same, and nothing where the chunk does not stand in the list.
-pub fn put_chunk(line: &mut [u8], at: usize, list: &[u8], place: usize, chunk: StoredChunk) -> usize
-    ensures { line_in line.new result ≡ puts (chunk_line list.now place chunk)
-        (line_in line.old at) }
-{
-    if chunk.end < chunk.start {
-        return at;
-    }
-    if list.len() < chunk.end {
-        return at;
-    }
-    put_standing_chunk(line, at, list, place, chunk)
+    let Some(text) = list.get(chunk.start..chunk.end) else {
+        return;
+    };
+    put_offset(line, place);
+    line.put(names::type_name(chunk.ty).as_bytes());
+    line.put(b" ");
+    line.put_number(chunk.indent);
+    line.put(b" ");
+    line.put_quoted(text);
+    line.put(b"\n");
 }

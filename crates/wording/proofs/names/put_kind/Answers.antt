@@ -1,9 +1,12 @@
--- By the test of the number.
-use borrow.Author.Tests.{lt-ltb, le-ltb}
+-- The table is that of the tokens and then that of their parts.
+use mathlib.Core.Path.{refl}
+use mathlib.Core.List.{◌++◌}
+use Rattle.text.specs.Literals.{ascii}
+use Rattle.wording.specs.Names.{token_kinds, part_kinds}
+use Rattle.wording.proofs.Pieces.{name_of, kind_of}
 use Rattle.wording.proofs.names.put_kind.Goals as goal
 
-pub returns-then-number-lt-VEC : goal.returns-then-number-lt-VEC
-returns-then-number-lt-VEC c = rw (lt-ltb _ _ c.if-number-lt-VEC.true) c.put_token.ensures
-
 pub returns : goal.returns
-returns c = rw (le-ltb _ _ c.if-number-lt-VEC.false) c.put_part.ensures
+unfolding ascii
+returns c =
+    rw (← kind_of c.args.number, ← name_of (token_kinds ++ part_kinds) _ c.args.number refl) c.put_name.ensures

@@ -1,14 +1,10 @@
--- The loop's invariant: the comments among the items that are left go on from where those of all have come to. The measure is how many are left.
+-- The comments that are left go on from where those of all have come to.
 use mathlib.Core.Path.{◌≡◌}
-use lib.ListN.{length}
-use Rattle.leaves.specs.Items.{items_at}
+use Rattle.wording.specs.Lines.{puts}
 use Rattle.wording.specs.Losses.{comments}
-use Rattle.wording.specs.Lines.{line_in, puts}
+use Rattle.wording.specs.Trivia.{items_left}
 use Rattle.wording.proofs.places.put_comments.Given as goal
 
-abbrev pub invariant-loop-left : goal.invariant-loop-left
-invariant-loop-left l = (length l.line ≡ length l.initial.line)
-    × (puts (comments (items_at l.tree l.place l.count)) (line_in l.initial.line l.initial.next) ≡ puts (comments (items_at l.tree l.from l.left)) (line_in l.line l.next))
-
-abbrev pub decreases-loop-left : goal.decreases-loop-left
-decreases-loop-left l = l.left
+abbrev pub invariant-loop-code : goal.invariant-loop-code
+invariant-loop-code l =
+    puts (comments (items_left l.initial.code-iterator)) l.initial.line ≡ puts (comments (items_left l.code-iterator)) l.line

@@ -1,21 +1,20 @@
--- The loop's invariant: the letters that are left go on from where all of them have come to. The measure is how many are left.
-use mathlib.Core.Path.{refl, sym, ◌∙◌}
+-- A letter is put where its bit stands, and the others go on from there.
+use Prim.Native.Nat.{◌+◌, ◌-◌}
 use native.Mathlib.Omega.{arith}
-use Rattle.wording.proofs.Pieces.{letters_left, letters_next}
+use Rattle.wording.specs.Lines.{puts}
+use Rattle.wording.proofs.Pieces.{joined, letters_none, letters_next}
+use Rattle.wording.proofs.places.put_letters.Goals.{then-rest-eq1, else-rest-eq1}
 use Rattle.wording.proofs.places.put_letters.Goals as goal
 
-pub loop-left-init : goal.loop-left-init
-loop-left-init c = (refl, refl, refl)
-
-pub loop-left-preserved : goal.loop-left-preserved
-loop-left-preserved c = (
-  c.put_letter-next.auto.line ∙ c.loop-left.invariant.0,
-  omega arith,
-  c.loop-left.invariant.2 ∙ letters_next _ _ _ _ c.loop-left-test.true c.put_letter-next.ensures,
-)
-
-pub shape_of-line : goal.shape_of-line
-shape_of-line c = c.loop-left.invariant.0
+pub loop-letter-preserved : goal.loop-letter-preserved
+unfolding puts
+loop-letter-preserved c =
+    let at = c.loop-letter.letter in
+    let next = letters_next (105 - at) at c.loop-letter.rest (105 - (at + 1)) (omega arith) in
+    elim c.if-rest-eq1.branch [ then-rest-eq1 w ↦ grind (arith, joined, next) | else-rest-eq1 w ↦ grind (arith, joined, next) ]
 
 pub returns : goal.returns
-returns c = sym (c.loop-left.invariant.2 ∙ letters_left _ _ _ _ c.loop-left-test.false)
+unfolding puts
+returns c =
+    let none = letters_none (105 - c.loop-letter.letter) c.loop-letter.letter c.loop-letter.rest (omega arith) in
+    grind (arith, joined, none)

@@ -1,31 +1,14 @@
--- The loop's invariant: what is left of the items goes on from where all of them have come to. The measure is how many are left.
-use mathlib.Core.Path.{refl, sym, ◌∙◌}
-use Rattle.leaves.proofs.Items.{item_lies}
-use Rattle.wording.proofs.Pieces.{trivia_left, trivia_broken, trivia_next}
+-- An item is put, and those behind it go on from there.
+use native.Mathlib.Omega.{arith}
+use Rattle.wording.specs.Lines.{puts}
+use Rattle.wording.specs.Records.{trivia}
+use Rattle.wording.proofs.Pieces.{joined}
 use Rattle.wording.proofs.records.put_trivia.Goals as goal
 
-pub loop-left-init : goal.loop-left-init
-loop-left-init c = (refl, refl)
-
-pub shape_of-line-in_default : goal.shape_of-line-in_default
-shape_of-line-in_default c = c.loop-left.invariant.0
-
-pub returns-in_default : goal.returns-in_default
-returns-in_default c =
-    sym (c.loop-left.invariant.1 ∙ trivia_broken _ _ _ _ c.loop-left-test.true c.trivium_at-read.ensures c.in_default.is)
-
-pub put_trivium-next-requires : goal.put_trivium-next-requires
-put_trivium-next-requires c = item_lies _ _ _ c.trivium_at-read.ensures c.in-Some.is
-
-pub loop-left-preserved : goal.loop-left-preserved
-loop-left-preserved c = (
-  c.put_trivium-next.auto.line ∙ c.loop-left.invariant.0,
-  c.loop-left.invariant.1
-      ∙ trivia_next _ _ _ _ c.loop-left-test.true c.trivium_at-read.ensures _ c.in-Some.is c.put_trivium-next.ensures,
-)
-
-pub shape_of-line : goal.shape_of-line
-shape_of-line c = c.loop-left.invariant.0
+pub loop-code-preserved : goal.loop-code-preserved
+unfolding puts trivia
+loop-code-preserved c = grind (arith, joined, c.in-Some.ensures.steps)
 
 pub returns : goal.returns
-returns c = sym (c.loop-left.invariant.1 ∙ trivia_left _ _ _ _ c.loop-left-test.false)
+unfolding puts trivia
+returns c = grind (arith, joined)
