@@ -3,22 +3,17 @@ use Rattle.std.specs.Prelude.{Option, Some, None}
 use mathlib.Core.Path.{◌≡◌, refl, sym, ap, ◌∙◌}
 use mathlib.Core.List.{List, []}
 use mathlib.Core.Bool.{Bool, true, false, cond}
-use Prim.Native.Nat.{ℕ, zero, suc, ◌+◌, ◌-◌, ◌%◌, ◌≤◌, ◌<◌}
+use Prim.Native.Nat.{ℕ, ◌-◌, ◌≤◌, ◌<◌}
 use native.Mathlib.Omega.{arith}
 use lib.ListN.{length, get_or}
 use lib.Seq.{slice, slice_empty, length-slice}
 use lib.Dec.{eqb, leb}
 use borrow.Author.Tests.{leb-true, leb-false, eq-eqb, ne_eqb}
-use Rattle.text.specs.Numbers.{number_at}
 use Rattle.text.proofs.Choices.{by_test}
-use Rattle.chunks.specs.Stored.{type_bits, indent_bit, stored_indent, Bytes}
-use Rattle.chunks.specs.Reading.{type_of, chunk_at, chunks_at, ChunkFits}
-use Rattle.chunks.specs.declared.stored.ChunkType.{ChunkType}
+use Rattle.chunks.specs.Reading.{chunk_at, chunks_at, ChunkFits}
 use Rattle.chunks.specs.declared.stored.ChunkType.TheVariants.{Code}
 use Rattle.chunks.specs.declared.stored.StoredChunk.{StoredChunk}
-use Rattle.chunks.proofs.Forms.{map_bits, map_type, indent_bit_lem, indent_stored, type_bits_small}
-use Rattle.chunks.proofs.Reading.{chunk_laid, chunk_fits, chunk_end, chunks_at_found, chunks_at_none}
-use Rattle.chunks.proofs.Reading as reading
+use Rattle.chunks.proofs.Reading.{chunk_end, chunks_at_found, chunks_at_none}
 use Rattle.chunks.proofs.Judging.{end_found, end_none}
 use Rattle.text.specs.Lines.{is_newline}
 use Rattle.columns.specs.Pieces.{cut, following, pieces_of, pieces}
