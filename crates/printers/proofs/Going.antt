@@ -146,11 +146,10 @@ over_then {before} {next = next} {behind = behind} goes over =
     there (goes onward has_ended {events = λ page at. next (page_of before) before.at} {end = λ page at. behind (page_of before) before.at} over) refl refl
 
 -- so it is behind a reading that is refused
-pub stops_first : {before after : Printer} {events : Page → ℕ → Events} {end : Page → ℕ → ℕ} {why : Refusal} {rest : Events} → is_some before.ended ≡ false
+pub stops_first : {before after : Printer} {first next : Page → ℕ → Events} {end : Page → ℕ → ℕ} {why : Refusal} → is_some before.ended ≡ false
     → page_of after ≡ page_of before → after.room ≡ before.room → after.ended ≡ Some why
-    → events (page_of before) before.at ≡ stop why ▹ rest → Goes before after events end
-stops_first {end = end} {why} {rest} some page room over is =
-    there (over_then {next = λ page at. rest} {behind = end} (stops {events = λ page at. stop why} {end = λ page at. at} some page room over refl) (rw over refl)) (sym is) refl
+    → first (page_of before) before.at ≡ stop why → Goes before after (λ page at. first page at ▹ next page at) end
+stops_first some page room over is = over_then (stops {end = λ page at. at} some page room over is) (rw over refl)
 
 -- no step at all
 pub stays : {printer : Printer} → Goes printer printer (λ page at. nothing) (λ page at. at)
