@@ -139,6 +139,18 @@ stops {before} {after} {events} {end} {why} some page room over is = record {
   shown = rw (not_over before.ended (Done (state_of before) before.at) some, room, over, is) (stopped_there refl);
 }
 
+-- behind a walk that has ended whatever comes is gone on with
+pub over_then : {before after : Printer} {events next : Page → ℕ → Events} {end behind : Page → ℕ → ℕ} → Goes before after events end → is_some after.ended ≡ true
+    → Goes before after (λ page at. events page at ▹ next page at) behind
+over_then {before} {next = next} {behind = behind} goes over =
+    there (goes onward has_ended {events = λ page at. next (page_of before) before.at} {end = λ page at. behind (page_of before) before.at} over) refl refl
+
+-- so it is behind a reading that is refused
+pub stops_first : {before after : Printer} {first next : Page → ℕ → Events} {end : Page → ℕ → ℕ} {why : Refusal} → is_some before.ended ≡ false
+    → page_of after ≡ page_of before → after.room ≡ before.room → after.ended ≡ Some why
+    → first (page_of before) before.at ≡ stop why → Goes before after (λ page at. first page at ▹ next page at) end
+stops_first some page room over is = over_then (stops {end = λ page at. at} some page room over is) (rw over refl)
+
 -- no step at all
 pub stays : {printer : Printer} → Goes printer printer (λ page at. nothing) (λ page at. at)
 unfolding run
