@@ -4,21 +4,23 @@ use Rattle.tree.proofs.OwnReading.{own_judged, own_trivia_lem, own_rest}
 use Rattle.tree.proofs.own.own_at.Goals as goal
 
 pub returns-in-Some : goal.returns-in-Some
-returns-in-Some c = sym (c.bare_leaf-bare.ensures _ c.in-Some.is)
+returns-in-Some c = sym (c.bare_leaf.ensures _ c.in-Some.is)
 
-pub returns-in_default-judged : goal.returns-in_default-judged
-returns-in_default-judged c = own_judged _ _ _ c.rule_of-rule.ensures c.judge-judged.ensures.judged _ c.in_default-judged.is
+pub returns-in_err-kind : goal.returns-in_err-kind
+returns-in_err-kind c = rw c.from_residual.ensures (own_judged _ _ _ c.rule_of-rule.ensures c.judge.ensures.judged _ c.in_err-kind.was)
 
-pub returns-in_default-trivia : goal.returns-in_default-trivia
-returns-in_default-trivia c =
-    own_trivia_lem _ _ _ c.rule_of-rule.ensures c.judge-judged.ensures.judged _ _ c.in-Some-judged.is c.read_trivia-trivia.ensures _ c.in_default-trivia.is
+pub returns-in_err-trivia : goal.returns-in_err-trivia
+returns-in_err-trivia c =
+    rw c.from_residual-in_err-trivia.ensures
+    (own_trivia_lem _ _ _ c.rule_of-rule.ensures c.judge.ensures.judged _ _ c.in_ok-kind.was c.read_trivia.ensures _ c.in_err-trivia.was)
 
-pub returns-in_default-rest : goal.returns-in_default-rest
-returns-in_default-rest c =
-    own_rest _ _ _ c.rule_of-rule.ensures c.judge-judged.ensures.judged _ _ c.in-Some-judged.is c.read_trivia-trivia.ensures _ c.in-Some-trivia.is
-    (c.read_rest-rest.ensures _ _ c.in-Some-judged.ensures.kind) _ c.in_default-rest.is
+pub returns-in_err-rest : goal.returns-in_err-rest
+returns-in_err-rest c =
+    rw c.from_residual-in_err-rest.ensures
+    (own_rest _ _ _ c.rule_of-rule.ensures c.judge.ensures.judged _ _ c.in_ok-kind.was c.read_trivia.ensures _ c.in_ok-trivia.was
+    (c.read_rest.ensures _ _ c.in_ok-kind.ensures.kind) _ c.in_err-rest.was)
 
 pub returns : goal.returns
 returns c =
-    own_rest _ _ _ c.rule_of-rule.ensures c.judge-judged.ensures.judged _ _ c.in-Some-judged.is c.read_trivia-trivia.ensures _ c.in-Some-trivia.is
-    (c.read_rest-rest.ensures _ _ c.in-Some-judged.ensures.kind) _ c.in-Some-rest.is
+    own_rest _ _ _ c.rule_of-rule.ensures c.judge.ensures.judged _ _ c.in_ok-kind.was c.read_trivia.ensures _ c.in_ok-trivia.was
+    (c.read_rest.ensures _ _ c.in_ok-kind.ensures.kind) _ c.in_ok-rest.was
