@@ -5,16 +5,15 @@ use Rattle.answers.specs.declared.Refusal.{Refusal}
 use Rattle.tree.specs.declared.own.Own.{Own}
 use mathlib.Core.Path.{◌≡◌, refl, sym, ap, ◌∙◌}
 use mathlib.Core.List.{List}
-use mathlib.Core.Bool.{Bool, true, false, not, cond, ◌&&◌, ◌||◌}
+use mathlib.Core.Bool.{true, false}
 use Prim.Native.Nat.{ℕ, ◌+◌, ◌%◌, ◌≤◌, ◌<◌}
 use native.Mathlib.Omega.{arith}
-use borrow.Author.Tests.{lt-ltb, le-ltb, le-leb, lt-leb, eq-eqb, ne_eqb, not-true, not-false}
-use lib.Dec.{leb, eqb}
+use borrow.Author.Tests.{lt-ltb, le-ltb, le-leb, lt-leb, ne_eqb}
+use lib.Dec.{eqb}
 use lib.ListN.{length, get_or}
-use Rattle.answers.specs.declared.Reason.TheVariants.{TreeDepth}
 use Rattle.text.specs.Numbers.{read_number}
 use Rattle.tree.specs.Grammar.{kind_of, rule}
-use Rattle.tree.specs.Own.{may_stand, text_fits, map_fits, trivia_read, text_of_count, text_end, layout, own_of, leaf_on, list_on, rest_of, trivia_of_record, map_of_record}
+use Rattle.tree.specs.Own.{may_stand, text_fits, map_fits, trivia_read, text_of_count, text_end, layout, own_of, leaf_on, list_on, rest_of, trivia_of_record}
 use Rattle.tree.specs.Own.{own_at, read_own, Fits}
 use Rattle.tree.specs.declared.grammar.Kind.{Kind}
 use Rattle.tree.specs.declared.grammar.Kind.TheVariants.{Vec, Leaf, PathItem}

@@ -158,7 +158,7 @@ fn read_parts(
     let mut seen = fault;
     let mut plan = plan_of(class, own);
     while let Some((field, rest)) = next_part(plan) {
-        // Not by `?`, which copies the own bytes and so takes 10 percent more of a check.
+        // Not by `?`, which copies the own bytes and so takes 5 percent more of a check.
         let inner = match own::read_own(tree, place, field, levels - 1) {
             Ok(inner) => inner,
             Err(refusal) => return Err(refusal),
