@@ -1,10 +1,8 @@
 -- Laws of what the walk reads beside own bytes: the place behind a record, a trivia item as `trivia_from` has it, and a token's head.
 use Rattle.std.specs.Prelude.{Option, Result, Some, None, Ok, Err}
-use Rattle.tree.specs.declared.parts.Head.{Head}
 use Rattle.answers.specs.Numbers.{Checked}
 use mathlib.Core.Path.{◌≡◌, refl, sym, ap, ◌∙◌}
 use mathlib.Core.List.{List, [], ◌∷◌}
-use mathlib.Core.Bool.{true, false, ◌||◌}
 use Prim.Native.Nat.{ℕ, zero, suc, ◌+◌, ◌-◌, ◌%◌, ◌≤◌, ◌<◌}
 use native.Mathlib.Omega.{arith}
 use lib.Dec.{eqb}
@@ -15,13 +13,12 @@ use Rattle.answers.specs.declared.Refusal.{Refusal}
 use Rattle.text.specs.Numbers.{number_at}
 use Rattle.text.proofs.Choices.{by_test}
 use Rattle.tree.specs.Grammar.{Slot}
-use Rattle.tree.specs.Own.{layout, trivium_end, read_own, Fits, OwnFits}
+use Rattle.tree.specs.Own.{layout, trivium_end, read_own}
 use Rattle.tree.specs.Reading.{Placed, slot_class, trivium_behind, trivium_text, trivia_from, read}
 use Rattle.tree.specs.Rows.{slot_code, row_of}
 use Rattle.tree.specs.Walk.{record_on, record_read}
-use Rattle.tree.specs.Parts.{skipped_on, skipped, item_to, trivium_on, trivium_at, first_class, field_head, inner_on, inner_head, head_on, head_behind, head_at}
+use Rattle.tree.specs.Parts.{skipped_on, skipped, item_to, trivium_on, trivium_at, first_class, field_head, head_on, head_behind, head_at}
 use Rattle.tree.specs.declared.grammar.Class.{Class}
-use Rattle.tree.specs.declared.grammar.Class.TheVariants.{BareExpression, BlockRecord}
 use Rattle.tree.specs.declared.own.Own.{Own}
 use Rattle.tree.specs.declared.parts.TriviumSpan.{TriviumSpan}
 use Rattle.tree.proofs.Rows.{row_first, row_none}
@@ -118,10 +115,6 @@ module _ (class : Class) (slots : List Slot) (row : ℕ) (same : row ≡ row_of 
   first_some h found known =
       let first = row_first row slots same (omega (arith, h)) in
       known first.slot first.code ∙ sym (ap (first_class class) first.same)
-
--- own bytes that were read stand within the bytes
-pub own_inside : (bytes : List ℕ) (at : ℕ) (read-own : Result Own Refusal) (own : Own) → Fits bytes at read-own → read-own ≡ Ok own → at + 2 ≤ length bytes
-own_inside bytes at read-own own fits is = let held : OwnFits bytes at own = rw is at fits in omega (arith, held.behind, held.part, held.inside)
 
 module _ (levels : ℕ) (bytes : List ℕ) (class : Class) (at : ℕ) (read-own : Result Own Refusal) (same : read-own ≡ read_own bytes at class levels) where
   -- the own bytes of a token are refused

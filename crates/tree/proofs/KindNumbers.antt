@@ -1,5 +1,5 @@
 -- A kind and the number that is its first byte: each tells the other.
-use Rattle.std.specs.Prelude.{Option, Some, None}
+use Rattle.std.specs.Prelude.{Some, None}
 use mathlib.Core.Path.{◌≡◌, refl, sym, ap, ◌∙◌}
 use mathlib.Core.Bool.{true, false, ◌||◌}
 use mathlib.Core.Logic.{◌⊎◌, ⊎_elim}
@@ -8,7 +8,7 @@ use lib.Dec.{eqb}
 use borrow.Author.Tests.{eq-eqb, ne_eqb}
 use Rattle.tree.specs.Grammar.{kind_of}
 use Rattle.tree.specs.declared.grammar.Kind.{Kind}
-use Rattle.tree.specs.declared.grammar.Kind.TheVariants.{Vec, Leaf, PathItem}
+use Rattle.tree.specs.declared.grammar.Kind.TheVariants.{Leaf, PathItem}
 use Rattle.tree.proofs.KindLayout.{kind_number_lem}
 
 module _ (number : ℕ) (kind : Kind) (known : kind_of number ≡ Some kind) where

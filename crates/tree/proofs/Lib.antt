@@ -9,7 +9,6 @@ pub mod Whole
 pub mod Limits
 pub mod Bounds
 pub mod Samples
-pub mod Tables
 pub mod Rows
 pub mod Maps
 pub mod Spans

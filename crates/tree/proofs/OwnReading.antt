@@ -1,21 +1,19 @@
 -- A record's own bytes, by the way that the definition goes.
 use Rattle.std.specs.Prelude.{Option, Result, Some, None, Ok, Err}
 use Rattle.std.specs.Bool.{then_some}
-use Rattle.std.specs.Option.{ok_or}
 use Rattle.answers.specs.declared.Refusal.{Refusal}
 use Rattle.tree.specs.declared.own.Own.{Own}
 use mathlib.Core.Path.{◌≡◌, refl, sym, ap, ◌∙◌}
 use mathlib.Core.List.{List}
-use mathlib.Core.Bool.{Bool, true, false, not, cond, ◌&&◌, ◌||◌}
+use mathlib.Core.Bool.{true, false}
 use Prim.Native.Nat.{ℕ, ◌+◌, ◌%◌, ◌≤◌, ◌<◌}
 use native.Mathlib.Omega.{arith}
-use borrow.Author.Tests.{lt-ltb, le-ltb, le-leb, lt-leb, eq-eqb, ne_eqb, not-true, not-false}
-use lib.Dec.{leb, eqb}
+use borrow.Author.Tests.{lt-ltb, le-ltb, le-leb, lt-leb, ne_eqb}
+use lib.Dec.{eqb}
 use lib.ListN.{length, get_or}
-use Rattle.answers.specs.declared.Reason.TheVariants.{TreeDepth}
 use Rattle.text.specs.Numbers.{read_number}
 use Rattle.tree.specs.Grammar.{kind_of, rule}
-use Rattle.tree.specs.Own.{may_stand, text_fits, map_fits, trivia_read, text_of_count, text_end, layout, own_of, leaf_on, list_on, rest_of, trivia_of_record, map_of_record}
+use Rattle.tree.specs.Own.{may_stand, text_fits, map_fits, trivia_read, text_of_count, text_end, layout, own_of, leaf_on, list_on, rest_of, trivia_of_record}
 use Rattle.tree.specs.Own.{own_at, read_own, Fits}
 use Rattle.tree.specs.declared.grammar.Kind.{Kind}
 use Rattle.tree.specs.declared.grammar.Kind.TheVariants.{Vec, Leaf, PathItem}
@@ -144,13 +142,9 @@ own_bare bytes at class {ruled} rules stands room kind map end ends =
 
 -- what was found of it is what is read
 pub read_found : (bytes : List ℕ) (at : ℕ) (class : Class) (levels : ℕ) → at < length bytes → (levels ≡ 0 → ⊥) → (found : Option Own) → found_on at found ≡ own_at bytes at class
-    → ok_or found (layout at) ≡ read_own bytes at class levels
+    → (told : Option Own) → found ≡ told → found_on at told ≡ read_own bytes at class levels
 unfolding read_own
-read_found bytes at class levels h e found same = rw (lt-leb _ _ h, ne_eqb _ _ e) (ok_found found ∙ same)
-  where
-    ok_found : (found : Option Own) → ok_or found (layout at) ≡ found_on at found
-    ok_found (Some own) = refl
-    ok_found None = refl
+read_found bytes at class levels h e found same told is = ap (found_on at) (sym is) ∙ same ∙ sym (rw (lt-leb _ _ h, ne_eqb _ _ e))
 
 -- what was read fits
 pub read_fits : (bytes : List ℕ) (at : ℕ) (class : Class) (levels : ℕ) (result : Result Own Refusal) → result ≡ read_own bytes at class levels → Fits bytes at result

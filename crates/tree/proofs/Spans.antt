@@ -7,7 +7,7 @@ use mathlib.Core.Bool.{Bool, true, false, cond}
 use Prim.Native.Nat.{ℕ, zero, suc, ◌+◌, ◌-◌, ◌≤◌, ◌<◌}
 use native.Mathlib.Omega.{arith}
 use native.Mathlib.Numerals.{sub-one}
-use borrow.Author.Tests.{lt-ltb, le-ltb, ltb-true, ltb-false, leb-true, eqb-true, eqb-false, eq-eqb, ne_eqb}
+use borrow.Author.Tests.{lt-ltb, le-ltb, ltb-true, ltb-false, leb-true, eqb-true, eqb-false}
 use lib.Dec.{eqb, leb, ltb}
 use lib.ListN.{length, get_or, take, drop}
 use lib.Seq.{length-slice}
@@ -15,7 +15,7 @@ use Rattle.std.proofs.lemmas.List.{get_or-take, get_or-drop}
 use Rattle.text.specs.Numbers.{read_number}
 use Rattle.text.proofs.Parts.{part_slice}
 use Rattle.text.proofs.Choices.{by_test}
-use Rattle.tree.specs.Own.{sized_on, sized_end, trivium_end, behind, trivia_end, trivia_span, trivia_on, trivia_read, text_on, text_of_count, text_end}
+use Rattle.tree.specs.Own.{sized_on, sized_end, trivium_end, behind, trivia_end, text_of_count, text_end}
 use Rattle.tree.specs.declared.grammar.TextRule.{TextRule}
 use Rattle.tree.specs.declared.grammar.TextRule.TheVariants.{NoText, Free, Byte}
 use Rattle.tree.specs.Walk.{allows}

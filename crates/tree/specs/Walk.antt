@@ -108,11 +108,6 @@ record_on bytes fault end texts (Err refusal) = Err refusal
 unfoldable pub record_read : List ℕ → ℕ → Reading → Result (ℕ × ℕ) Refusal
 record_read bytes fault reading = record_on bytes fault reading.end reading.texts reading.checked
 
--- the refusal that reading met; a record that was read whole has none, and the place behind it stands for one
-abbrev pub refused_record : Result (ℕ × ℕ) Refusal → Refusal
-refused_record (Err refusal) = refusal
-refused_record (Ok (end, fault)) = layout end
-
 -- ---- records one behind the other
 
 -- what is read behind a record that was read whole

@@ -62,65 +62,63 @@ pub enum Kind {
     ArgItem,
 }
 
-// The kind of a number. A match and no table of the kinds: LLVM sees by it that a kind is its number, and reads a record by fewer steps
-// (by a table the check of a tree takes 5 percent more).
-fn kind_of(byte: usize) -> Option<Kind>
-    ensures { result ≡ Grammar.kind_of byte }
-{
-    match byte {
-        kinds::ALIGN => Some(Kind::Align),
-        kinds::ASSERT => Some(Kind::Assert),
-        kinds::BRACES => Some(Kind::Braces),
-        kinds::CONFIG => Some(Kind::Config),
-        kinds::CONFIG_PAIR => Some(Kind::ConfigPair),
-        kinds::DATA => Some(Kind::Data),
-        kinds::DEFINITION => Some(Kind::Definition),
-        kinds::EOF => Some(Kind::Eof),
-        kinds::ERROR => Some(Kind::Error),
-        kinds::EXPRESSION => Some(Kind::Expression),
-        kinds::IF => Some(Kind::If),
-        kinds::IMPORT => Some(Kind::Import),
-        kinds::FILE => Some(Kind::File),
-        kinds::INSTRUCTION => Some(Kind::Instruction),
-        kinds::LABEL => Some(Kind::Label),
-        kinds::LOOP => Some(Kind::Loop),
-        kinds::MACRO_DEFINITION => Some(Kind::MacroDefinition),
-        kinds::MACRO_INVOCATION => Some(Kind::MacroInvocation),
-        kinds::PROGRAM_COUNTER_DEFINITION => Some(Kind::ProgramCounterDefinition),
-        kinds::SEGMENT => Some(Kind::Segment),
-        kinds::TEST => Some(Kind::Test),
-        kinds::TEXT => Some(Kind::Text),
-        kinds::TRACE => Some(Kind::Trace),
-        kinds::VARIABLE_DEFINITION => Some(Kind::VariableDefinition),
-        kinds::VEC => Some(Kind::Vec),
-        kinds::LEAF => Some(Kind::Leaf),
-        kinds::PATH_ITEM => Some(Kind::PathItem),
-        kinds::BLOCK => Some(Kind::Block),
-        kinds::BINARY_EXPRESSION => Some(Kind::BinaryExpression),
-        kinds::FACTOR => Some(Kind::Factor),
-        kinds::CURRENT_PROGRAM_COUNTER => Some(Kind::CurrentProgramCounter),
-        kinds::EXPR_PARENS => Some(Kind::ExprParens),
-        kinds::FUNCTION_CALL => Some(Kind::FunctionCall),
-        kinds::IDENTIFIER_VALUE => Some(Kind::IdentifierValue),
-        kinds::NUMBER => Some(Kind::Number),
-        kinds::STRING_FACTOR => Some(Kind::StringFactor),
-        kinds::INTERPOLATED_STRING => Some(Kind::InterpolatedString),
-        kinds::OPERAND => Some(Kind::Operand),
-        kinds::REGISTER_SUFFIX => Some(Kind::RegisterSuffix),
-        kinds::IMPORT_AS => Some(Kind::ImportAs),
-        kinds::IMPORT_ALL => Some(Kind::ImportAll),
-        kinds::SPECIFIC_IMPORT_ARG => Some(Kind::SpecificImportArg),
-        kinds::ARG_ITEM => Some(Kind::ArgItem),
-        _ => None,
-    }
-}
+// The kinds in the order of their numbers.
+static KINDS: [Kind; 43] = [
+    Kind::Align,
+    Kind::Assert,
+    Kind::Braces,
+    Kind::Config,
+    Kind::ConfigPair,
+    Kind::Data,
+    Kind::Definition,
+    Kind::Eof,
+    Kind::Error,
+    Kind::Expression,
+    Kind::If,
+    Kind::Import,
+    Kind::File,
+    Kind::Instruction,
+    Kind::Label,
+    Kind::Loop,
+    Kind::MacroDefinition,
+    Kind::MacroInvocation,
+    Kind::ProgramCounterDefinition,
+    Kind::Segment,
+    Kind::Test,
+    Kind::Text,
+    Kind::Trace,
+    Kind::VariableDefinition,
+    Kind::Vec,
+    Kind::Leaf,
+    Kind::PathItem,
+    Kind::Block,
+    Kind::BinaryExpression,
+    Kind::Factor,
+    Kind::CurrentProgramCounter,
+    Kind::ExprParens,
+    Kind::FunctionCall,
+    Kind::IdentifierValue,
+    Kind::Number,
+    Kind::StringFactor,
+    Kind::InterpolatedString,
+    Kind::Operand,
+    Kind::RegisterSuffix,
+    Kind::ImportAs,
+    Kind::ImportAll,
+    Kind::SpecificImportArg,
+    Kind::ArgItem,
+];
 
 impl Kind {
     // The kind that a record's first byte stands for.
     pub(crate) fn of_byte(byte: u8) -> Option<Kind>
         ensures { result ≡ Grammar.kind_of byte }
     {
-        kind_of(usize::from(byte))
+        let place = usize::from(byte);
+        if KINDS.len() <= place {
+            return None;
+        }
+        Some(KINDS[place])
     }
 
     // The number of a kind, which is the first byte of its records.

@@ -111,10 +111,15 @@ fn map_fits(rule: Rule, kind: Kind, map: usize) -> bool
     ensures { (number : ℕ) → kind_of number ≡ Some kind → result ≡ map_fits rule number kind map }
 {
     let bits = map / 2;
+    if let Kind::Vec = kind {
+        return map == 0;
+    }
+    if !trivia_fits(rule, kind, map) {
+        return false;
+    }
     match kind {
-        Kind::Vec => map == 0,
-        Kind::Leaf | Kind::PathItem => trivia_fits(rule, kind, map) && text_fits(rule.text, bits),
-        _ => trivia_fits(rule, kind, map) && else_fits(kind, bits) && fields_fit(kind, bits),
+        Kind::Leaf | Kind::PathItem => text_fits(rule.text, bits),
+        _ => else_fits(kind, bits) && fields_fit(kind, bits),
     }
 }
 
@@ -303,7 +308,12 @@ pub fn read_own(tree: &[u8], at: usize, class: Class, levels: usize) -> Result<O
             place: at,
         });
     }
-    own_at(tree, at, class).ok_or(layout(at))
+    // Not by `ok_or`, which stores either answer in one place and so takes 5 percent more of a check.
+    let found = own_at(tree, at, class);
+    let Some(own) = found else {
+        return Err(layout(at));
+    };
+    Ok(own)
 }
 
 // The refusal that reading met, for callers that have not the refusal alone; a record that was read has none, and the place behind it

@@ -9,23 +9,21 @@ use Rattle.tree.proofs.check.+read_parts.Goals as goal
 pub loop-field-init : goal.loop-field-init
 loop-field-init t c = parts_start _ _ _ _
 
-pub returns-in_err-inner : goal.returns-in_err-inner
-returns-in_err-inner t c =
-    let p = err_from_is_err_and c.from_residual.result c.from_residual.ensures.1 in
-    rw (p.1, p.2)
-    (walk_refused _ _ _ _ _ _ _ c.loop-field.invariant _ (next_of _ c.next_part.ensures) _ _ c.in-Some.is _ _
-    (read_refused _ _ _ _ _ c.read_own.ensures.answer _ _ c.in_err-inner.was) refl _ (plan_due _ _ c.plan_of-plan.ensures))
+pub returns-in-Err : goal.returns-in-Err
+returns-in-Err t c =
+    walk_refused _ _ _ _ _ _ _ c.loop-field.invariant _ (next_of _ c.next_part.ensures) _ _ c.in-Some.is _ _
+    (read_refused _ _ _ _ _ c.read_own.ensures.answer _ _ c.in-Err.is) refl _ (plan_due _ _ c.plan_of-plan.ensures)
 
 pub own_fault-seen-requires : goal.own_fault-seen-requires
-own_fault-seen-requires t c = (_, c.in_ok-inner.ensures.fits)
+own_fault-seen-requires t c = (_, c.in-Ok.ensures.fits)
 
 pub read_parts-requires : goal.read_parts-requires
-read_parts-requires t c = omega (arith, level_left _ _ _ _ _ c.read_own.ensures.answer _ c.in_ok-inner.was)
+read_parts-requires t c = omega (arith, level_left _ _ _ _ _ c.read_own.ensures.answer _ c.in-Ok.is)
 
 pub returns-in_err-place : goal.returns-in_err-place
 returns-in_err-place t c =
-    let p = err_from_is_err_and c.from_residual-in_err-place.result c.from_residual-in_err-place.ensures.1 in
-    let same = c.read_parts.ensures ∙ sym (read_walked _ _ _ _ _ c.read_own.ensures.answer _ _ _ c.in_ok-inner.was c.own_fault-seen.ensures) in
+    let p = err_from_is_err_and c.from_residual.result c.from_residual.ensures.1 in
+    let same = c.read_parts.ensures ∙ sym (read_walked _ _ _ _ _ c.read_own.ensures.answer _ _ _ c.in-Ok.is c.own_fault-seen.ensures) in
     rw (p.1, p.2)
     (sym c.in_err-place.was
     ∙ walk_refused _ _ _ _ _ _ _ c.loop-field.invariant _ (next_of _ c.next_part.ensures) _ _ c.in-Some.is _ _ same c.in_err-place.was _
@@ -36,7 +34,7 @@ loop-field-smaller-then-has_parts t c = rest_less _ _ _ _ c.in-Some.is c.next_pa
 
 pub loop-field-preserved-then-has_parts : goal.loop-field-preserved-then-has_parts
 loop-field-preserved-then-has_parts t c =
-    let same = c.read_parts.ensures ∙ sym (read_walked _ _ _ _ _ c.read_own.ensures.answer _ _ _ c.in_ok-inner.was c.own_fault-seen.ensures) in
+    let same = c.read_parts.ensures ∙ sym (read_walked _ _ _ _ _ c.read_own.ensures.answer _ _ _ c.in-Ok.is c.own_fault-seen.ensures) in
     walk_on _ _ _ _ _ _ _ c.loop-field.invariant _ (next_of _ c.next_part.ensures) _ _ c.in-Some.is _ _ _ same c.in_ok-place.was
 
 pub loop-field-smaller : goal.loop-field-smaller
@@ -45,7 +43,7 @@ loop-field-smaller t c = rest_less _ _ _ _ c.in-Some.is c.next_part.ensures
 pub loop-field-preserved : goal.loop-field-preserved
 loop-field-preserved t c =
     let leaf = walk_none _ _ _ _ _ c.has_parts.ensures c.if-has_parts.false
-    ∙ sym (read_walked _ _ _ _ _ c.read_own.ensures.answer _ _ _ c.in_ok-inner.was c.own_fault-seen.ensures) in
+    ∙ sym (read_walked _ _ _ _ _ c.read_own.ensures.answer _ _ _ c.in-Ok.is c.own_fault-seen.ensures) in
     walk_on _ _ _ _ _ _ _ c.loop-field.invariant _ (next_of _ c.next_part.ensures) _ _ c.in-Some.is _ _ _ leaf refl
 
 pub returns : goal.returns

@@ -3,18 +3,21 @@ use mathlib.Core.Path.{refl, sym, ◌∙◌}
 use Rattle.tree.proofs.Planning.{next_absent, next_field, next_none, next_item_lem}
 use Rattle.tree.proofs.check.next_part.Goals as goal
 
-pub loop-rest-init : goal.loop-rest-init
-loop-rest-init c = refl
+pub loop-row-init : goal.loop-row-init
+loop-row-init c = refl
 
-pub returns-then-stands : goal.returns-then-stands
-returns-then-stands c =
-    rw c.slot_class.ensures (sym (c.loop-rest.invariant ∙ next_field _ c.loop-rest-test.true c.if-stands.true))
+pub slot_class-requires : goal.slot_class-requires
+slot_class-requires c = tt
 
-pub loop-rest-preserved : goal.loop-rest-preserved
-loop-rest-preserved c = c.loop-rest.invariant ∙ next_absent _ c.loop-rest-test.true c.if-stands.false
+pub returns-then-bit-eq1 : goal.returns-then-bit-eq1
+returns-then-bit-eq1 c =
+    rw c.slot_class.ensures (sym (c.loop-row.invariant ∙ next_field _ c.loop-row-test.true c.if-bit-eq1.true))
 
-pub returns-then-rest-eq0 : goal.returns-then-rest-eq0
-returns-then-rest-eq0 c = sym (c.loop-rest.invariant ∙ next_none _ c.loop-rest-test.false c.if-rest-eq0.true)
+pub loop-row-preserved : goal.loop-row-preserved
+loop-row-preserved c = c.loop-row.invariant ∙ next_absent _ c.loop-row-test.true c.if-bit-eq1.false
+
+pub returns-then-plan-eq0 : goal.returns-then-plan-eq0
+returns-then-plan-eq0 c = sym (c.loop-row.invariant ∙ next_none _ c.loop-row-test.false c.if-plan-eq0.true)
 
 pub returns : goal.returns
-returns c = sym (c.loop-rest.invariant ∙ next_item_lem _ c.loop-rest-test.false c.if-rest-eq0.false)
+returns c = sym (c.loop-row.invariant ∙ next_item_lem _ c.loop-row-test.false c.if-plan-eq0.false)

@@ -3,8 +3,8 @@ use mathlib.Core.Path.{◌≡◌}
 use Rattle.tree.specs.Plans.{next_part}
 use Rattle.tree.proofs.check.next_part.Given as goal
 
-abbrev pub invariant-loop-rest : goal.invariant-loop-rest
-invariant-loop-rest l = next_part l.fn.plan ≡ next_part l.rest
+abbrev pub invariant-loop-row : goal.invariant-loop-row
+invariant-loop-row l = next_part l.plan ≡ next_part (record { row = l.row; bits = l.bits; item = l.plan.item; count = l.plan.count })
 
-abbrev pub decreases-loop-rest : goal.decreases-loop-rest
-decreases-loop-rest l = l.rest.row
+abbrev pub decreases-loop-row : goal.decreases-loop-row
+decreases-loop-row l = l.row

@@ -20,9 +20,15 @@ returns-then-levels-eq0 c =
     let told = own_known _ _ _ _ (sym (rw (lt-leb _ _ c.if-tree-at.false, eq-eqb _ _ c.if-levels-eq0.true))) tt in
     record { answer = told.0; fits = told.1.0; numbers = told.1.1 }
 
+pub returns-in_default : goal.returns-in_default
+returns-in_default c =
+    let same = read_found _ _ _ _ c.if-tree-at.false c.if-levels-eq0.false _ c.own_at-found.ensures _ c.in_default.is in
+    let read = ap (λ (why : Refusal). Err why) c.layout-in_default.ensures ∙ same in
+    let told = own_known _ _ _ _ read (read_fits _ _ _ _ _ read) in
+    record { answer = told.0; fits = told.1.0; numbers = told.1.1 }
+
 pub returns : goal.returns
 returns c =
-    let same = rw (← c.layout-2.ensures) at (read_found _ _ _ _ c.if-tree-at.false c.if-levels-eq0.false _ c.own_at.ensures) in
-    let read = c.ok_or.ensures.value ∙ same in
-    let told = own_known _ _ _ _ read (read_fits _ _ _ _ _ read) in
+    let same = read_found _ _ _ _ c.if-tree-at.false c.if-levels-eq0.false _ c.own_at-found.ensures _ c.in-Some.is in
+    let told = own_known _ _ _ _ same (read_fits _ _ _ _ _ same) in
     record { answer = told.0; fits = told.1.0; numbers = told.1.1 }
