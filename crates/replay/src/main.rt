@@ -2,8 +2,6 @@
 // are written.
 #![tactic(auto)]
 
-ghost use Rattle.std.specs.Prelude.{◌<◌, length};
-
 use answers::{Answer, Numbered};
 use cases::input;
 use cases::input::NoCommand;
@@ -92,9 +90,10 @@ fn answer_join(
 }
 
 // Fills a room with a part, again and again; the last copy may be cut.
-fn repeat(part: &[u8], room: &mut [u8])
-    requires { 0 < length part.now }
-{
+fn repeat(part: &[u8], room: &mut [u8]) {
+    if part.is_empty() {
+        return;
+    }
     for (at, byte) in room.iter_mut().enumerate() {
         *byte = part[at % part.len()];
     }

@@ -1,8 +1,6 @@
 // Runs the samples of document 01 and writes what comes of each; the file stdout beside src/ has what is expected.
 #![tactic(auto)]
 
-ghost use Rattle.std.specs.Prelude.{◌≤◌};
-
 use answers::{Answer, Numbered};
 use std::io;
 
@@ -42,11 +40,11 @@ fn show_join(
     chunks: &[u8],
     options: &[u8],
     room: usize,
-) -> io::Result<()>
-    requires { room ≤ 64 }
-{
+) -> io::Result<()> {
     let mut buffer = [0u8; 64];
-    let text = &mut buffer[..room];
+    let Some(text) = buffer.get_mut(..room) else {
+        return Ok(());
+    };
     let answer = join::join_chunks(chunks, options, text);
     show_answer(rt, name, answer, text)
 }
@@ -59,14 +57,16 @@ fn show_format(
     options: &[u8],
     room: usize,
     length: usize,
-) -> io::Result<()>
-    requires work { room ≤ 512 }
-    requires text { length ≤ 64 }
-{
+) -> io::Result<()> {
     let mut work = [0u8; 512];
     let mut buffer = [0u8; 64];
-    let text = &mut buffer[..length];
-    let answer = formatting::format(tree, options, &mut work[..room], text);
+    let Some(room) = work.get_mut(..room) else {
+        return Ok(());
+    };
+    let Some(text) = buffer.get_mut(..length) else {
+        return Ok(());
+    };
+    let answer = formatting::format(tree, options, room, text);
     show_answer(rt, name, answer, text)
 }
 
@@ -153,24 +153,23 @@ fn show_limits(rt: &impl Print) -> io::Result<()> {
     show_join(rt, "byte 128 in a text", b"\x00\x01\x00\x80", b"\x00", 64)
 }
 
-// The tree call on a file of one definition, whose value is a definition, and so on: none has a text, and the leaves of
-// the innermost stand two levels deeper than there are definitions.
-fn show_nested(rt: &impl Print, name: &str, definitions: usize) -> io::Result<()>
-    requires { definitions ≤ 66 }
-{
+// The tree call on a file of one definition, whose value is a definition, and so on, 66 at most: none has a text, and the
+// leaves of the innermost stand two levels deeper than there are definitions.
+fn show_nested(rt: &impl Print, name: &str, definitions: usize) -> io::Result<()> {
+    let count = definitions.min(66);
     let mut bytes = [0u8; 400];
     bytes[0] = 24;
     bytes[2] = 1;
-    let records = &mut bytes[4..4 + 6 * definitions];
+    let records = &mut bytes[4..4 + 6 * count];
     for (i, record) in records.chunks_exact_mut(6).enumerate() {
-        let innermost = i + 1 == definitions;
+        let innermost = i + 1 == count;
         record.copy_from_slice(if innermost {
             b"\x06\x06\x19\x00\x19\x00"
         } else {
             b"\x06\x0e\x19\x00\x19\x00"
         });
     }
-    show_format(rt, name, &bytes[..4 + 6 * definitions], b"\x00", 512, 64)
+    show_format(rt, name, &bytes[..4 + 6 * count], b"\x00", 512, 64)
 }
 
 // The tree call: the sample, and what is refused before and behind the walk.
