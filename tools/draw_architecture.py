@@ -24,6 +24,7 @@ BOXES = {
     "replay": (557, 50, 175, 66, "a program: answers|a stream of cases"),
     "lesson": (748, 50, 185, 66, "the command"),
     "wording": (949, 50, 186, 66, "what the command says"),
+    "cases": (1150, 50, 112, 66, "a stream's cases"),
     "formatting": (160, 152, 975, 54, "`format`: options, walk, a check where the walk does not settle it, join; then the work room is cleared"),
     "tree": (172, 284, 166, 104, "grammar of the 43|kinds, own bytes,|read, skip, head"),
     "tokens": (397, 284, 172, 58, "tokens, blocks, `chunks`"),
@@ -40,6 +41,7 @@ BOXES = {
     "reading": (385, 532, 184, 66, "laws: reading order,|the eight places, ink"),
     "losses": (581, 532, 184, 66, "`lost`: the records that|use one of the places"),
     "options": (795, 532, 130, 66, "read, defaults|(1, 2)"),
+    "printers": (1106, 532, 156, 66, "`leaves` over a struct"),
     "text": (160, 636, 480, 44, "bytes as text: blank and ink, lines, two-byte numbers, stores"),
     "answers": (655, 636, 480, 44, "refusals by name and number; a text, its answer and its buffer"),
 }
