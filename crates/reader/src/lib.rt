@@ -1,5 +1,5 @@
-// A reader of a stored tree: the tree's bytes and a place in them. Its methods leave the work to crate `tree`, which takes the bytes and the
-// place apart, since most that walks a tree has a class and levels beside them.
+// A reader of a stored tree: the tree's bytes and a place in them. Its methods leave the work to crate `tree`, which
+// takes the bytes and the place apart, since most that walks a tree has a class and levels beside them.
 #![tactic(auto)]
 
 ghost use Rattle.std.specs.Prelude.{◌≡◌};
@@ -50,7 +50,8 @@ impl<'a> Reader<'a> {
     }
 }
 
-// The own bytes of a file's list of tokens, which is the whole tree: how many tokens there are, and where the first begins.
+// The own bytes of a file's list of tokens, which is the whole tree: how many tokens there are, and where the first
+// begins.
 pub fn list_head(tree: &[u8]) -> Result<Own, Refusal>
     ensures { let bytes = tree.now in
         (result ≡ read_own bytes 0 Class.Tokens 64) × (numbers_own result ≡ own_numbers bytes 0 Class.Tokens 64) }
@@ -69,7 +70,8 @@ fn behind_row(tree: &[u8], at: usize, count: usize) -> Result<usize, Refusal>
     Ok(reader.at)
 }
 
-// The place behind so many tokens of a file's list, behind all where it has fewer, or the refusal that is met before it.
+// The place behind so many tokens of a file's list, behind all where it has fewer, or the refusal that is met before
+// it.
 pub fn behind_tokens(tree: &[u8], count: usize) -> Result<usize, Refusal>
     ensures answer { result ≡ tokens_behind tree.now count }
     ensures numbers { numbers_skipped result ≡ tokens_numbers tree.now count }
