@@ -1,6 +1,6 @@
 // The calls for programs in other languages, which link them by crate `exports_c`: the answer is one number, 2^32 times
-// the refusal's number plus the text's length or the place (but of `has_ink`, which refuses nothing: a `bool`). They ask
-// nothing of their caller, and their promises are those of the calls that they wrap.
+// the refusal's number plus the text's length or the place (but of `has_ink`, which refuses nothing: a `bool`). They
+// ask nothing of their caller, and their promises are those of the calls that they wrap.
 #![tactic(auto)]
 
 ghost use Rattle.std.specs.Prelude.{◌≡◌, not, length};
@@ -59,7 +59,8 @@ pub fn felgutrosa_check_tree(tree: &[u8]) -> u64
     packed(answers::answer_of(checked))
 }
 
-// `tokens::chunks`: the chunks of a stored tree, stored at the start of the work room; or refusal 1, 2, 3, 4, 5, 7 or 8.
+// `tokens::chunks`: the chunks of a stored tree, stored at the start of the work room; or refusal 1, 2, 3, 4, 5, 7 or
+// 8.
 pub fn felgutrosa_chunks(tree: &[u8], options: &[u8], room: &mut [u8]) -> u64
     ensures answer { let held = chunks_held tree.now options.now (length room.old) in
         result ≡ packed_of (chunks_answer held) }

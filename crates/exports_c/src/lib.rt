@@ -1,6 +1,7 @@
 // The functions of crate `exports` as programs in other languages link them: under the same names, with the same
 // promises, each slice a pointer and a length. Each stands twice, here as `extern "C"`, because of the C interface: a
-// static library is a crate of its own, which no crate can use, so those that call from this language need crate `exports`.
+// static library is a crate of its own, which no crate can use, so those that call from this language need crate
+// `exports`.
 #![tactic(auto)]
 
 ghost use Rattle.std.specs.Prelude.{◌≡◌, not, length};

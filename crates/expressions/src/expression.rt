@@ -68,7 +68,8 @@ pub fn format_expression(
     ensures { PrintsRecord result room.new last room.old context (Trees.leaf plain) true levels
         tree.now (expression_class located) }
 {
-    // Taken apart first: handed on whole, an answer is copied with what is left free in it, and what follows waits for that.
+    // Taken apart first: handed on whole, an answer is copied with what is left free in it, and what follows waits for
+    // that.
     let Printed::Done(before, place) = last else {
         return last;
     };

@@ -70,7 +70,8 @@ fn mode_of(tree: &[u8], own: Own) -> usize
     numbers::wide(tree[start])
 }
 
-// The opening character and the expression. The character is stored behind the expression, which is skipped only where it stands; the place is the one behind both.
+// The opening character and the expression. The character is stored behind the expression, which is skipped only where
+// it stands; the place is the one behind both.
 fn format_front(
     tree: &[u8],
     room: &mut [u8],
@@ -100,7 +101,8 @@ fn format_front(
     inner.moved_to(behind)
 }
 
-// The closing character, stored at `rchar`, and the register behind it, in the order of the addressing mode; only an indirect one prints the character.
+// The closing character, stored at `rchar`, and the register behind it, in the order of the addressing mode; only an
+// indirect one prints the character.
 fn format_end(
     tree: &[u8],
     room: &mut [u8],
@@ -136,8 +138,8 @@ fn format_end(
     register
 }
 
-// The closing character and the register; the addressing mode, which is stored between them, says in which order. It is a leaf, so its own bytes are all of it: read once,
-// they give its index and the place behind it.
+// The closing character and the register; the addressing mode, which is stored between them, says in which order. It is
+// a leaf, so its own bytes are all of it: read once, they give its index and the place behind it.
 fn format_tail(
     tree: &[u8],
     room: &mut [u8],

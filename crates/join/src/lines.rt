@@ -228,8 +228,8 @@ pub(crate) fn mend(text: &mut [u8], judged: Judged, spot: Spot, past: Past, cut:
     }
 }
 
-// The length of the text. (Its loop over the lines is short; one for both functions would have to say by cases what each
-// promises.)
+// The length of the text. (Its loop over the lines is short; one for both functions would have to say by cases what
+// each promises.)
 pub(crate) fn measure_lines(judged: Judged) -> usize
     ensures length { result ≡ length (text_of judged.entry.margins (chunks_of judged.entry.list.now)) }
     ensures small { result < 4503599627370496 }

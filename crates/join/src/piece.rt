@@ -14,8 +14,8 @@ use columns::{Follows, Margins};
 use options::Alignment;
 use text::{characters, scans};
 
-// Where a walk stands: at `at` in the chunk whose text is list[start..end]; past the last chunk all three are the list's
-// length.
+// Where a walk stands: at `at` in the chunk whose text is list[start..end]; past the last chunk all three are the
+// list's length.
 #[derive(Clone, Copy)]
 pub struct Spot {
     pub ty: ChunkType,

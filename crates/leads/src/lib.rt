@@ -1,4 +1,5 @@
-// What stands before a token of a list, and behind the last: trivia of its head, and the newline rule of `format_tokens`.
+// What stands before a token of a list, and behind the last: trivia of its head, and the newline rule of
+// `format_tokens`.
 #![tactic(auto)]
 
 ghost use Rattle.std.specs.Prelude.{◌≡◌, [], ◌∷◌};
@@ -27,8 +28,8 @@ pub struct Before {
     pub previous: usize,
 }
 
-// A token whose lead-in was printed: its own bytes, those of its head, and the state behind the lead-in; or the answer where the walk
-// ended before the token.
+// A token whose lead-in was printed: its own bytes, those of its head, and the state behind the lead-in; or the answer
+// where the walk ended before the token.
 #[derive(Clone, Copy)]
 pub enum Lead {
     Ready(Own, Own, CodeFormatter),
@@ -155,7 +156,8 @@ fn list_trivia(
     trivia::format_trivia(tree, own.trivia, own.trivia_count, context, room, state)
 }
 
-// What stands before a token: the trivia of its head, then a newline by the rule. What is read of the token on the way is handed on.
+// What stands before a token: the trivia of its head, then a newline by the rule. What is read of the token on the way
+// is handed on.
 pub fn format_lead_in(
     tree: &[u8],
     room: &mut [u8],

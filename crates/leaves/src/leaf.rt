@@ -77,8 +77,8 @@ fn format_own(
     last.finish(end)
 }
 
-// A leaf of a class at a place, where so many levels are left. Of a record of any other class its trivia and its text, if it has one, are printed too, and the
-// place is the one behind its own bytes.
+// A leaf of a class at a place, where so many levels are left. Of a record of any other class its trivia and its text,
+// if it has one, are printed too, and the place is the one behind its own bytes.
 fn leaf_at(
     tree: &[u8],
     at: usize,
@@ -109,7 +109,8 @@ fn leaf_at(
     format_own(tree, own, style, shown, context, room, state)
 }
 
-// A leaf of a class where the last answer ended. A refusal is made anew: handed on whole, an answer is copied with what is left free in it.
+// A leaf of a class where the last answer ended. A refusal is made anew: handed on whole, an answer is copied with what
+// is left free in it.
 pub fn format_leaf(
     tree: &[u8],
     room: &mut [u8],

@@ -1,4 +1,5 @@
-// Records: their own bytes are read, their trivia printed where they are shown, and what is stored before it is printed is skipped.
+// Records: their own bytes are read, their trivia printed where they are shown, and what is stored before it is printed
+// is skipped.
 ghost use Rattle.std.specs.Prelude.{◌≡◌};
 ghost use Rattle.printing.specs.Running.{numbers_printed};
 ghost use Rattle.events.specs.Views.{bit_at};
@@ -11,7 +12,8 @@ use tree::grammar::Class;
 use tree::own::Own;
 use tree::{own, parts};
 
-// A record that was opened: its own bytes, and the state behind its trivia; or the answer where there is none to go on with.
+// A record that was opened: its own bytes, and the state behind its trivia; or the answer where there is none to go on
+// with.
 #[derive(Clone, Copy)]
 pub enum Opened {
     Record(Own, CodeFormatter),

@@ -193,8 +193,8 @@ pub(crate) fn push_text(
     }
 }
 
-// Pushes a mnemonic by the index that is the first byte of its stored text. For a printer that has this text in hand: `push_text` has one caller, into which it
-// is compiled, and with one more it would not be.
+// Pushes a mnemonic by the index that is the first byte of its stored text. For a printer that has this text in hand:
+// `push_text` has one caller, into which it is compiled, and with one more it would not be.
 pub fn push_mnemonic(
     text: &[u8],
     context: Context,

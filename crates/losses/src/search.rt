@@ -36,8 +36,9 @@ fn listed_below(number: usize, listed: bool) -> bool
 }
 
 impl Search {
-    // The record of a class at a place, with all its parts: the place behind it. Tree, place, class and levels stay four
-    // parameters, here and in `uses`: crate `tree` takes them so, and a struct of them would be taken apart at each call.
+    // The record of a class at a place, with all its parts: the place behind it. Tree, place, class and levels stay
+    // four parameters, here and in `uses`: crate `tree` takes them so, and a struct of them would be taken apart at
+    // each call.
     fn visit(&mut self, tree: &[u8], at: usize, class: Class, levels: usize, listed: bool) -> Answer
         ensures { Searches result self.new self.old levels tree.now class at listed }
     {

@@ -1,4 +1,5 @@
-// The formatter's state, and what every printer does to it: push a chunk, remember a space, forget it, drop newlines at the end.
+// The formatter's state, and what every printer does to it: push a chunk, remember a space, forget it, drop newlines at
+// the end.
 #![tactic(auto)]
 
 ghost use Rattle.std.specs.Prelude.{◌≡◌, List, ℕ, length};
@@ -26,9 +27,9 @@ pub struct Context {
     pub indent: usize,
 }
 
-// What changes while the walk goes on: the used length of the work room, the end of the last chunk that is not exactly a newline, whether a
-// space goes before the next text (1, else 0: a whole word, since a state with a byte in it takes longer to hand on), and the length that did
-// not fit (0 while all did).
+// What changes while the walk goes on: the used length of the work room, the end of the last chunk that is not exactly
+// a newline, whether a space goes before the next text (1, else 0: a whole word, since a state with a byte in it takes
+// longer to hand on), and the length that did not fit (0 while all did).
 #[derive(Clone, Copy)]
 pub struct CodeFormatter {
     pub used: usize,

@@ -153,8 +153,8 @@ fn show_limits(rt: &impl Print) -> io::Result<()> {
     show_join(rt, "byte 128 in a text", b"\x00\x01\x00\x80", b"\x00", 64)
 }
 
-// The tree call on a file of one definition, whose value is a definition, and so on, 66 at most: none has a text, and the
-// leaves of the innermost stand two levels deeper than there are definitions.
+// The tree call on a file of one definition, whose value is a definition, and so on, 66 at most: none has a text, and
+// the leaves of the innermost stand two levels deeper than there are definitions.
 fn show_nested(rt: &impl Print, name: &str, definitions: usize) -> io::Result<()> {
     let count = definitions.min(66);
     let mut bytes = [0u8; 400];

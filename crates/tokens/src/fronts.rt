@@ -211,7 +211,8 @@ fn test_front(
     id.spc_if_next()
 }
 
-// What a token prints before the block or the token inside it, by the number of its kind; nothing before that of a brace or a configuration.
+// What a token prints before the block or the token inside it, by the number of its kind; nothing before that of a
+// brace or a configuration.
 pub(crate) fn format_token_front(
     tree: &[u8],
     room: &mut [u8],

@@ -57,7 +57,8 @@ fn chunks_with(tree: &[u8], options: FormattingOptions, room: &mut [u8]) -> Answ
     printed_answer(printed)
 }
 
-// The chunks of a stored tree under stored options, stored at the start of the work room; or refusal 1, 2, 3, 4, 5, 7 or 8.
+// The chunks of a stored tree under stored options, stored at the start of the work room; or refusal 1, 2, 3, 4, 5, 7
+// or 8.
 pub fn chunks(tree: &[u8], options: &[u8], room: &mut [u8]) -> Answer
     ensures answer { let held = chunks_held tree.now options.now (length room.old) in
         result ≡ chunks_answer held }
@@ -74,8 +75,8 @@ pub fn chunks(tree: &[u8], options: &[u8], room: &mut [u8]) -> Answer
     }
 }
 
-// Whether the walk's answer says by itself that the tree is accepted. Every record that a walk passes is judged, so one that went on to the last byte has met no
-// refusal 4 or 5, and in a plain tree there is no 7.
+// Whether the walk's answer says by itself that the tree is accepted. Every record that a walk passes is judged, so one
+// that went on to the last byte has met no refusal 4 or 5, and in a plain tree there is no 7.
 fn settles(tree: &[u8], printed: Printed) -> bool
     ensures { result ≡ settles tree.now printed }
 {
@@ -114,8 +115,9 @@ fn one_pass_with(tree: &[u8], options: FormattingOptions, room: &mut [u8]) -> An
     answer
 }
 
-// `chunks` for a caller who clears the room after every answer: the tree is walked first, and checked only where the walk does not settle that it is accepted. So a
-// plain tree that is accepted is read once; and a refused one may leave chunks in the room.
+// `chunks` for a caller who clears the room after every answer: the tree is walked first, and checked only where the
+// walk does not settle that it is accepted. So a plain tree that is accepted is read once; and a refused one may leave
+// chunks in the room.
 pub fn chunks_in_one_pass(tree: &[u8], options: &[u8], room: &mut [u8]) -> Answer
     ensures answer { let held = chunks_held tree.now options.now (length room.old) in
         result ≡ chunks_answer held }

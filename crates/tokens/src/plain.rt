@@ -130,7 +130,8 @@ fn format_file(
     strings::format_string(tree, room, context, levels, true, gap)
 }
 
-// What is printed behind a mnemonic: an operand or none. Where none stands no space is asked for, since it would be taken back at once.
+// What is printed behind a mnemonic: an operand or none. Where none stands no space is asked for, since it would be
+// taken back at once.
 fn format_behind_mnemonic(
     tree: &[u8],
     room: &mut [u8],

@@ -166,8 +166,9 @@ fn format_token(
     format_inner(tree, room, context, levels - 1, number, own.map / 2, start)
 }
 
-// A token of a list, and what stands before it. What the lead-in has read is not read again: the token's own bytes, and those of its head where that is the
-// mnemonic of an `Instruction`, the size of a `Data` or the id of a `Label`. A label without a block ends with what stands before one.
+// A token of a list, and what stands before it. What the lead-in has read is not read again: the token's own bytes, and
+// those of its head where that is the mnemonic of an `Instruction`, the size of a `Data` or the id of a `Label`. A
+// label without a block ends with what stands before one.
 #[cycle(token)]
 fn format_listed_token(
     tree: &[u8],

@@ -101,7 +101,8 @@ fn fault_in(tree: &[u8], start: usize, end: usize, fault: usize) -> usize
     fault
 }
 
-// The same for the bytes of one trivia item and then for the items behind it, which keep the layout and are not judged again.
+// The same for the bytes of one trivia item and then for the items behind it, which keep the layout and are not judged
+// again.
 fn fault_in_trivia(tree: &[u8], at: usize, count: usize, fault: usize) -> usize
     requires { (end : ℕ) × (trivia_end tree.now at count ≡ Some end) }
     ensures { result ≡ fault_from tree.now fault (trivia_texts tree.now at count) }
@@ -142,7 +143,8 @@ fn has_parts(own: Own) -> bool
     }
 }
 
-// The parts of a record whose own bytes were read, one behind the other. A leaf among them ends here, without a call for its parts.
+// The parts of a record whose own bytes were read, one behind the other. A leaf among them ends here, without a call
+// for its parts.
 fn read_parts(
     tree: &[u8],
     class: Class,
@@ -194,7 +196,8 @@ pub(crate) fn read_record(
     read_parts(tree, class, own, levels, seen)
 }
 
-// Whether no byte behind the count of the file's list is above 127. One look at all of them takes less than one at each text.
+// Whether no byte behind the count of the file's list is above 127. One look at all of them takes less than one at each
+// text.
 pub fn is_plain(tree: &[u8]) -> bool
     ensures { result ≡ plain_tree tree.now }
 {
@@ -205,7 +208,8 @@ pub fn is_plain(tree: &[u8]) -> bool
     scans::is_accepted(&tree[4..end])
 }
 
-// The file's record. In a plain tree the search for a byte that no text may hold is over before it begins: place 0 stands for found.
+// The file's record. In a plain tree the search for a byte that no text may hold is over before it begins: place 0
+// stands for found.
 fn read_file(tree: &[u8], levels: usize) -> Result<(usize, usize), Refusal>
     ensures { let bytes = tree.now in
         result ≡ record_read bytes (length bytes) (read_file levels bytes) }

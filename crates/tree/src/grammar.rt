@@ -280,7 +280,8 @@ impl TextRule {
     }
 }
 
-// What may stand in a class: the kinds from first to last, whether with trivia, the text of a leaf, a list, and what an argument's value is.
+// What may stand in a class: the kinds from first to last, whether with trivia, the text of a leaf, a list, and what an
+// argument's value is.
 #[derive(Clone, Copy, Debug, PartialEq, Eq)]
 pub struct Rule {
     pub first: usize,
@@ -462,8 +463,9 @@ pub(crate) fn row_of(kind: Kind, value: Class) -> u64
     }
 }
 
-// The maps that fields may have, in one number whose bit n stands where the map n is one of them. A field that must stand moves the maps
-// of those before it by the value of its bit; one that need not stand keeps them beside the moved ones.
+// The maps that fields may have, in one number whose bit n stands where the map n is one of them. A field that must
+// stand moves the maps of those before it by the value of its bit; one that need not stand keeps them beside the moved
+// ones.
 macro_rules! maps {
     (@ [$($power:literal)*]) => { 1 };
     (@ [$first:literal $($power:literal)*] must $($need:ident)*) => {

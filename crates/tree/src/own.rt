@@ -14,8 +14,9 @@ use text::numbers;
 // The kind byte of a leaf.
 const LEAF: u8 = kinds::LEAF as u8;
 
-// A record's own bytes, by their places: `trivia` is the place of its first trivia item, of which there are `trivia_count`; its text is
-// the bytes from `text` to `end`, behind which its fields or items begin; `count` says how many items a list has.
+// A record's own bytes, by their places: `trivia` is the place of its first trivia item, of which there are
+// `trivia_count`; its text is the bytes from `text` to `end`, behind which its fields or items begin; `count` says how
+// many items a list has.
 #[derive(Clone, Copy, Debug, PartialEq, Eq)]
 pub struct Own {
     pub kind: Kind,
@@ -219,10 +220,12 @@ fn read_rest(
     }
 }
 
-// A record's first two bytes. They are judged in a function of their own, so that the reading behind them is compiled as one.
+// A record's first two bytes. They are judged in a function of their own, so that the reading behind them is compiled
+// as one.
 fn judge(tree: &[u8], at: usize, rule: Rule) -> Option<(Kind, usize)>
     requires { at < length tree.now }
-    ensures judged { judged_on tree.now at rule (get_or tree.now at 0) result ≡ first_bytes tree.now at rule (get_or tree.now at 0) }
+    ensures judged { let number = get_or tree.now at 0 in
+        judged_on tree.now at rule number result ≡ first_bytes tree.now at rule number }
     ensures kind { IfSome result (λ found. kind_of (get_or tree.now at 0) ≡ Some found.0) }
 {
     let kind = Kind::of_byte(tree[at])?;
@@ -293,7 +296,8 @@ pub(crate) fn layout(place: usize) -> Refusal
     }
 }
 
-// A record's own bytes at a place, where so many levels are left: refusal 5 or 4 where they break the layout or stand too deep.
+// A record's own bytes at a place, where so many levels are left: refusal 5 or 4 where they break the layout or stand
+// too deep.
 pub fn read_own(tree: &[u8], at: usize, class: Class, levels: usize) -> Result<Own, Refusal>
     ensures answer { result ≡ read_own tree.now at class levels }
     ensures fits { Fits tree.now at result }
@@ -316,8 +320,8 @@ pub fn read_own(tree: &[u8], at: usize, class: Class, levels: usize) -> Result<O
     Ok(own)
 }
 
-// The refusal that reading met, for callers that have not the refusal alone; a record that was read has none, and the place behind it
-// stands for one.
+// The refusal that reading met, for callers that have not the refusal alone; a record that was read has none, and the
+// place behind it stands for one.
 pub fn refusal_of(read: Result<Own, Refusal>) -> Refusal
     ensures { result ≡ refusal_of read }
 {

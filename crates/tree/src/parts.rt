@@ -1,4 +1,5 @@
-// What the walk over a tree reads beside the records' own bytes: the place behind a record, a trivia item, and a token's head.
+// What the walk over a tree reads beside the records' own bytes: the place behind a record, a trivia item, and a
+// token's head.
 ghost use Rattle.std.specs.Prelude.{◌≡◌, ℕ, ◌<◌, get_or, Some, Ok};
 ghost use Rattle.std.specs.Iterator.{YieldsFirst, item_count};
 ghost use Rattle.tree.specs.Grammar.{kind_of, rule, fields};
@@ -180,7 +181,8 @@ fn token_head(
     levels: usize,
 ) -> Result<Head, Refusal>
     requires { 0 < levels }
-    ensures { (at : ℕ) → kind_of (get_or tree.now at 0) ≡ Some kind → result ≡ head_on levels tree.now class at (Ok own) }
+    ensures { (at : ℕ) → kind_of (get_or tree.now at 0) ≡ Some kind
+        → result ≡ head_on levels tree.now class at (Ok own) }
 {
     match kind {
         Kind::Braces | Kind::Config => inner_head(tree, own.end, Class::BlockRecord, levels - 1),
@@ -189,7 +191,8 @@ fn token_head(
     }
 }
 
-// The head of a token's record whose own bytes were read. A byte of no kind counts as one of those whose head is the first field.
+// The head of a token's record whose own bytes were read. A byte of no kind counts as one of those whose head is the
+// first field.
 pub fn head_behind(
     tree: &[u8],
     at: usize,
