@@ -8,7 +8,7 @@ use answers::Refusal;
 use cases::input;
 use cases::input::NoCommand;
 use cases::uses::Uses;
-use chunks::stored;
+use chunks::list::Chunks;
 use std::io;
 use std::io::{BufReader, BufWriter, Read, Write};
 use tree::grammar::Class;
@@ -88,7 +88,7 @@ fn answer_format(
 // A line for each chunk of a list, put together in a room.
 fn show_chunks(out: &mut impl Write, list: &[u8], room: &mut [u8]) -> io::Result<()> {
     let mut at = 0;
-    while let Some(chunk) = stored::chunk_at(list, at) {
+    for chunk in (Chunks { list, at }) {
         let mut line = Line::new(room);
         records::put_chunk(&mut line, list, at, chunk);
         out.write_all(line.written())?;

@@ -4,4 +4,3 @@ pub mod Sentences
 pub mod Entries
 pub mod Records
 pub mod Losses
-pub mod Trivia

@@ -7,4 +7,3 @@ mod names;
 pub mod places;
 pub mod records;
 pub mod sentences;
-mod trivia;

@@ -7,8 +7,8 @@ ghost use Rattle.wording.specs.Losses.{letters, fate, comments, loss_line};
 
 use crate::lines::Line;
 use crate::records;
-use crate::trivia::Items;
 use tree::own::Own;
+use tree::parts::Trivia;
 use tree::{codes, kinds};
 
 // Three of the eight places as bits of a record's letters, which `losses::lost` tells: (f), (g) and (h).
@@ -35,10 +35,10 @@ fn put_letters(line: &mut Line, bits: usize)
 fn put_comments(line: &mut Line, tree: &[u8], own: Own)
     ensures { line.new ≡ puts (comments (items_at tree.now own.trivia own.trivia_count)) line.old }
 {
-    for (code, text) in Items::of(tree, own) {
-        if codes::C_STYLE <= code {
+    for item in Trivia::new(tree, own.trivia, own.trivia_count) {
+        if codes::C_STYLE <= item.code {
             line.put(b" ");
-            line.put_quoted(text);
+            line.put_quoted(&tree[item.start..item.end]);
         }
     }
 }

@@ -6,11 +6,11 @@ ghost use Rattle.wording.specs.Records.{spaces_before, offset, deep, trivium, tr
 
 use crate::entries::Table;
 use crate::lines::Line;
-use crate::trivia::Items;
 use crate::{entries, names};
 use chunks::stored::StoredChunk;
 use tree::grammar::Class;
 use tree::own::Own;
+use tree::parts::Trivia;
 use tree::{codes, kinds};
 
 // How many spaces stand before an offset, so that its last digit is the fifth of the line.
@@ -61,8 +61,8 @@ fn put_trivium(line: &mut Line, code: u8, text: &[u8])
 fn put_trivia(line: &mut Line, tree: &[u8], own: Own)
     ensures { line.new ≡ puts (trivia (items_at tree.now own.trivia own.trivia_count)) line.old }
 {
-    for (code, text) in Items::of(tree, own) {
-        put_trivium(line, code, text);
+    for item in Trivia::new(tree, own.trivia, own.trivia_count) {
+        put_trivium(line, item.code, &tree[item.start..item.end]);
     }
 }
 

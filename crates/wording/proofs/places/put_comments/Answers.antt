@@ -1,19 +1,36 @@
--- A comment is put, and those behind it go on from there.
+-- An item is put, and those behind it go on from there.
+use mathlib.Core.Path.{◌≡◌, refl}
 use native.Mathlib.Omega.{arith}
-use Rattle.wording.specs.Lines.{puts}
 use Rattle.text.specs.Literals.{ascii}
+use Rattle.tree.specs.Parts.{spans_at, trivia_left}
+use Rattle.wording.specs.Lines.{puts}
 use Rattle.wording.specs.Losses.{comments}
-use Rattle.wording.proofs.Pieces.{joined}
+use Rattle.wording.proofs.Pieces.{joined, items_read}
 use Rattle.wording.proofs.places.put_comments.Goals as goal
 
-pub loop-code-preserved-then-code-ge-C_STYLE : goal.loop-code-preserved-then-code-ge-C_STYLE
-unfolding puts comments ascii
-loop-code-preserved-then-code-ge-C_STYLE c = grind (arith, joined, c.in-Some.ensures.steps)
+pub loop-item-init : goal.loop-item-init
+loop-item-init c =
+    let start : trivia_left c.into_iter-item-iterator.result ≡ spans_at c.args.tree.now c.args.own.trivia c.args.own.trivia_count =
+    rw c.into_iter-item-iterator.ensures.into_iter_gives c.new-item-items.ensures in
+    (rw start (items_read c.args.tree.now c.args.own.trivia c.args.own.trivia_count).lie, refl)
 
-pub loop-code-preserved : goal.loop-code-preserved
+pub loop-item-preserved-then-item-ge-C_STYLE : goal.loop-item-preserved-then-item-ge-C_STYLE
+unfolding puts comments ascii
+loop-item-preserved-then-item-ge-C_STYLE c =
+    let left = rw c.in-Some.ensures.steps at c.loop-item.invariant in
+    (left.0.1, grind (arith, joined, left.1))
+
+pub loop-item-preserved : goal.loop-item-preserved
 unfolding puts comments
-loop-code-preserved c = grind (arith, joined, c.in-Some.ensures.steps)
+loop-item-preserved c =
+    let left = rw c.in-Some.ensures.steps at c.loop-item.invariant in
+    (left.0.1, grind (arith, joined, left.1))
 
 pub returns : goal.returns
 unfolding puts comments
-returns c = grind (arith, joined)
+returns c =
+    let start : trivia_left c.into_iter-item-iterator.result ≡ spans_at c.args.tree.now c.args.own.trivia c.args.own.trivia_count =
+    rw c.into_iter-item-iterator.ensures.into_iter_gives c.new-item-items.ensures in
+    let read = items_read c.args.tree.now c.args.own.trivia c.args.own.trivia_count in
+    let left = rw (c.in-None.ensures.steps.0, start) at c.loop-item.invariant.1 in
+    rw (read.texts, left)
