@@ -4,7 +4,7 @@ ghost use Rattle.std.specs.Prelude.{◌≤◌, length, IfOk, IfSome};
 ghost use Rattle.cases.specs.Cases.{LiesWithin};
 
 use std::io;
-use std::io::{ErrorKind, Read, Write};
+use std::io::{ErrorKind, Read};
 
 // The command, how many bytes of their buffers the options and the payload fill, and two lengths.
 #[derive(Clone, Copy)]
@@ -92,22 +92,4 @@ pub fn read_case(
         work,
         text,
     }))
-}
-
-// Answers every case of a stream, each before the next is read, until `answer` tells that there was none.
-pub fn answer_all<I: Read, O: Write, F: FnMut(&mut I, &mut O) -> io::Result<bool>>(
-    input: &mut I,
-    out: &mut O,
-    mut answer: F,
-) -> io::Result<()>
-    requires { F.IsAlwaysCallable answer }
-{
-    // More cases than any input has: a program is proved to end.
-    for _ in 0..u64::MAX {
-        if !answer(input, out)? {
-            return Ok(());
-        }
-        out.flush()?;
-    }
-    Ok(())
 }

@@ -268,7 +268,20 @@ fn main(rt: HostRuntime) -> io::Result<()> {
     let mut tree = [0u8; 65536];
     let mut work = [0u8; 1048576];
     let mut text = [0u8; 2097152];
-    input::answer_all(&mut input, &mut out, |input, out| {
-        answer_case(input, out, &mut options, &mut tree, &mut work, &mut text)
-    })
+    // More cases than any input has: a program is proved to end.
+    for _ in 0..u64::MAX {
+        let more = answer_case(
+            &mut input,
+            &mut out,
+            &mut options,
+            &mut tree,
+            &mut work,
+            &mut text,
+        )?;
+        if !more {
+            return Ok(());
+        }
+        out.flush()?;
+    }
+    Ok(())
 }
