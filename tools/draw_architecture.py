@@ -30,9 +30,10 @@ BOXES = {
     "tokens": (397, 284, 172, 58, "tokens, blocks, `chunks`"),
     "expressions": (581, 284, 172, 58, "strings, imports, operands"),
     "leads": (397, 350, 172, 58, "what stands before a token"),
-    "leaves": (581, 350, 172, 58, "trivia, leaves, `open`"),
-    "events": (397, 416, 172, 58, "a tree's events, as data"),
-    "printing": (581, 416, 172, 58, "state, pushes, `run`"),
+    "printers": (581, 350, 172, 58, "pushes, trivia, leaves"),
+    "leaves": (397, 416, 114, 58, "records as read"),
+    "events": (519, 416, 114, 58, "a tree's events"),
+    "printing": (641, 416, 112, 58, "a run of events"),
     "chunks": (795, 404, 130, 70, "stored chunk:|read, judge, append"),
     "join": (967, 284, 156, 58, "the column setter"),
     "columns": (967, 416, 156, 58, "what its text is; laws"),
@@ -41,7 +42,6 @@ BOXES = {
     "reading": (385, 532, 184, 66, "laws: reading order,|the eight places, ink"),
     "losses": (581, 532, 184, 66, "`lost`: the records that|use one of the places"),
     "options": (795, 532, 130, 66, "read, defaults|(1, 2)"),
-    "printers": (1106, 532, 156, 66, "`leaves` over a struct"),
     "text": (160, 636, 480, 44, "bytes as text: blank and ink, lines, two-byte numbers, stores"),
     "answers": (655, 636, 480, 44, "refusals by name and number; a text, its answer and its buffer"),
 }
@@ -91,12 +91,12 @@ CALLS = [
     ("losses", [(581, 563), (569, 563)]),
 ]
 
-# the time of a check in seconds, in a run of the whole gate, four crates at a time on two cores
+# the time of a check in seconds, in a run of the whole gate, four crates at a time on two cores; none of the crates of
+# the printers, which were written anew since
 CHECK_TIMES = {
     "answers": 4, "text": 9, "options": 16, "chunks": 24, "columns": 5, "join": 69, "tree": 71, "reader": 10,
-    "printing": 13, "tree_laws": 5, "events": 7, "leaves": 38, "reading": 7, "leads": 39, "expressions": 112,
-    "tokens": 109, "losses": 30, "formatting": 30, "exports": 78, "wording": 106, "samples": 109, "replay": 119,
-    "lesson": 118,
+    "tree_laws": 5, "events": 7, "reading": 7, "losses": 30, "formatting": 30, "exports": 78, "wording": 106,
+    "samples": 109, "replay": 119, "lesson": 118,
 }
 
 LEGEND = "brown: data; blue: a crate, and the crates it stands on; grey: calls, or states laws of; in brackets: refusals"
@@ -197,7 +197,8 @@ def size_table(uses):
     yield "|---|---:|---:|---:|---:|---:|---:|"
     rows = {name: size_row(name) for name in uses}
     for name, sizes in rows.items():
-        yield f"| `{name}` | " + " | ".join(f"{size:,}" for size in sizes) + f" | {CHECK_TIMES.get(name, '–')} s |"
+        time = f"{CHECK_TIMES[name]} s" if name in CHECK_TIMES else "–"
+        yield f"| `{name}` | " + " | ".join(f"{size:,}" for size in sizes) + f" | {time} |"
     yield "| in all | " + " | ".join(f"{sum(column):,}" for column in zip(*rows.values())) + " | |"
 
 

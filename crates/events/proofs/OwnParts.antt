@@ -16,14 +16,14 @@ use Rattle.text.proofs.Choices.{true_false}
 use Rattle.tree.specs.Grammar.{kind_of, rule, fields}
 use Rattle.tree.specs.Own.{fields_fit, else_fits, own_of, read_own}
 use Rattle.tree.specs.Reading.{fields_due, parts_due}
-use Rattle.tree.specs.Stored.{stored_with}
 use Rattle.tree.specs.Tree.{Tree, built}
 use Rattle.tree.specs.declared.grammar.Kind.{Kind}
 use Rattle.tree.specs.declared.grammar.Kind.TheVariants as variant
 use Rattle.tree.specs.declared.grammar.Class.{Class}
 use Rattle.tree.specs.declared.own.Own.{Own}
 use Rattle.tree.specs.declared.own.TriviaSpan.{TriviaSpan}
-use Rattle.tree.proofs.KindLayout.{kind_number, kind_number_lem}
+use Rattle.tree.specs.Grammar.{kind_number}
+use Rattle.tree.proofs.KindLayout.{kind_number_lem}
 use Rattle.tree.proofs.OwnBytes.{Headed, leaf_number, own_cases, leaf_other}
 use Rattle.tree.proofs.RoundTrip.{no_items, node_fits}
 use Rattle.events.specs.Views.{view, token_number, bit_at}
@@ -32,7 +32,7 @@ use Rattle.events.specs.Views.{view, token_number, bit_at}
 
 -- a tree of a kind has its number
 number_built : (kind : Kind) (text : List ℕ) (trees : List Tree) → token_number (built kind text trees) ≡ kind_number kind
-unfolding built kind_number stored_with view
+unfolding built view
 number_built variant.Align text trees = refl
 number_built variant.Assert text trees = refl
 number_built variant.Braces text trees = refl

@@ -22,6 +22,7 @@ use Rattle.chunks.specs.declared.stored.StoredChunk.{StoredChunk}
 use Rattle.chunks.proofs.Reading.{LaidAs, chunk_laid}
 use Rattle.options.specs.Stored.{standing, map_of, too_large, values_checked, length_wrong, stored_options, accepted, read_options}
 use Rattle.options.proofs.Values.{indent_small}
+use Rattle.options.proofs.Values.{standing_small}
 use Rattle.exports.proofs.Within.{Within, wider}
 
 -- ---- a chunk list
@@ -66,17 +67,11 @@ list_within list =
 
 -- ---- options
 
--- no more bits stand below a bit than there are
-standing_most : (map k : ℕ) → standing map k ≤ k
-unfolding standing
-standing_most map zero = omega arith
-standing_most map (suc k) = omega (arith, standing_most map k)
-
 values_within : (stored : List ℕ) (k n : ℕ) → k + n ≤ 8 → Within 8 (values_checked stored k n)
 unfolding values_checked
 values_within stored k zero few = tt
 values_within stored k (suc n) few =
-    cond_both (Within 8) (too_large stored k) _ _ (λ large. omega (arith, standing_most (map_of stored) k)) (λ fine. values_within stored (k + 1) n (omega arith))
+    cond_both (Within 8) (too_large stored k) _ _ (λ large. omega (arith, standing_small (map_of stored) k)) (λ fine. values_within stored (k + 1) n (omega arith))
 
 -- options that were read, whose indent is at most 64, or a refusal
 abbrev pub ReadWithin : Result FormattingOptions Refusal → Type 0

@@ -8,7 +8,6 @@ use Rattle.tree.specs.declared.grammar.Class.TheVariants.{ExpressionArgument, Id
 use Rattle.printing.specs.Events.{Events, ◌▹◌}
 use Rattle.printing.specs.declared.Context.{Context}
 use Rattle.events.specs.Printed.{plain}
-use Rattle.events.specs.Views.{bit_at}
 use Rattle.events.specs.Trees.{Place, leaf, arguments, imports, skipping, events_in}
 use Rattle.expressions.specs.declared.expression.Arguments.{Arguments}
 use Rattle.expressions.specs.declared.expression.Arguments.TheVariants.{Expressions, Identifiers, Imports}
@@ -38,16 +37,16 @@ list_place Imports = imports
 
 -- ---- not part of any promise of this crate: the signs of a factor that is skipped on the way to them
 
-abbrev pub tag_events : Context → ℕ → Reader → ℕ → Events
-tag_events context bits reader at =
+abbrev pub tag_events : Context → Bool → Bool → Reader → ℕ → Events
+tag_events context tag_not tag_neg reader at =
     let first = (reader LocatedFactor at).end in
-    let second = cond (bit_at 1 bits) (reader Char first).end first in
+    let second = cond tag_not (reader Char first).end first in
     skipping (reader LocatedFactor at).tree
-    ▹ events_in context (leaf plain) true (cond (bit_at 1 bits) (reader Char first).tree absent)
-    ▹ events_in context (leaf plain) true (cond (bit_at 2 bits) (reader Char second).tree absent)
+    ▹ events_in context (leaf plain) true (cond tag_not (reader Char first).tree absent)
+    ▹ events_in context (leaf plain) true (cond tag_neg (reader Char second).tree absent)
 
-abbrev pub tags_end : ℕ → Reader → ℕ → ℕ
-tags_end bits reader at =
+abbrev pub tags_end : Bool → Bool → Reader → ℕ → ℕ
+tags_end tag_not tag_neg reader at =
     let first = (reader LocatedFactor at).end in
-    let second = cond (bit_at 1 bits) (reader Char first).end first in
-    cond (bit_at 2 bits) (reader Char second).end second
+    let second = cond tag_not (reader Char first).end first in
+    cond tag_neg (reader Char second).end second

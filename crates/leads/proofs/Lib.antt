@@ -1,3 +1,2 @@
-pub mod Groups
+pub mod Numbered
 pub mod Leads
-pub mod Ready

@@ -1,42 +1,32 @@
--- Records of a kind: what is printed of the fields, or of the items, behind own bytes is printed of the record.
---   opened_kind : a record that was opened, of a kind with fields
---   opened_list : one that is a list
+-- Records of a kind: reading them is reading the fields, or the items, behind own bytes.
+--   kind_read : a record of a kind with fields
+--   list_read : one that is a list
 use Rattle.std.specs.Prelude.{Some, None, Ok}
 use mathlib.Core.Path.{◌≡◌, refl, sym, ap, ◌∙◌}
 use mathlib.Core.Logic.{⊎_elim}
 use mathlib.Core.List.{List, [], ◌∷◌}
 use mathlib.Core.Bool.{Bool, true, false, ◌&&◌, ◌||◌}
-use Prim.Native.Nat.{ℕ, zero, suc, ◌-◌, ◌/◌, ◌%◌, ◌<◌, ◌≤◌}
-use lib.ListN.{length, get_or, replicate}
-use native.Mathlib.Omega.{arith}
+use Prim.Native.Nat.{ℕ, zero, suc, ◌-◌, ◌/◌, ◌%◌, ◌≤◌}
+use lib.ListN.{get_or, replicate}
 use lib.Dec.{eqb, leb}
 use borrow.Author.Tests.{leb-true}
 use Rattle.text.proofs.Choices.{by_test, true_false, and_true_left, and_true_right, neither}
-use Rattle.tree.specs.Tree.{Tree, node, built, chain}
-use Rattle.tree.specs.Grammar.{Slot, must, may, kind_of, rule, fields}
+use Rattle.tree.specs.Tree.{Tree, node, built}
+use Rattle.tree.specs.Grammar.{Slot, must, may, rule, fields}
 use Rattle.tree.specs.Own.{fields_fit, may_stand, read_own}
 use Rattle.tree.specs.Reading.{Reader, due, fields_due, parts_due, read_parts, trivia_of, read}
-use Rattle.tree.specs.Stored.{stored_with}
 use Rattle.tree.specs.declared.grammar.Kind.{Kind}
 use Rattle.tree.specs.declared.grammar.Kind.TheVariants as variant
 use Rattle.tree.specs.declared.grammar.Class.{Class}
 use Rattle.tree.specs.declared.grammar.Rule.{Rule}
 use Rattle.tree.specs.declared.own.Own.{Own}
-use Rattle.tree.proofs.KindLayout.{kind_number, kind_number_lem}
+use Rattle.tree.specs.Grammar.{kind_number}
+use Rattle.tree.proofs.KindLayout.{kind_number_lem}
 use Rattle.tree.proofs.OwnBytes.{leaf_number}
-use Rattle.printing.specs.Running.{outcome, Shown, Prints}
-use Rattle.printing.specs.declared.CodeFormatter.{CodeFormatter}
-use Rattle.printing.specs.declared.Context.{Context}
-use Rattle.printing.specs.declared.Printed.{Printed}
-use Rattle.printing.specs.declared.Printed.TheVariants.{Done}
-use Rattle.printing.proofs.Running.{◌then◌, some_place}
 use Rattle.events.specs.Views.{bit_at}
-use Rattle.events.specs.Trees.{Place, events_in}
 use Rattle.events.proofs.OwnParts.{record_headed, record_parts}
 use Rattle.leaves.specs.Lists.{item_trees, items_end}
-use Rattle.leaves.specs.Records.{PrintsField, PrintsKind, field_trees, fields_end, Opens, closed_by}
-use Rattle.leaves.specs.declared.record.Opened.{Opened}
-use Rattle.leaves.specs.declared.record.Opened.TheVariants as opened_is
+use Rattle.leaves.specs.Records.{field_trees, fields_end}
 use Rattle.leaves.proofs.Records.{read_record}
 
 -- ---- fields
@@ -60,7 +50,7 @@ bare kind = eqb (kind_number kind) 24 || leaf_number (kind_number kind)
 
 -- its tree has no text
 text_free : (kind : Kind) (text : List ℕ) (trees : List Tree) → bare kind ≡ false → built kind text trees ≡ built kind [] trees
-unfolding built kind_number stored_with
+unfolding built
 text_free variant.Align text trees other = refl
 text_free variant.Assert text trees other = refl
 text_free variant.Braces text trees other = refl
@@ -109,7 +99,6 @@ text_free variant.ArgItem text trees other = refl
 pub kind_read : (bytes : List ℕ) (class : Class) (at levels : ℕ) (own : Own) (kind : Kind) → read_own bytes at class levels ≡ Ok own → own.kind ≡ kind → bare kind ≡ false
     → ((read levels bytes class at).tree ≡ node at (trivia_of bytes own) (built kind [] (field_trees (read (levels - 1) bytes) (fields kind (rule class).value) (own.map / 2) own.end)))
     × ((read levels bytes class at).end ≡ fields_end (read (levels - 1) bytes) (fields kind (rule class).value) (own.map / 2) own.end)
-unfolding kind_number stored_with built
 kind_read bytes class at levels own kind is same other =
     let number : kind_number kind ≡ get_or bytes at 0 = ap kind_number (sym same) ∙ kind_number_lem (get_or bytes at 0) own.kind (record_headed bytes at class levels own is).1.kind_is in
     let both = neither (eqb (kind_number kind) 24) (leaf_number (kind_number kind)) other in
@@ -154,88 +143,3 @@ unfolding parts_due fields_due built
 list_read bytes class item at levels own is same items =
     let done = items_read (read (levels - 1) bytes) item own.count own.end in
     rw ((read_record bytes class at levels own is).1, same, items, done.0, done.1) (refl, refl)
-
--- ---- a record that was opened
-
-module _ {context : Context} {shown : Bool} {levels : ℕ} {bytes : List ℕ} {class : Class} {stands : Bool} {left room : List ℕ} {last : Printed} {opened : Opened}
-    (opens : Opens opened left last room context shown levels bytes class stands)
-  where
-    -- where it was not opened
-    pub shown_closed : (place : Place) {answer said : Printed} → opened ≡ opened_is.Closed answer → said ≡ closed_by opened
-        → PrintsField said left last room context place shown levels bytes class stands
-    shown_closed place {answer} {said} is says =
-        let same : said ≡ answer = says ∙ ap closed_by is in
-        let shut : Opens (opened_is.Closed answer) left last room context shown levels bytes class stands = rw is at opens in
-        record { from = λ at here. rw same (shut.from at here place) }
-
-    module _ {own : Own} {state : CodeFormatter} (is : opened ≡ opened_is.Record own state) where
-      -- its own bytes were read, and its trivia have been run
-      opened_own : Opens (opened_is.Record own state) left last room context shown levels bytes class stands
-      opened_own = rw is at opens
-
-      -- a level was left
-      pub opened_levels : 0 < levels
-      opened_levels =
-          let there = some_place last in
-          (read_record bytes class there.0 levels own (opened_own.from there.0 there.1).1).0
-
-      -- where they stand
-      pub opened_fits : (own.text ≤ own.end) × (own.end ≤ length bytes)
-      opened_fits =
-          let there = some_place last in
-          let held = (opened_own.from there.0 there.1).2 in
-          (held.part, held.inside)
-
-      -- its number is one that may stand
-      pub opened_range : (rule class).items ≡ None → ((rule class).first ≤ kind_number own.kind) × (kind_number own.kind ≤ (rule class).last)
-      opened_range none =
-          let there = some_place last in
-          let read = (opened_own.from there.0 there.1).1 in
-          let number = kind_number_lem (get_or bytes there.0 0) own.kind (record_headed bytes there.0 class levels own read).1.kind_is in
-          rw number (standing_range (rule class) (get_or bytes there.0 0) none (record_headed bytes there.0 class levels own read).1.standing)
-
-      -- and says which kind it is
-      pub opened_by_number : (number : ℕ) (kind : Kind) → kind_number own.kind ≡ number → kind_of number ≡ Some kind → own.kind ≡ kind
-      opened_by_number number kind same known =
-          let there = some_place last in
-          let found = (record_headed bytes there.0 class levels own (opened_own.from there.0 there.1).1).1.kind_is in
-          let here : get_or bytes there.0 0 ≡ number = sym (kind_number_lem (get_or bytes there.0 0) own.kind found) ∙ same in
-          let both : kind_of number ≡ Some own.kind = rw here at found in
-          cc
-
-      -- where only one may stand it is that
-      pub opened_one : (number : ℕ) (kind : Kind) → (rule class).items ≡ None → (rule class).first ≡ number → (rule class).last ≡ number → kind_of number ≡ Some kind
-          → own.kind ≡ kind
-      opened_one number kind none low high known =
-          let range = opened_range none in
-          opened_by_number number kind (omega arith) known
-
-      module _ (place : Place) {answer : Printed} {after : List ℕ} where
-        -- what is printed behind own bytes is printed of the record
-        pub opened_as : (tree : Tree) (end : ℕ)
-            → ((at : ℕ) → read_own bytes at class levels ≡ Ok own → ((read levels bytes class at).tree ≡ node at (trivia_of bytes own) tree) × ((read levels bytes class at).end ≡ end))
-            → Shown answer after (events_in context place true tree) (outcome (Done state own.end) left) end
-            → PrintsField answer after last room context place shown levels bytes class stands
-        unfolding events_in
-        opened_as tree end read_as done = record {
-          from = λ at here.
-              let own = opened_own.from at here in
-              let same = read_as at own.1 in
-              rw (own.0, same.0, same.1) (record { ran = own.3 } then done);
-        }
-
-        -- of a kind with fields
-        pub opened_kind : (kind : Kind) → own.kind ≡ kind → bare kind ≡ false
-            → PrintsKind answer after (Done state own.end) left context place kind (rule class).value (own.map / 2) (levels - 1) bytes
-            → PrintsField answer after last room context place shown levels bytes class stands
-        opened_kind kind same other done =
-            opened_as _ _ (λ at read. kind_read bytes class at levels own kind read same other) (done.from own.end refl)
-
-        -- of a list
-        pub opened_list : (item : Class) → own.kind ≡ variant.Vec → (rule class).items ≡ Some item
-            → Prints answer after (Done state own.end) left (λ at. events_in context place true (chain (item_trees (read (levels - 1) bytes) item own.count at)))
-            (λ at. items_end (read (levels - 1) bytes) item own.count at)
-            → PrintsField answer after last room context place shown levels bytes class stands
-        unfolding events_in built
-        opened_list item same items done =
-            opened_as _ _ (λ at read. list_read bytes class item at levels own read same items) (done.from own.end refl)

@@ -7,12 +7,11 @@ use Prim.Native.Nat.{ℕ, zero, suc, ◌≤◌}
 use lib.Dec.{eqb, leb}
 use lib.ListN.{length, get_or}
 use lib.Seq.{slice}
-use borrow.Author.Tests.{ne_eqb}
 use Rattle.answers.specs.declared.Refusal.{Refusal}
 use Rattle.text.proofs.Choices.{by_test, true_false, no_other}
 use Rattle.tree.specs.Tree.{built}
 use Rattle.tree.specs.Grammar.{kind_of, rule}
-use Rattle.tree.specs.Own.{may_stand, read_own, refusal_of, Fits, OwnFits, own_end}
+use Rattle.tree.specs.Own.{may_stand, read_own, Fits, OwnFits, own_end}
 use Rattle.tree.specs.Reading.{Reader, trivia_of, fields_due, parts_due, read_parts, read_on, unread, read}
 use Rattle.tree.specs.declared.grammar.Class.{Class}
 use Rattle.tree.specs.declared.grammar.Kind.{Kind}
@@ -20,13 +19,10 @@ use Rattle.tree.specs.declared.grammar.Kind.TheVariants.{Leaf}
 use Rattle.tree.specs.declared.own.Own.{Own}
 use Rattle.tree.specs.declared.own.TriviaSpan.{TriviaSpan}
 use Rattle.tree.proofs.OwnBytes.{Headed, own_cases}
-use Rattle.printing.specs.Events.{Events, nothing, ◌▹◌}
-use Rattle.printing.specs.Running.{Run, going, run, finished, Shown}
-use Rattle.printing.specs.declared.CodeFormatter.{CodeFormatter}
+use Rattle.printing.specs.Events.{nothing, ◌▹◌}
+use Rattle.printing.specs.Running.{Run, run, Printed, Shown}
 use Rattle.printing.specs.declared.Context.{Context}
-use Rattle.printing.specs.declared.Printed.{Printed}
-use Rattle.printing.specs.declared.Printed.TheVariants as answer_is
-use Rattle.printing.proofs.Running.{told, alike, stopped_there, full_before}
+use Rattle.printing.proofs.Running.{told, alike}
 use Rattle.events.specs.Printed.{Style, printed}
 use Rattle.events.specs.Trees.{word, trivia_events, leaf, events_in}
 use Rattle.leaves.specs.Items.{items_at}
@@ -110,36 +106,14 @@ module _ (bytes : List ℕ) (class : Class) (leaves : LeafClass class) (at : ℕ
   unfolding run
   text_shown context style levels own is done = leaf_shown_lem context style false levels (rw is (alike (λ x. refl) done))
 
--- ---- what a printer of a leaf shows
-
--- a state that is full is refused before anything is read
-pub full_refused : {answer : Printed} {room : List ℕ} {events : Events} {state : CodeFormatter} {end : ℕ} (at : ℕ) → answer ≡ finished state at → (state.full ≡ 0 → ⊥)
-    → Shown answer room events (going room state) end
-full_refused at answered full = let refused = rw (ne_eqb _ _ full) at answered in rw refused (full_before full)
-
-module _ (bytes : List ℕ) (class : Class) (at levels : ℕ) (context : Context) (style : Style) (shown : Bool) where
-  -- what is shown of own bytes is shown, of a leaf's class, of the tree too
-  pub own_and_leaf : {answer : Printed} {room : List ℕ} {before : Run}
-      → Shown answer room (own_events context style shown bytes (read_own bytes at class levels)) before (own_end at (read_own bytes at class levels))
-      → Shown answer room (own_events context style shown bytes (read_own bytes at class levels)) before (own_end at (read_own bytes at class levels))
-      × (LeafClass class → Shown answer room (events_in context (leaf style) shown (read levels bytes class at).tree) before (read levels bytes class at).end)
-  own_and_leaf done = (done, λ leaves. leaf_shown_lem bytes class leaves at context style shown levels done)
-
-  module _ {found : Result Own Refusal} (same : found ≡ read_own bytes at class levels) where
-    -- own bytes that were read
-    pub own_shown : (own : Own) {answer : Printed} {room : List ℕ} {before : Run} → Fits bytes at found → found ≡ Ok own
-        → Shown answer room (cond shown (trivia_events context (items_at bytes own.trivia own.trivia_count)) nothing
-        ▹ word context (printed context style (slice own.text own.end bytes))) before own.end
-        → Shown answer room (own_events context style shown bytes (read_own bytes at class levels)) before (own_end at (read_own bytes at class levels))
-    own_shown own fits is done =
-        told
-        (ap (own_events context style shown bytes) (sym is ∙ same))
-        (ap (own_end at) (sym is ∙ same))
-        (rw (own_items bytes at own fits is) at done)
-
-    -- own bytes that were refused
-    pub refusal_shown : (why said : Refusal) {room : List ℕ} {state : CodeFormatter} → said ≡ refusal_of found → found ≡ Err why → state.full ≡ 0
-        → Shown (answer_is.Refused said) room (own_events context style shown bytes (read_own bytes at class levels)) (going room state) (own_end at (read_own bytes at class levels))
-    refusal_shown why said says is left =
-        rw (says ∙ ap refusal_of is)
-        (told (ap (own_events context style shown bytes) (sym is ∙ same)) (ap (own_end at) (sym is ∙ same)) (stopped_there left))
+-- what is shown of own bytes that were read is shown of what reading them gave
+pub own_shown : (bytes : List ℕ) (class : Class) (at levels : ℕ) (context : Context) (style : Style) (shown : Bool) {found : Result Own Refusal}
+    → found ≡ read_own bytes at class levels → (own : Own) {answer : Printed} {room : List ℕ} {before : Run} → Fits bytes at found → found ≡ Ok own
+    → Shown answer room (cond shown (trivia_events context (items_at bytes own.trivia own.trivia_count)) nothing
+    ▹ word context (printed context style (slice own.text own.end bytes))) before own.end
+    → Shown answer room (own_events context style shown bytes (read_own bytes at class levels)) before (own_end at (read_own bytes at class levels))
+own_shown bytes class at levels context style shown same own fits is done =
+    told
+    (ap (own_events context style shown bytes) (sym is ∙ same))
+    (ap (own_end at) (sym is ∙ same))
+    (rw (own_items bytes at own fits is) at done)

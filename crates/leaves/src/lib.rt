@@ -1,7 +1,2 @@
-// The lowest printers of the walk: trivia, the texts of enums, leaves, and what every record begins with.
+// Trivia items, leaves, and the fields and items of records as printers read them: definitions and laws only.
 #![tactic(auto)]
-
-pub mod leaf;
-pub mod record;
-pub mod texts;
-pub mod trivia;

@@ -11,8 +11,8 @@ use cases::uses::Uses;
 use chunks::list::Chunks;
 use std::io;
 use std::io::{BufReader, BufWriter, Read, Write};
-use tree::grammar::Class;
-use tree::{check, kinds, own};
+use tree::grammar::{Class, Kind};
+use tree::{check, own};
 use wording::lines::Line;
 use wording::{places, records, sentences};
 
@@ -60,9 +60,8 @@ fn write_refusal(
     write_status(out, refusal.reason.number())?;
     // No sentence has more than 200 bytes.
     let mut room = [0u8; 256];
-    let mut line = Line::new(&mut room);
-    sentences::put_refusal(&mut line, refusal, tree, options, work, text);
-    out.write_all(line.written())
+    let used = sentences::store_refusal(&mut room, refusal, tree, options, work, text);
+    out.write_all(&room[..used])
 }
 
 // The formatted text.
@@ -117,22 +116,27 @@ fn answer_chunks(
     }
 }
 
-// A class in which a kind may stand, by the kind's number. Both are of crate `tree`, so no `From` can stand here.
-fn class_of(number: usize) -> Class {
-    match number {
-        kinds::VEC => Class::Tokens,
-        kinds::LEAF => Class::Word,
-        kinds::PATH_ITEM => Class::StringItem,
-        kinds::BLOCK => Class::BlockRecord,
-        kinds::BINARY_EXPRESSION | kinds::FACTOR => Class::LocatedExpression,
-        kinds::CURRENT_PROGRAM_COUNTER..=kinds::STRING_FACTOR => Class::LocatedFactor,
-        kinds::INTERPOLATED_STRING => Class::StringRecord,
-        kinds::OPERAND => Class::OperandRecord,
-        kinds::REGISTER_SUFFIX => Class::SuffixRecord,
-        kinds::IMPORT_AS => Class::AsRecord,
-        kinds::IMPORT_ALL => Class::ImportArguments,
-        kinds::SPECIFIC_IMPORT_ARG => Class::ImportPath,
-        kinds::ARG_ITEM => Class::ExpressionArgument,
+// A class in which a kind may stand. Both are of crate `tree`, so no `From` can stand here.
+fn class_of(kind: Kind) -> Class {
+    match kind {
+        Kind::Vec => Class::Tokens,
+        Kind::Leaf => Class::Word,
+        Kind::PathItem => Class::StringItem,
+        Kind::Block => Class::BlockRecord,
+        Kind::BinaryExpression | Kind::Factor => Class::LocatedExpression,
+        Kind::CurrentProgramCounter
+        | Kind::ExprParens
+        | Kind::FunctionCall
+        | Kind::IdentifierValue
+        | Kind::Number
+        | Kind::StringFactor => Class::LocatedFactor,
+        Kind::InterpolatedString => Class::StringRecord,
+        Kind::Operand => Class::OperandRecord,
+        Kind::RegisterSuffix => Class::SuffixRecord,
+        Kind::ImportAs => Class::AsRecord,
+        Kind::ImportAll => Class::ImportArguments,
+        Kind::SpecificImportArg => Class::ImportPath,
+        Kind::ArgItem => Class::ExpressionArgument,
         _ => Class::LocatedToken,
     }
 }
@@ -185,11 +189,10 @@ fn answer_tree(
 // A line for each record that uses a place.
 fn show_losses(out: &mut impl Write, tree: &[u8], room: &mut [u8]) -> io::Result<()> {
     for loss in Uses::of(tree) {
-        let Some(&number) = tree.get(loss.place) else {
+        let Some(kind) = tree.get(loss.place).copied().and_then(Kind::of_byte) else {
             return Ok(());
         };
-        let class = class_of(usize::from(number));
-        if let Ok(own) = own::read_own(tree, loss.place, class, 64) {
+        if let Ok(own) = own::read_own(tree, loss.place, class_of(kind), 64) {
             let mut line = Line::new(room);
             places::put_loss(&mut line, tree, loss.place, loss.letters, own);
             out.write_all(line.written())?;

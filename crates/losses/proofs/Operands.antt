@@ -2,29 +2,33 @@
 use Rattle.std.specs.Prelude.{Result, Some, Ok, Err}
 use Rattle.answers.specs.Numbers.{no_refusal, Checked}
 use mathlib.Core.Path.{◌≡◌, refl, sym, ap, ◌∙◌}
-use mathlib.Core.Logic.{⊎_elim}
+use mathlib.Core.Logic.{◌⊎◌, ⊎_elim}
 use mathlib.Core.List.{List, [], ◌∷◌}
-use mathlib.Core.Bool.{Bool, true, false, cond, not, ◌||◌, and-true, and-false}
-use Prim.Native.Nat.{ℕ, ◌-◌, ◌/◌, ◌%◌, ◌≤◌}
+use mathlib.Core.Bool.{Bool, true, false, cond, not, ◌||◌, and-true, and-false, or-true}
+use Prim.Native.Nat.{ℕ, ◌-◌, ◌/◌, ◌%◌}
 use native.Mathlib.Omega.{arith}
 use native.Mathlib.Nat.{le_antisymm}
-use lib.ListN.{length, get_or}
-use lib.Seq.{slice, slice_empty, slice-cons}
-use lib.Dec.{eqb, ltb}
-use borrow.Author.Tests.{ltb-true, ltb-false}
+use lib.ListN.{get_or}
+use lib.Seq.{slice}
+use lib.Dec.{eqb}
 use Rattle.answers.specs.declared.Refusal.{Refusal}
 use Rattle.text.proofs.Choices.{by_test, true_false, and_true_left, and_true_right}
+use Rattle.tree.specs.Codes.{mode_of}
+use Rattle.tree.specs.Codes as codes
+use Rattle.tree.specs.declared.codes.AddressingMode.{AddressingMode}
+use Rattle.tree.specs.declared.codes.AddressingMode.TheVariants as modes
+use Rattle.tree.proofs.Coded.{mode_indirect, mode_outer, other_mode}
 use Rattle.tree.specs.Grammar.{Slot, must, may, kind_of, rule, fields}
 use Rattle.tree.specs.Own.{fields_fit, read_own}
 use Rattle.tree.specs.Parts.{skipped}
 use Rattle.tree.specs.Reading.{slot_class, fields_due, parts_due, Reading, Reader, read_parts, read, text_of}
 use Rattle.tree.specs.Tree.{Tree, absent, built}
 use Rattle.tree.specs.declared.grammar.Class.{Class}
-use Rattle.tree.specs.declared.grammar.Class.TheVariants.{LocatedExpression, Char, AddressingMode, SuffixRecord}
+use Rattle.tree.specs.declared.grammar.Class.TheVariants.{LocatedExpression, Char, SuffixRecord}
+use Rattle.tree.specs.declared.grammar.Class.TheVariants as classes
 use Rattle.tree.specs.declared.grammar.Kind.{Kind}
 use Rattle.tree.specs.declared.grammar.Kind.TheVariants as variant
 use Rattle.tree.specs.declared.own.Own.{Own}
-use Rattle.tree.proofs.OwnBytes.{own_fits}
 use Rattle.tree.proofs.Cases.{both_passed}
 use Rattle.events.specs.Views.{view, token_number, stands_at, index_of, bit_at}
 use Rattle.events.proofs.Heads.{read_stands}
@@ -32,7 +36,7 @@ use Rattle.events.proofs.OwnParts.{Fielded, record_parts, record_headed}
 use Rattle.leaves.proofs.Records.{read_record}
 use Rattle.leaves.proofs.Fielded.{standing_range}
 use Rattle.reading.specs.Places.{at_closing_character}
-use Rattle.losses.specs.Visits.{behind_field, index_in, part_trees, Takes, TakesIf, Shows, TakesClosing}
+use Rattle.losses.specs.Visits.{behind_field, part_trees, Takes, TakesIf, Shows, TakesClosing}
 use Rattle.losses.specs.declared.firsts.Search.{Search}
 use Rattle.losses.proofs.Steps.{takes_used, takes_unused}
 use Rattle.losses.proofs.Records.{node_read, inner_number}
@@ -69,7 +73,7 @@ module _ (reader : Reader) (slot : Slot) (slots : List Slot) (bits at : ℕ) whe
 -- ---- those of an operand
 
 abbrev operand_slots : List Slot
-operand_slots = must LocatedExpression ∷ may Char ∷ may Char ∷ must AddressingMode ∷ may SuffixRecord ∷ []
+operand_slots = must LocatedExpression ∷ may Char ∷ may Char ∷ must classes.AddressingMode ∷ may SuffixRecord ∷ []
 
 module _ (reader : Reader) (bits at : ℕ) where
   -- the place behind the expression, behind the opening character, and behind the closing one
@@ -87,9 +91,9 @@ module _ (reader : Reader) (bits at : ℕ) where
     pub expression : (reader LocatedExpression at).checked ≡ no_refusal
     pub opening : bit_at 1 bits ≡ true → (reader Char lchar_at).checked ≡ no_refusal
     pub closing : bit_at 2 bits ≡ true → (reader Char rchar_at).checked ≡ no_refusal
-    pub mode : (reader AddressingMode mode_at).checked ≡ no_refusal
+    pub mode : (reader classes.AddressingMode mode_at).checked ≡ no_refusal
     pub rchar : get_or trees 2 absent ≡ cond (bit_at 2 bits) (reader Char rchar_at).tree absent
-    pub index : get_or trees 3 absent ≡ (reader AddressingMode mode_at).tree
+    pub index : get_or trees 3 absent ≡ (reader classes.AddressingMode mode_at).tree
 
   -- the expression and the mode stand
   must_stand : fields_fit operand_slots bits ≡ true → (bit_at 0 bits ≡ true) × (bit_at 0 (bits / 2 / 2 / 2) ≡ true)
@@ -104,17 +108,17 @@ module _ (reader : Reader) (bits at : ℕ) where
   unfolding bit_at
   operand_read fits passed =
       let stood = must_stand fits in
-      let behind_first = may Char ∷ may Char ∷ must AddressingMode ∷ may SuffixRecord ∷ [] in
-      let behind_second = may Char ∷ must AddressingMode ∷ may SuffixRecord ∷ [] in
-      let behind_third = must AddressingMode ∷ may SuffixRecord ∷ [] in
+      let behind_first = may Char ∷ may Char ∷ must classes.AddressingMode ∷ may SuffixRecord ∷ [] in
+      let behind_second = may Char ∷ must classes.AddressingMode ∷ may SuffixRecord ∷ [] in
+      let behind_third = must classes.AddressingMode ∷ may SuffixRecord ∷ [] in
       let first = first_passed reader (must LocatedExpression) behind_first bits at passed in
       let second = first_passed reader (may Char) behind_second (bits / 2) lchar_at (rw stood.0 at first.1) in
       let third = first_passed reader (may Char) behind_third (bits / 2 / 2) rchar_at second.1 in
-      let fourth = first_passed reader (must AddressingMode) (may SuffixRecord ∷ []) (bits / 2 / 2 / 2) mode_at third.1 in
+      let fourth = first_passed reader (must classes.AddressingMode) (may SuffixRecord ∷ []) (bits / 2 / 2 / 2) mode_at third.1 in
       let trees_first = rw stood.0 at (first_trees reader (must LocatedExpression) behind_first bits at) in
       let trees_second = first_trees reader (may Char) behind_second (bits / 2) lchar_at in
       let trees_third = first_trees reader (may Char) behind_third (bits / 2 / 2) rchar_at in
-      let trees_fourth = first_trees reader (must AddressingMode) (may SuffixRecord ∷ []) (bits / 2 / 2 / 2) mode_at in
+      let trees_fourth = first_trees reader (must classes.AddressingMode) (may SuffixRecord ∷ []) (bits / 2 / 2 / 2) mode_at in
       record {
         expression = first.0 stood.0;
         opening = second.0;
@@ -127,27 +131,33 @@ module _ (reader : Reader) (bits at : ℕ) where
 -- ---- the index of a mode
 
 -- the first byte of a part
-slice_first : (bytes : List ℕ) (start end : ℕ) → start ≤ end → end ≤ length bytes → get_or (slice start end bytes) 0 0 ≡ cond (ltb start end) (get_or bytes start 0) 0
-slice_first bytes start end part inside =
-    by_test (ltb start end)
-    (λ q. rw q (ap (λ (text : List ℕ). get_or text 0 0) (slice-cons start end bytes 0 (ltb-true start end q) inside)))
-    (λ q.
-    let same : start ≡ end = le_antisymm part (ltb-false start end q) in
-    rw q (ap (λ (text : List ℕ). get_or text 0 0) (ap (λ (place : ℕ). slice place end bytes) same ∙ slice_empty end bytes)))
-
-index_read : (levels : ℕ) (bytes : List ℕ) (at : ℕ) (own : Own) → read_own bytes at AddressingMode levels ≡ Ok own
-    → get_or (index_of (read levels bytes AddressingMode at).tree) 0 0 ≡ index_in bytes own
+index_read : (levels : ℕ) (bytes : List ℕ) (at : ℕ) (own : Own) → read_own bytes at classes.AddressingMode levels ≡ Ok own
+    → index_of (read levels bytes classes.AddressingMode at).tree ≡ slice own.text own.end bytes
 unfolding built view
 index_read levels bytes at own is =
-    let headed = (record_headed bytes at AddressingMode levels own is).1 in
-    let within = standing_range (rule AddressingMode) (get_or bytes at 0) refl headed.standing in
+    let headed = (record_headed bytes at classes.AddressingMode levels own is).1 in
+    let within = standing_range (rule classes.AddressingMode) (get_or bytes at 0) refl headed.standing in
     let number : get_or bytes at 0 ≡ 25 = le_antisymm within.1 within.0 in
     let known : kind_of 25 ≡ Some own.kind = rw number at headed.kind_is in
     let leaf : own.kind ≡ variant.Leaf = cc in
-    let fits = own_fits bytes at AddressingMode levels own is in
-    rw (node_read levels bytes AddressingMode at own is, leaf) (slice_first bytes own.text own.end fits.part fits.inside)
+    rw (node_read levels bytes classes.AddressingMode at own is, leaf) refl
 
 -- ---- the closing character
+
+-- whether the mode of a text prints it
+abbrev pub printing : List ℕ → Bool
+printing text = eqb (get_or text 0 0) codes.indirect || eqb (get_or text 0 0) codes.outer_indirect
+
+module _ (text : List ℕ) {mode : AddressingMode} (is : mode ≡ mode_of text) where
+  pub mode_prints : (mode ≡ modes.Indirect) ⊎ (mode ≡ modes.OuterIndirect) → printing text ≡ true
+  mode_prints = ⊎_elim
+      (λ one. rw (mode_indirect (get_or text 0 0) (sym is ∙ one)) refl)
+      (λ one. rw (mode_outer (get_or text 0 0) (sym is ∙ one)) (or-true _))
+
+  pub mode_omits : (mode ≡ modes.Indirect → ⊥) → (mode ≡ modes.OuterIndirect → ⊥) → printing text ≡ false
+  mode_omits inner outer =
+      let index = get_or text 0 0 in
+      rw (other_mode index 3 modes.Indirect refl (λ one. inner (is ∙ one)), other_mode index 4 modes.OuterIndirect refl (λ one. outer (is ∙ one))) refl
 
 -- what is read of the fields of an operand that passed
 module _ (levels : ℕ) (bytes : List ℕ) {bits at : ℕ} {trees : List Tree} (held : OperandRead (read levels bytes) bits at trees) where
@@ -184,11 +194,11 @@ module _ (levels : ℕ) (bytes : List ℕ) {bits at : ℕ} {trees : List Tree} (
     closing_skipped = rw there (passed_skip levels bytes Char closes (held.closing there))
 
     -- and it counts where the mode prints none
-    closing_used : (leaf : Own) → read_own bytes printed AddressingMode levels ≡ Ok leaf
-        → at_closing_character (index_of (get_or trees 3 absent)) (get_or trees 2 absent) ≡ not (eqb (index_in bytes leaf) 3 || eqb (index_in bytes leaf) 4)
+    closing_used : (leaf : Own) → read_own bytes printed classes.AddressingMode levels ≡ Ok leaf
+        → at_closing_character (index_of (get_or trees 3 absent)) (get_or trees 2 absent) ≡ not (printing (slice leaf.text leaf.end bytes))
     closing_used leaf is =
-        let same : get_or (index_of (get_or trees 3 absent)) 0 0 ≡ index_in bytes leaf =
-        ap (λ (tree : Tree). get_or (index_of tree) 0 0) held.index ∙ index_read levels bytes printed leaf is in
+        let text = slice leaf.text leaf.end bytes in
+        let same : index_of (get_or trees 3 absent) ≡ text = ap index_of held.index ∙ index_read levels bytes printed leaf is in
         rw (same, held.rchar, there, read_stands levels bytes Char closes, and-true _)
 
 -- they are read so
@@ -273,27 +283,26 @@ module _ (levels : ℕ) (bytes : List ℕ) (own : Own) where
         pub no_closing : {seen : Checked} {after before : Search} {why : Refusal} → closing ≡ Err why → TakesClosing seen after before levels bytes own
         no_closing none = by_parts (λ trees held. next_unskipped (sym (closing_there held) ∙ none))
 
-        module _ {mode : ℕ} (mode-is : closing ≡ Ok mode) {found : Result Own Refusal} (found-is : found ≡ read_own bytes mode AddressingMode below) where
-          mode_there : {trees : List Tree} (held : Held trees) → read_own bytes (printed below bytes held) AddressingMode below ≡ found
+        module _ {mode : ℕ} (mode-is : closing ≡ Ok mode) {found : Result Own Refusal} (found-is : found ≡ read_own bytes mode classes.AddressingMode below) where
+          mode_there : {trees : List Tree} (held : Held trees) → read_own bytes (printed below bytes held) classes.AddressingMode below ≡ found
           mode_there held =
-              sym (found-is ∙ ap (λ (place : ℕ). read_own bytes place AddressingMode below) (same_next (sym mode-is ∙ closing_there held)))
+              sym (found-is ∙ ap (λ (place : ℕ). read_own bytes place classes.AddressingMode below) (same_next (sym mode-is ∙ closing_there held)))
 
           pub no_mode : {seen : Checked} {after before : Search} {why : Refusal} → found ≡ Err why → TakesClosing seen after before levels bytes own
-          no_mode none = by_parts (λ trees held. own_unread below bytes AddressingMode (printed below bytes held) held.mode (mode_there held ∙ none))
+          no_mode none = by_parts (λ trees held. own_unread below bytes classes.AddressingMode (printed below bytes held) held.mode (mode_there held ∙ none))
 
-          -- the index that the leaf holds tells whether it counts
-          module _ (leaf : Own) (leaf-is : found ≡ Ok leaf) {index : ℕ} (index_is : index ≡ index_in bytes leaf) where
+          -- the leaf's mode tells whether it counts
+          module _ (leaf : Own) (leaf-is : found ≡ Ok leaf) where
             used_there : {trees : List Tree} (held : Held trees)
-                → at_closing_character (index_of (get_or trees 3 absent)) (get_or trees 2 absent) ≡ not (eqb index 3 || eqb index 4)
-            used_there held =
-                closing_used below bytes held it_stands leaf (mode_there held ∙ leaf-is) ∙ ap (λ (index : ℕ). not (eqb index 3 || eqb index 4)) (sym index_is)
+                → at_closing_character (index_of (get_or trees 3 absent)) (get_or trees 2 absent) ≡ not (printing (slice leaf.text leaf.end bytes))
+            used_there held = closing_used below bytes held it_stands leaf (mode_there held ∙ leaf-is)
 
             -- the mode prints it
-            pub takes_printed : {before : Search} → (eqb index 3 || eqb index 4) ≡ true → TakesClosing no_refusal before before levels bytes own
-            takes_printed prints = by_parts (λ trees held. (refl, takes_unused (used_there held ∙ ap not prints)))
+            pub takes_printed : {before : Search} → printing (slice leaf.text leaf.end bytes) ≡ true → TakesClosing no_refusal before before levels bytes own
+            takes_printed shown = by_parts (λ trees held. (refl, takes_unused (used_there held ∙ ap not shown)))
 
             -- or not
-            pub takes_closing : {after before : Search} → (eqb index 3 || eqb index 4) ≡ false → Takes after before rchar 7
+            pub takes_closing : {after before : Search} → printing (slice leaf.text leaf.end bytes) ≡ false → Takes after before rchar 7
                 → TakesClosing no_refusal after before levels bytes own
             takes_closing omits takes =
                 by_parts

@@ -14,6 +14,9 @@ use Rattle.tree.specs.declared.grammar.Class.{Class}
 use Rattle.tree.specs.declared.own.Own.{Own}
 use Rattle.tree.specs.declared.check.Plan.{Plan}
 use Rattle.tree.proofs.Cases.{both_passed}
+use Rattle.tree.specs.Grammar.{kind_number}
+use Rattle.tree.proofs.KindLayout.{kind_number_lem}
+use Rattle.events.proofs.OwnParts.{record_headed}
 use Rattle.leaves.proofs.Records.{read_record}
 use Rattle.reading.specs.Places.{Use}
 use Rattle.losses.specs.Visits.{seen_in, listed_below, uses_along, end_along, checked_along, TakesAll, TakesRecord, Searches}
@@ -119,14 +122,14 @@ module _ (levels : ℕ) (bytes : List ℕ) (class : Class) (at : ℕ) (listed : 
     part_refused never passed = absurd (never (parts_passed passed))
 
     -- it is what it shows by itself, and its parts
-    pub record_searched : {after : Search} {end number : ℕ} {below : Bool}
-        → number ≡ get_or bytes at 0 → below ≡ listed_below number listed
+    pub record_searched : {after : Search} {end : ℕ} {below : Bool} → below ≡ listed_below (kind_number own.kind) listed
         → (checked_along reader (standing (parts_due class own)) own.end ≡ no_refusal
         → (end ≡ end_along reader (standing (parts_due class own)) own.end)
         × TakesAll after middle (uses_along reader below (standing (parts_due class own)) own.end))
         → Searches (Ok end) after before levels bytes class at listed
-    record_searched byte below-is parts passed =
+    record_searched below-is parts passed =
         let held = sym same ∙ is in
+        let byte = kind_number_lem (get_or bytes at 0) own.kind (record_headed bytes at class levels own held).1.kind_is in
         let reading = (read_record bytes class at levels own held).1 in
         let done = parts (parts_passed passed) in
         let behind = done.0 ∙ sym (parts_end reader (parts_due class own) own.end) ∙ sym (ap (λ (reading : Reading). reading.end) reading) in

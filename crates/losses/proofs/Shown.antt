@@ -1,5 +1,5 @@
 -- What a record shows by itself, step by step: a comment on it, on its head, and an operand's closing character.
-use Rattle.std.specs.Prelude.{Some, Ok}
+use Rattle.std.specs.Prelude.{Ok}
 use Rattle.answers.specs.Numbers.{no_refusal, Checked}
 use mathlib.Core.Path.{◌≡◌, refl, sym, ◌∙◌}
 use mathlib.Core.List.{List}
@@ -7,11 +7,11 @@ use mathlib.Core.Bool.{Bool, false, ◌||◌}
 use Prim.Native.Nat.{ℕ}
 use lib.ListN.{get_or}
 use lib.Dec.{eqb}
-use borrow.Author.Tests.{ne_eqb}
 use Rattle.text.proofs.Choices.{by_test}
-use Rattle.tree.specs.Grammar.{kind_of}
 use Rattle.tree.specs.Own.{read_own}
 use Rattle.tree.specs.Reading.{read}
+use Rattle.tree.specs.Grammar.{kind_number}
+use Rattle.tree.proofs.KindLayout.{kind_number_lem}
 use Rattle.tree.specs.Tree.{Tree}
 use Rattle.tree.specs.Rows.{class_number}
 use Rattle.tree.specs.declared.grammar.Class.{Class}
@@ -27,21 +27,29 @@ use Rattle.reading.specs.Places.{has_comment, closing_character}
 use Rattle.losses.specs.Visits.{own_spot, head_spot, own_marks, head_marks}
 use Rattle.losses.specs.Visits.{TakesIf, TakesAll, TakesHead, TakesClosing, TakesRecord}
 use Rattle.losses.specs.declared.firsts.Search.{Search}
+use Rattle.tree.proofs.KindNumbers.{other_number}
 use Rattle.losses.proofs.Records.{token_class_lem}
 use Rattle.losses.proofs.Marks.{all_then, all_none, one_used, own_used, head_used}
 
-module _ (levels : ℕ) (bytes : List ℕ) (class : Class) (at : ℕ) (own : Own) (listed : Bool) {number spot head : ℕ} {before by-own by-head : Search} {headed : Checked}
-    (byte : number ≡ get_or bytes at 0) (spot_is : spot ≡ own_spot class number listed) (head_is : head ≡ head_spot class number listed)
+module _ (levels : ℕ) (bytes : List ℕ) (class : Class) (at : ℕ) (own : Own) (listed : Bool) {spot head : ℕ} {before by-own by-head : Search} {headed : Checked}
+    (spot_is : spot ≡ own_spot class (kind_number own.kind) listed) (head_is : head ≡ head_spot class (kind_number own.kind) listed)
     (own-takes : TakesIf by-own before at spot (has_comment (items_at bytes own.trivia own.trivia_count)))
     (unheaded : head ≡ 8 → (headed ≡ no_refusal) × (by-head ≡ by-own)) (head-takes : TakesHead headed by-head by-own levels bytes class at head)
   where
+    -- its kind's number
+    abbrev number : ℕ
+    number = kind_number own.kind
+
+    byte : read_own bytes at class levels ≡ Ok own → number ≡ get_or bytes at 0
+    byte is = kind_number_lem (get_or bytes at 0) own.kind (record_headed bytes at class levels own is).1.kind_is
+
     module _ (is : read_own bytes at class levels ≡ Ok own) (passed : (read levels bytes class at).checked ≡ no_refusal) where
       abbrev tree : Tree
       tree = (read levels bytes class at).tree
 
       -- its number, and its trivia
       number_is : number ≡ token_number tree
-      number_is = byte ∙ sym (number_read levels bytes class at own is)
+      number_is = byte is ∙ sym (number_read levels bytes class at own is)
 
       trivia_are : items_at bytes own.trivia own.trivia_count ≡ own_trivia tree
       trivia_are =
@@ -60,17 +68,17 @@ module _ (levels : ℕ) (bytes : List ℕ) (class : Class) (at : ℕ) (own : Own
           (λ token. rw (token, (unheaded (head_is ∙ rw token)).1) all_none)
 
     -- it is an operand
-    pub operand_shown : {closing : Checked} {after : Search} → number ≡ 37 → TakesClosing closing after by-head levels bytes own
+    pub operand_shown : {closing : Checked} {after : Search} → own.kind ≡ variant.Operand → TakesClosing closing after by-head levels bytes own
         → TakesRecord closing after before levels bytes class at own listed
-    operand_shown operand closing is passed =
-        let known : kind_of 37 ≡ Some own.kind = rw (sym byte ∙ operand) at (record_headed bytes at class levels own is).1.kind_is in
-        let kind : own.kind ≡ variant.Operand = cc in
+    operand_shown kind closing is passed =
+        let operand : number ≡ 37 = rw kind refl in
         let shows = closing class at is kind passed in
         let last = one_used shows.1 closing_character refl in
         (shows.0, all_then (own_all is passed) (all_then (head_all is passed) (rw (sym (number_is is passed) ∙ operand) last)))
 
     -- it is none
-    pub record_shown : (number ≡ 37 → ⊥) → TakesRecord no_refusal by-head before levels bytes class at own listed
+    pub record_shown : (own.kind ≡ variant.Operand → ⊥) → TakesRecord no_refusal by-head before levels bytes class at own listed
     record_shown other is passed =
-        let number_other : eqb (token_number (read levels bytes class at).tree) 37 ≡ false = rw (sym (number_is is passed)) (ne_eqb number 37 other) in
+        let number_other : eqb (token_number (read levels bytes class at).tree) 37 ≡ false =
+        rw (sym (number_is is passed)) (other_number 37 refl other) in
         (refl, all_then (own_all is passed) (all_then (head_all is passed) (rw number_other all_none)))

@@ -1,5 +1,5 @@
 -- Not part of the promise: the places as the search meets them, record by record, each by the class of the field that it stands in.
-use Rattle.std.specs.Prelude.{ℕ, ◌-◌, ◌≡◌, List, [], ◌∷◌, ◌++◌, Bool, true, false, cond, not, ◌&&◌, ◌||◌, eqb, ltb, get_or, replicate, Option, Result, Some, None, Ok}
+use Rattle.std.specs.Prelude.{ℕ, ◌-◌, ◌≡◌, List, [], ◌∷◌, ◌++◌, Bool, true, false, cond, not, ◌&&◌, ◌||◌, eqb, get_or, replicate, Option, Result, Some, None, Ok}
 use Rattle.answers.specs.declared.Refusal.{Refusal}
 use Rattle.answers.specs.Numbers.{no_refusal, and_then, Checked}
 use Rattle.tree.specs.Kinds as kinds
@@ -189,10 +189,7 @@ unfoldable pub checked_along : Reader → List Class → ℕ → Checked
 checked_along reader [] place = no_refusal
 checked_along reader (class ∷ classes) place = and_then (reader class place).checked (checked_along reader classes (reader class place).end)
 
--- ---- a field, and a leaf's index
+-- ---- a field
 
 abbrev pub behind_field : ℕ → List ℕ → Class → ℕ → Bool → Result ℕ Refusal
 behind_field levels bytes class at stands = cond stands (skipped levels bytes class at) (Ok at)
-
-abbrev pub index_in : List ℕ → Own → ℕ
-index_in bytes own = cond (ltb own.text own.end) (get_or bytes own.text 0) 0

@@ -1,14 +1,14 @@
 // The search of a tree for the first record that uses a place.
 ghost use Rattle.std.specs.Prelude.{◌≡◌, length};
+ghost use Rattle.tree.specs.Grammar.{kind_number};
 ghost use Rattle.losses.specs.Lost.{least_of, answer_with, lost_from, numbers_lost, lost_numbers, Narrow};
 ghost use Rattle.losses.specs.Visits.{listed_below, Searches};
 
 use crate::firsts::Search;
 use crate::places::PLACES;
 use answers::{Answer, Refusal};
-use text::numbers;
-use tree::grammar::Class;
-use tree::{check, kinds, own};
+use tree::grammar::{Class, Kind};
+use tree::{check, own};
 
 // A record that uses places: its offset, and its places as bits, 1 for (a) to 128 for (h).
 #[derive(Clone, Copy, Debug, PartialEq, Eq)]
@@ -25,12 +25,12 @@ const LEVELS: usize = 64;
 
 // Whether the parts of a record stand in a list: the items of a list do; the block of `Braces` or `Config` and its
 // brace count as their token.
-fn listed_below(number: usize, listed: bool) -> bool
-    ensures { result ≡ listed_below number listed }
+fn listed_below(kind: Kind, listed: bool) -> bool
+    ensures { result ≡ listed_below (kind_number kind) listed }
 {
-    match number {
-        kinds::VEC => true,
-        kinds::BRACES | kinds::CONFIG | kinds::BLOCK => listed,
+    match kind {
+        Kind::Vec => true,
+        Kind::Braces | Kind::Config | Kind::Block => listed,
         _ => false,
     }
 }
@@ -44,7 +44,7 @@ impl Search {
     {
         let own = own::read_own(tree, at, class, levels)?;
         self.record_uses(tree, at, class, levels, own, listed)?;
-        let below = listed_below(numbers::byte_at(tree, at), listed);
+        let below = listed_below(own.kind, listed);
         let mut place = own.end;
         let mut plan = check::plan_of(class, own);
         while let Some((field, rest)) = check::next_part(plan) {

@@ -1,81 +1,73 @@
 // The uses of places that a record shows by itself: comments on it, on its head, and an operand's closing character.
 ghost use Rattle.std.specs.Prelude.{◌≡◌, ◌<◌};
 ghost use Rattle.answers.specs.Numbers.{no_refusal};
+ghost use Rattle.tree.specs.Grammar.{kind_number};
 ghost use Rattle.leaves.specs.Items.{items_at};
 ghost use Rattle.reading.specs.Places.{has_comment};
 ghost use Rattle.losses.specs.Visits.{no_spot, number_of, kind_spot, own_spot, token_spot, head_spot};
-ghost use Rattle.losses.specs.Visits.{behind_field, index_in};
+ghost use Rattle.losses.specs.Visits.{behind_field};
 ghost use Rattle.losses.specs.Visits.{TakesIf, TakesHead, TakesClosing, TakesRecord};
 
 use crate::firsts::Search;
 use crate::places::Place;
 use answers::{Checked, Refusal};
-use leaves::record;
-use text::numbers;
-use tree::grammar::Class;
+use printers::record;
+use tree::codes::AddressingMode;
+use tree::grammar::{Class, Kind};
 use tree::own::Own;
-use tree::{codes, kinds, own, parts};
+use tree::parts::Trivia;
+use tree::{own, parts};
 
-// Whether one of `count` trivia items is a comment, which the last two codes are. No item of a record that was read
-// is broken.
+// Whether one of `count` trivia items is a comment. No item of a record that was read is broken.
 fn has_comment(tree: &[u8], at: usize, count: usize) -> bool
     ensures { result ≡ has_comment (items_at tree.now at count) }
 {
-    let mut place = at;
-    for _ in 0..count {
-        let Some(item) = parts::trivium_at(tree, place) else {
-            return false;
-        };
-        if codes::C_STYLE <= item.code {
-            return true;
-        }
-        place = item.end;
-    }
-    false
+    Trivia::new(tree, at, count).any(|item| item.code.is_comment())
 }
 
 // The place that a comment on a record of a kind uses.
-fn kind_spot(number: usize) -> Option<Place>
-    ensures { number_of result ≡ kind_spot number }
+fn kind_spot(kind: Kind) -> Option<Place>
+    ensures { number_of result ≡ kind_spot (kind_number kind) }
 {
-    match number {
-        kinds::SPECIFIC_IMPORT_ARG => Some(Place::ImportPath),
-        kinds::PATH_ITEM => Some(Place::PathItem),
+    match kind {
+        Kind::SpecificImportArg => Some(Place::ImportPath),
+        Kind::PathItem => Some(Place::PathItem),
         _ => None,
     }
 }
 
 // The place that a comment on a record uses: by the field that it stands in, or by its kind.
-fn own_spot(class: Class, number: usize, listed: bool) -> Option<Place>
-    ensures { number_of result ≡ own_spot class number listed }
+fn own_spot(class: Class, kind: Kind, listed: bool) -> Option<Place>
+    ensures { number_of result ≡ own_spot class (kind_number kind) listed }
 {
     match class {
         Class::OpenBrace if listed => None,
         Class::OpenBrace => Some(Place::OpeningBrace),
         Class::Colon => Some(Place::LabelColon),
         Class::IndexRegister => Some(Place::RegisterLetter),
-        _ => kind_spot(number),
+        _ => kind_spot(kind),
     }
 }
 
 // The place that a comment on a token's head uses: an `Expression` in a list has (g); any other token that is in no
 // list is a value, and has (c).
-fn token_spot(number: usize, listed: bool) -> Option<Place>
-    ensures { number_of result ≡ token_spot number listed }
+fn token_spot(kind: Kind, listed: bool) -> Option<Place>
+    ensures { number_of result ≡ token_spot (kind_number kind) listed }
 {
-    match (number == kinds::EXPRESSION, listed) {
-        (true, true) => Some(Place::ExpressionHead),
-        (false, false) => Some(Place::ValueHead),
-        _ => None,
+    match kind {
+        Kind::Expression if listed => Some(Place::ExpressionHead),
+        Kind::Expression => None,
+        _ if listed => None,
+        _ => Some(Place::ValueHead),
     }
 }
 
 // The place that a comment on a record's head uses.
-fn head_spot(class: Class, number: usize, listed: bool) -> Option<Place>
-    ensures { number_of result ≡ head_spot class number listed }
+fn head_spot(class: Class, kind: Kind, listed: bool) -> Option<Place>
+    ensures { number_of result ≡ head_spot class (kind_number kind) listed }
 {
     match class {
-        Class::BareToken | Class::LocatedToken => token_spot(number, listed),
+        Class::BareToken | Class::LocatedToken => token_spot(kind, listed),
         _ => None,
     }
 }
@@ -94,16 +86,6 @@ fn behind(
         return Ok(at);
     }
     parts::skip(tree, at, class, levels)
-}
-
-// The first byte of a leaf's text, which of an enum is its index; 0 where there is none.
-fn index_of(tree: &[u8], leaf: Own) -> usize
-    ensures { result ≡ index_in tree.now leaf }
-{
-    if leaf.text < leaf.end {
-        return numbers::byte_at(tree, leaf.text);
-    }
-    0
 }
 
 impl Search {
@@ -154,9 +136,9 @@ impl Search {
         let rchar = behind(tree, lchar, Class::Char, below, record::stands(bits, 1))?;
         let mode = parts::skip(tree, rchar, Class::Char, below)?;
         let leaf = own::read_own(tree, mode, Class::AddressingMode, below)?;
-        let index = index_of(tree, leaf);
-        if index != codes::INDIRECT && index != codes::OUTER_INDIRECT {
-            self.take(rchar, Place::ClosingCharacter);
+        match AddressingMode::of_text(&tree[leaf.text..leaf.end]) {
+            AddressingMode::Indirect | AddressingMode::OuterIndirect => {}
+            _ => self.take(rchar, Place::ClosingCharacter),
         }
         Ok(())
     }
@@ -174,12 +156,11 @@ impl Search {
         requires { 0 < levels }
         ensures { TakesRecord result self.new self.old levels tree.now class at own listed }
     {
-        let number = numbers::byte_at(tree, at);
-        self.own_use(tree, own, at, own_spot(class, number, listed));
-        self.head_use(tree, at, class, levels, head_spot(class, number, listed))?;
-        if number == kinds::OPERAND {
-            return self.closing_use(tree, own, levels);
+        self.own_use(tree, own, at, own_spot(class, own.kind, listed));
+        self.head_use(tree, at, class, levels, head_spot(class, own.kind, listed))?;
+        match own.kind {
+            Kind::Operand => self.closing_use(tree, own, levels),
+            _ => Ok(()),
         }
-        Ok(())
     }
 }

@@ -4,8 +4,10 @@ use mathlib.Core.Bool.{Bool, true, false, cond}
 use Prim.Native.Nat.{ℕ, ◌-◌, ◌/◌, ◌<◌, ◌≤◌}
 use native.Mathlib.Omega.{arith}
 use lib.ListN.{length, get_or}
-use Rattle.std.specs.Prelude.{Option, Result, Some, None, Ok}
+use Rattle.std.specs.Prelude.{Option, Result, Some, None, Ok, Err}
+use Rattle.std.proofs.Common.{is_some}
 use Rattle.answers.specs.declared.Refusal.{Refusal}
+use Rattle.text.proofs.Choices.{by_test}
 use Rattle.tree.specs.Tree.{Tree, node, built, chain}
 use Rattle.tree.specs.Grammar.{kind_of, rule}
 use Rattle.tree.specs.Own.{read_own, Fits}
@@ -14,20 +16,22 @@ use Rattle.tree.specs.declared.grammar.Class.{Class}
 use Rattle.tree.specs.declared.grammar.Kind.{Kind}
 use Rattle.tree.specs.declared.grammar.Kind.TheVariants as variant
 use Rattle.tree.specs.declared.own.Own.{Own}
-use Rattle.tree.proofs.KindLayout.{kind_number, kind_number_lem}
-use Rattle.printing.specs.Events.{Events, nothing, ◌▹◌}
+use Rattle.tree.specs.Grammar.{kind_number}
+use Rattle.tree.proofs.KindLayout.{kind_number_lem}
+use Rattle.printing.specs.Events.{Events, nothing, stop, ◌▹◌}
 use Rattle.printing.specs.Running.{run}
-use Rattle.events.specs.Trees.{Place, trivia_events, events_in}
+use Rattle.events.specs.Printed.{plain}
+use Rattle.events.specs.Trees.{Place, leaf, trivia_events, events_in}
 use Rattle.events.proofs.OwnParts.{record_headed}
 use Rattle.leaves.specs.Items.{items_at}
 use Rattle.leaves.specs.Lists.{item_trees, items_end}
 use Rattle.leaves.proofs.Leaves.{own_items}
-use Rattle.leaves.proofs.Records.{read_record}
+use Rattle.leaves.proofs.Records.{read_refused, read_record}
 use Rattle.leaves.proofs.Fielded.{bare, kind_read, list_read, standing_range}
 use Rattle.printers.specs.declared.Printer.{Printer}
 use Rattle.printers.specs.Going.{Page, page_of, Goes}
-use Rattle.printers.specs.Records.{GoesField, GoesKind, OpensAs, Opens}
-use Rattle.printers.proofs.Going.{◌onward◌, there, runs_alike}
+use Rattle.printers.specs.Records.{GoesField, GoesKind, OpensAs, own_read, opened_by, Opens}
+use Rattle.printers.proofs.Going.{◌onward◌, there, runs_alike, over_before, stopped_by}
 
 -- the trivia of own bytes that were read are those of reading
 pub trivia_read : {before after : Printer} (own : Own) (shown : Bool) {found : Result Own Refusal} → Fits before.tree.now before.at found → found ≡ Ok own
@@ -37,12 +41,32 @@ unfolding run
 trivia_read {before} own shown fits is goes =
     runs_alike goes (λ x. ap (λ items. run (cond shown (trivia_events before.context items) nothing) x) (own_items before.tree.now before.at own fits is))
 
+-- own bytes that are none were refused
+none_read : (found : Result Own Refusal) → None ≡ own_read found → (why : Refusal) × (found ≡ Err why)
+none_read (Ok own) none = let z : ◌≡◌ {A = ℕ} 0 1 = cc in absurd (omega arith)
+none_read (Err why) none = (why, refl)
+
 module _ {before between : Printer} {shown : Bool} {levels : ℕ} {class : Class} {stands : Bool} {found : Option Own}
     (opens : Opens before between shown levels class stands found)
   where
     -- where nothing is left to print of it
     pub closed : (place : Place) → found ≡ None → GoesField before between place shown levels class stands
     closed place is = let shut : OpensAs before between shown levels class stands None = rw is at opens.opened in shut place
+
+    -- and the record must stand, the walk has ended, whatever comes behind its refusal
+    pub closed_first : {first next : Page → ℕ → Events} {end : Page → ℕ → ℕ} → found ≡ None → stands ≡ true
+        → ((why : Refusal) → read_own before.tree.now before.at class levels ≡ Err why → first (page_of before) before.at ≡ stop why)
+        → Goes before between (λ page at. first page at ▹ next page at) end
+    unfolding events_in opened_by
+    closed_first is stood says =
+        let shut = closed (leaf plain) is in
+        let reading = read_own before.tree.now before.at class levels in
+        by_test (is_some before.ended)
+        (λ over. over_before over shut)
+        (λ on.
+        let why = none_read reading (sym is ∙ rw (stood, on) at opens.answer) in
+        let refused = (read_refused before.tree.now class before.at levels why.0 why.1).0 in
+        stopped_by why.0 shut on (rw (stood, refused) refl) (says why.0 why.1))
 
     module _ {own : Own} (is : found ≡ Some own) where
       -- its own bytes were read, and its trivia are printed

@@ -1,5 +1,5 @@
 -- One push of a walk: the chunk, and where it does not fit the length that is needed.
-use mathlib.Core.Path.{◌≡◌, refl, sym}
+use mathlib.Core.Path.{◌≡◌, refl}
 use mathlib.Core.List.{List, []}
 use mathlib.Core.Bool.{Bool, false}
 use Prim.Native.Nat.{ℕ, ◌+◌}
@@ -17,17 +17,16 @@ use Rattle.chunks.specs.declared.append.Unappended.TheVariants.{NoRoom, NoChunk,
 use Rattle.chunks.specs.declared.stored.ChunkType.{ChunkType}
 use Rattle.chunks.specs.declared.stored.ChunkType.TheVariants.{Code}
 use Rattle.printing.specs.Events.{push}
-use Rattle.printing.specs.Running.{at_start, going, behind}
-use Rattle.printing.specs.declared.CodeFormatter.{CodeFormatter}
+use Rattle.printing.specs.Running.{State, at_start, going, behind}
 use Rattle.printing.proofs.Pushing.{empty_not_pushed, is_pushed}
 use Rattle.printing.proofs.Running.{Ran, ran_push}
 use Rattle.printers.specs.declared.Printer.{Printer}
 use Rattle.events.specs.Trees.{word}
 use Rattle.printers.specs.Going.{Page, page_of, state_of, Goes}
-use Rattle.printers.proofs.Going.{spaced_is, steps}
+use Rattle.printers.proofs.Going.{steps}
 
 -- the length that a chunk which was not appended needs, whatever stood before it
-pub needs : (state : CodeFormatter) (newline : Bool) (why : Unappended) → (behind state newline (Err why)).full ≡ (behind at_start false (Err why)).full
+pub needs : (state : State) (newline : Bool) (why : Unappended) → (behind state newline (Err why)).full ≡ (behind at_start false (Err why)).full
 needs state newline (NoRoom needed) = refl
 needs state newline NoChunk = refl
 needs state newline UsedPastRoom = refl
@@ -56,16 +55,13 @@ module _ (before : Printer) (ty : ChunkType) (text : List ℕ) where
   chunk_of = record { ty = ty; indent = before.context.indent; text = with_space before.spaced text }
 
   -- what appending it answers is what the push does
-  pub push_ran : {newline : Bool} {answer : Result ℕ Unappended} {next : CodeFormatter} {after : List ℕ}
+  pub push_ran : {newline : Bool} {answer : Result ℕ Unappended} {next : State} {after : List ℕ}
       → is_empty text ≡ false → newline ≡ is_newline (with_space before.spaced text)
       → answer ≡ appended (length before.room.now) before.used chunk_of → after ≡ room_after before.room.now before.used chunk_of
       → next ≡ behind (state_of before) newline answer
       → Ran (push ty before.context text) (going before.room.now (state_of before)) (going after next)
   push_ran some lone answered stored moved =
-      let same = sym (spaced_is before) in
-      ran_push
-      (is_pushed before.room.now (state_of before) ty before.context text refl some
-      (rw same at lone) (rw same at answered) (rw same at stored) moved)
+      ran_push (is_pushed before.room.now (state_of before) ty before.context text refl some lone answered stored moved)
 
 -- a text of no bytes is no push
 pub pushes_nothing : {printer : Printer} {text : Page → List ℕ} → text (page_of printer) ≡ []

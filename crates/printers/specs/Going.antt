@@ -1,13 +1,11 @@
 -- What a printer promises of the struct that it goes on in.
-use Rattle.std.specs.Prelude.{ℕ, ◌≡◌, List, Option, Some, None, cond}
+use Rattle.std.specs.Prelude.{ℕ, ◌≡◌, List, Option, Some, None, Result, Ok, Err}
 use Rattle.answers.specs.declared.Refusal.{Refusal}
 use Rattle.printing.specs.Events.{Events}
-use Rattle.printing.specs.Running.{Run, outcome, Shown}
-use Rattle.printing.specs.declared.CodeFormatter.{CodeFormatter}
+use Rattle.printing.specs.Running.{State, Run, going, ended, Printed, outcome, Shown}
 use Rattle.printing.specs.declared.Context.{Context}
-use Rattle.printing.specs.declared.Printed.{Printed}
-use Rattle.printing.specs.declared.Printed.TheVariants as answer_is
 use Rattle.printers.specs.declared.Printer.{Printer}
+use Rattle.printers.specs.declared.Walked.{Walked}
 
 -- what is read, and how it is printed: no printer changes it
 pub record Page : Type 0 where
@@ -20,16 +18,21 @@ page_of printer = record { tree = printer.tree.now; context = printer.context }
 -- where the walk is, or why it ended
 abbrev pub or_refused : Option Refusal → Printed → Printed
 or_refused None answer = answer
-or_refused (Some why) answer = answer_is.Refused why
+or_refused (Some why) answer = Err why
 
-abbrev pub state_of : Printer → CodeFormatter
-state_of printer = record { used = printer.used; solid = printer.solid; spc_if_next = cond printer.spaced 1 0; full = 0 }
+abbrev pub state_of : Printer → State
+state_of printer = record { used = printer.used; solid = printer.solid; spaced = printer.spaced; full = 0 }
 
 abbrev pub answer_of : Printer → Printed
-answer_of printer = or_refused printer.ended (answer_is.Done (state_of printer) printer.at)
+answer_of printer = or_refused printer.ended (Ok (state_of printer, printer.at))
 
 abbrev pub run_of : Printer → Run
 run_of printer = outcome (answer_of printer) printer.room.now
+
+-- what a walk says of its run by itself: how much of the room is used, and the place behind what was read; or why it ended
+abbrev pub walked_of : Run → ℕ → Result Walked Refusal
+walked_of (going room state) end = Ok (record { used = state.used; at = end })
+walked_of (ended room why) end = Err why
 
 -- the events at the old place are run, and the new place is the one behind them; the page and whose room it is stay
 pub record Goes (before after : Printer) (events : Page → ℕ → Events) (end : Page → ℕ → ℕ) : Type 0 where

@@ -7,18 +7,18 @@ pub mod record;
 pub mod texts;
 pub mod trivia;
 
-ghost use Rattle.std.specs.Prelude.{◌≡◌, Err, false};
+ghost use Rattle.std.specs.Prelude.{◌≡◌, Ok, Err, false};
 ghost use Rattle.text.specs.Lines.{is_empty, is_newline};
 ghost use Rattle.chunks.specs.Appending.{with_space, with_colon};
 ghost use Rattle.printing.specs.Events as Events;
 ghost use Rattle.printing.specs.Running.{at_start, behind, no_room};
-ghost use Rattle.printers.specs.Going.{Goes, page_of, answer_of};
+ghost use Rattle.printers.specs.Going.{Goes, page_of, answer_of, run_of, walked_of};
 
 use answers::{Reason, Refusal};
 use chunks::append;
 use chunks::append::Unappended;
 use chunks::stored::ChunkType;
-use printing::{CodeFormatter, Context, Printed};
+use printing::Context;
 use text::characters;
 
 // The place of refusal 8 for a chunk without a stored form: one more byte than any room counts. No tree has such a
@@ -40,13 +40,20 @@ pub struct Printer<'a> {
     pub ended: Option<Refusal>,
 }
 
+// How far a walk has come: how many bytes of the room are used, and the place behind what was read.
+#[derive(Clone, Copy)]
+pub struct Walked {
+    pub used: usize,
+    pub at: usize,
+}
+
 impl<'a> Printer<'a> {
     // Nothing is printed yet.
     pub fn new(tree: &'a [u8], room: &'a mut [u8], context: Context) -> Self
         ensures room { result.room.ghost_name ≡ room.entry.ghost_name }
         ensures bytes { result.room.now ≡ room.old }
         ensures page { page_of result ≡ record { tree = tree.now; context = context } }
-        ensures answer { answer_of result ≡ Printed.Done at_start 0 }
+        ensures answer { answer_of result ≡ Ok (at_start, 0) }
     {
         Printer {
             tree,
@@ -63,19 +70,16 @@ impl<'a> Printer<'a> {
 
 impl Printer<'_> {
     // How far the walk is, or why it ended.
-    pub fn answer(&self) -> Printed
-        ensures { result ≡ answer_of self.now }
+    pub fn answer(&self) -> Result<Walked, Refusal>
+        ensures { result ≡ walked_of (run_of self.now) self.now.at }
     {
-        if let Some(refusal) = self.ended {
-            return Printed::Refused(refusal);
+        match self.ended {
+            Some(refusal) => Err(refusal),
+            None => Ok(Walked {
+                used: self.used,
+                at: self.at,
+            }),
         }
-        let state = CodeFormatter {
-            used: self.used,
-            solid: self.solid,
-            spc_if_next: self.spaced as usize,
-            full: 0,
-        };
-        Printed::Done(state, self.at)
     }
 
     // Pushes a text as a chunk; a pending space goes in front, and where it is asked for a colon behind.

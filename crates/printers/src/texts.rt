@@ -93,21 +93,3 @@ pub fn push_text(printer: &mut Printer, style: Style, text: &[u8])
         Style::Modifier => push_entry(printer, &[">", "<"], index),
     }
 }
-
-// Pushes a mnemonic by the index that is the first byte of its stored text.
-pub fn push_mnemonic(printer: &mut Printer, text: &[u8])
-    ensures { Goes printer.old printer.new
-        (λ page at. word page.context (printed page.context Printed.mnemonic text.now))
-        (λ page at. at) }
-{
-    push_text(printer, Style::Mnemonic, text);
-}
-
-// The same of the size of data.
-pub fn push_data_size(printer: &mut Printer, text: &[u8])
-    ensures { Goes printer.old printer.new
-        (λ page at. word page.context (printed page.context Printed.data_size text.now))
-        (λ page at. at) }
-{
-    push_text(printer, Style::DataSize, text);
-}

@@ -8,9 +8,9 @@ ghost use Rattle.printers.specs.Going.{Goes};
 use crate::Printer;
 use chunks::stored::ChunkType;
 use text::characters;
+use tree::codes::Code;
 use tree::own::Own;
-use tree::parts::TriviumSpan;
-use tree::{codes, parts};
+use tree::parts::{Trivia, TriviumSpan};
 
 // The chunk of an item.
 fn format_trivium(printer: &mut Printer, item: TriviumSpan)
@@ -19,15 +19,14 @@ fn format_trivium(printer: &mut Printer, item: TriviumSpan)
         (λ page at. trivium_events page.context (item_of page.tree item))
         (λ page at. at) }
 {
-    if item.code == codes::WHITESPACE {
-        return;
+    match item.code {
+        Code::Whitespace => {}
+        Code::Newline => printer.push(b"\n"),
+        Code::CStyle | Code::CppStyle => {
+            let tree = printer.tree;
+            printer.push_type(ChunkType::Comment, &tree[item.start..item.end], false);
+        }
     }
-    if item.code == codes::NEWLINE {
-        printer.push(b"\n");
-        return;
-    }
-    let tree = printer.tree;
-    printer.push_type(ChunkType::Comment, &tree[item.start..item.end], false);
 }
 
 // The chunks of `count` items at a place; they end before an item that breaks the layout.
@@ -36,15 +35,8 @@ pub fn format_trivia(printer: &mut Printer, at: usize, count: usize)
         (λ page here. trivia_events page.context (items_at page.tree at count))
         (λ page here. here) }
 {
-    let mut place = at;
-    let mut left = count;
-    while 0 < left {
-        let Some(item) = parts::trivium_at(printer.tree, place) else {
-            return;
-        };
+    for item in Trivia::new(printer.tree, at, count) {
         format_trivium(printer, item);
-        place = item.end;
-        left -= 1;
     }
 }
 
@@ -53,11 +45,13 @@ fn only_newline(tree: &[u8], item: TriviumSpan) -> bool
     requires { (item.start ≤ item.end) × (item.end ≤ length tree.now) }
     ensures { result ≡ only_newline (item_of tree.now item) }
 {
-    if item.code == codes::WHITESPACE || item.code == codes::NEWLINE {
-        return true;
+    match item.code {
+        Code::Whitespace | Code::Newline => true,
+        Code::CStyle | Code::CppStyle => {
+            let text = &tree[item.start..item.end];
+            text.is_empty() || crate::is_newline(text)
+        }
     }
-    let text = &tree[item.start..item.end];
-    text.is_empty() || crate::is_newline(text)
 }
 
 // The chunks of `count` items at a place without the newlines before any other.
@@ -66,18 +60,13 @@ pub fn format_lead(printer: &mut Printer, at: usize, count: usize)
         (λ page here. lead_events page.context (items_at page.tree at count))
         (λ page here. here) }
 {
-    let mut place = at;
-    let mut left = count;
-    while 0 < left {
-        let Some(item) = parts::trivium_at(printer.tree, place) else {
-            return;
-        };
-        if !only_newline(printer.tree, item) {
-            format_trivia(printer, place, left);
-            return;
+    let mut first = true;
+    for item in Trivia::new(printer.tree, at, count) {
+        if first && only_newline(printer.tree, item) {
+            continue;
         }
-        place = item.end;
-        left -= 1;
+        first = false;
+        format_trivium(printer, item);
     }
 }
 

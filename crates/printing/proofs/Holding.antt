@@ -16,10 +16,9 @@ use Rattle.chunks.specs.Appending.{with_space, capacity}
 use Rattle.chunks.specs.declared.stored.ChunkType.{ChunkType}
 use Rattle.chunks.proofs.Storing.{append_no_room, append_stored}
 use Rattle.printing.specs.Events.{Events, nothing, push, space, clear, trim, stop, ◌▹◌}
-use Rattle.printing.specs.Running.{is_spaced, Run, going, ended, run, settled, at_start, chunk_with, grown, filled, trimmed, no_room}
+use Rattle.printing.specs.Running.{State, Run, going, ended, run, settled, at_start, chunk_with, grown, filled, trimmed, no_room}
 use Rattle.printing.specs.Holding.{Held, held, refused, held_length, without_newlines, hold, Storable, Holds, Same}
 use Rattle.printing.specs.declared.Context.{Context}
-use Rattle.printing.specs.declared.CodeFormatter.{CodeFormatter}
 use Rattle.printing.proofs.Pushing.{empty_not_pushed, is_pushed}
 use Rattle.printing.proofs.Running.{run_ended, settled_left, run_settled}
 
@@ -80,7 +79,7 @@ pub holds_nothing : (room : List ℕ) → Holds room at_start [] false
 unfolding held_length without_newlines stored_list
 holds_nothing room = record { used = refl; fits = omega arith; stored = refl; solid = refl; flag = refl; full = refl }
 
-module _ {room : List ℕ} {state : CodeFormatter} {chunks : List Chunk} {pending : Bool} (holds : Holds room state chunks pending) where
+module _ {room : List ℕ} {state : State} {chunks : List Chunk} {pending : Bool} (holds : Holds room state chunks pending) where
   -- without the newlines at the end
   holds_trimmed : Holds room (trimmed state) (without_newlines chunks) pending
   holds_trimmed =
@@ -143,7 +142,7 @@ module _ {room : List ℕ} {state : CodeFormatter} {chunks : List Chunk} {pendin
       (λ some.
       let chunk = chunk_with state ty context text in
       let end = state.used + length (stored_chunk chunk) in
-      let good : WellFormed chunk = push_stored (is_spaced state) ty context.indent text low short some in
+      let good : WellFormed chunk = push_stored state.spaced ty context.indent text low short some in
       by_test (ltb (capacity (length room)) end)
       (λ full.
       let over = ltb-true _ _ full in
@@ -171,7 +170,7 @@ hold_refused size (first ▹ next) why = ap (hold size next) (hold_refused size 
 
 -- the events agree, from wherever chunks are held
 abbrev Agreeing : ℕ → Events → Type 0
-Agreeing size events = (room : List ℕ) (state : CodeFormatter) (chunks : List Chunk) (pending : Bool) → length room ≡ size → Holds room state chunks pending
+Agreeing size events = (room : List ℕ) (state : State) (chunks : List Chunk) (pending : Bool) → length room ≡ size → Holds room state chunks pending
     → Same size (settled (run events (going room state))) (hold size events (held chunks pending))
 
 -- so they agree from wherever the two do
@@ -198,6 +197,6 @@ agree size (first ▹ next) fine room state chunks pending long holds =
     (agree_on size next (agree size next fine.1) (settled (run first (going room state))) (hold size first (held chunks pending)) (agree size first fine.0 room state chunks pending long holds))
 
 -- the closing theorem: a run in a room that holds chunks agrees with the same events on these chunks
-pub same : (events : Events) → Storable events → {room : List ℕ} {state : CodeFormatter} {chunks : List Chunk} {pending : Bool} → Holds room state chunks pending
+pub same : (events : Events) → Storable events → {room : List ℕ} {state : State} {chunks : List Chunk} {pending : Bool} → Holds room state chunks pending
     → Same (length room) (settled (run events (going room state))) (hold (length room) events (held chunks pending))
 same events fine {room} {state} {chunks} {pending} holds = agree (length room) events fine room state chunks pending refl holds

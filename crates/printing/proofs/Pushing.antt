@@ -12,21 +12,10 @@ use Rattle.text.specs.Lines.{is_empty, is_newline}
 use Rattle.chunks.specs.Appending.{with_space, with_colon, appended, room_after}
 use Rattle.chunks.specs.declared.append.Unappended.{Unappended}
 use Rattle.chunks.specs.declared.stored.ChunkType.{ChunkType}
-use Rattle.printing.specs.Running.{is_spaced, chunk_with, behind, pushed, pushed_room}
+use Rattle.printing.specs.Running.{State, chunk_with, behind, pushed, pushed_room}
 use Rattle.printing.specs.declared.Context.{Context}
-use Rattle.printing.specs.declared.CodeFormatter.{CodeFormatter}
 
 -- ---- texts
-
--- a text is empty just where its length is 0
-pub empty_text : (text : List ℕ) → eqb (length text) 0 ≡ is_empty text
-empty_text [] = refl
-empty_text (b ∷ text) = ne_eqb (length (b ∷ text)) 0 (λ (none : length (b ∷ text) ≡ 0). omega arith)
-
--- with a colon it is not
-pub some_colon : (text : List ℕ) → false ≡ is_empty (with_colon true text)
-some_colon [] = refl
-some_colon (b ∷ text) = refl
 
 -- a text of one byte is a newline just where its byte is
 pub newline_one : (text : List ℕ) → length text ≡ 1 → eqb (get_or text 0 0) 10 ≡ is_newline text
@@ -58,10 +47,10 @@ newline_colon (b ∷ c ∷ text) = refl
 -- ---- the state and the room behind a push
 
 -- the state and the room are those behind a push of a text
-abbrev pub Pushed : List ℕ → CodeFormatter → ChunkType → Context → List ℕ → CodeFormatter → List ℕ → Type 0
+abbrev pub Pushed : List ℕ → State → ChunkType → Context → List ℕ → State → List ℕ → Type 0
 Pushed room state ty context text next after = (next ≡ pushed (length room) state ty context text) × (after ≡ pushed_room room state ty context text)
 
-module _ (room : List ℕ) (state : CodeFormatter) (ty : ChunkType) (context : Context) (text : List ℕ) where
+module _ (room : List ℕ) (state : State) (ty : ChunkType) (context : Context) (text : List ℕ) where
   -- on a full state nothing is pushed
   pub full_not_pushed : (state.full ≡ 0 → ⊥) → Pushed room state ty context text state room
   unfolding pushed pushed_room
@@ -73,8 +62,8 @@ module _ (room : List ℕ) (state : CodeFormatter) (ty : ChunkType) (context : C
   empty_not_pushed room_left empty = (rw (eq-eqb _ _ room_left, empty), rw (eq-eqb _ _ room_left, empty))
 
   -- elsewhere a chunk is appended
-  pub is_pushed : {newline : Bool} {answer : Result ℕ Unappended} {next : CodeFormatter} {after : List ℕ}
-      → state.full ≡ 0 → is_empty text ≡ false → newline ≡ is_newline (with_space (is_spaced state) text)
+  pub is_pushed : {newline : Bool} {answer : Result ℕ Unappended} {next : State} {after : List ℕ}
+      → state.full ≡ 0 → is_empty text ≡ false → newline ≡ is_newline (with_space state.spaced text)
       → answer ≡ appended (length room) state.used (chunk_with state ty context text) → after ≡ room_after room state.used (chunk_with state ty context text)
       → next ≡ behind state newline answer → Pushed room state ty context text next after
   unfolding pushed pushed_room

@@ -10,9 +10,8 @@ use Rattle.answers.specs.declared.Refusal.{Refusal}
 use Rattle.text.proofs.Choices.{by_test}
 use Rattle.chunks.specs.declared.stored.ChunkType.{ChunkType}
 use Rattle.printing.specs.Events.{Events, nothing, push, space, clear, trim, stop, ◌▹◌}
-use Rattle.printing.specs.Running.{Run, going, ended, run, settled}
+use Rattle.printing.specs.Running.{State, Run, going, ended, run, settled}
 use Rattle.printing.specs.declared.Context.{Context}
-use Rattle.printing.specs.declared.CodeFormatter.{CodeFormatter}
 use Rattle.printing.proofs.Running.{run_ended, run_full}
 
 infixr 50 ◌and◌
@@ -46,13 +45,13 @@ unstopped (one and others) = (unstopped one, unstopped others)
 -- ---- runs
 
 -- a run that has ended does not go on
-pub ended_going : {R : Type 0} {room left : List ℕ} {why : Refusal} {state : CodeFormatter} → going left state ≡ ended room why → R
+pub ended_going : {R : Type 0} {room left : List ℕ} {why : Refusal} {state : State} → going left state ≡ ended room why → R
 ended_going e = let zero_one : ◌≡◌ {A = ℕ} 0 1 = cc in absurd (omega arith)
 
 -- a run of the events that goes on to its end, from wherever it starts, met no stop
 abbrev Met : Events → Type 0
 Met events =
-    (room : List ℕ) (state : CodeFormatter) (left : List ℕ) (last : CodeFormatter) → going left last ≡ settled (run events (going room state)) → Free events
+    (room : List ℕ) (state : State) (left : List ℕ) (last : State) → going left last ≡ settled (run events (going room state)) → Free events
 
 -- one behind the other: the first went on too, to a state that was not full
 both_free : (first next : Events) → Met first → Met next → Met (first ▹ next)
@@ -82,6 +81,6 @@ met (stop why) room state left last went =
 met (first ▹ next) room state left last went = both_free first next (met first) (met next) room state left last went
 
 -- a run that went on to its end met no stop
-pub going_free : (events : Events) (room : List ℕ) (state : CodeFormatter) {left : List ℕ} {last : CodeFormatter}
+pub going_free : (events : Events) (room : List ℕ) (state : State) {left : List ℕ} {last : State}
     → going left last ≡ settled (run events (going room state)) → Free events
 going_free events room state {left} {last} went = met events room state left last went

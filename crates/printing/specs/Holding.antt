@@ -7,8 +7,7 @@ use Rattle.text.specs.Lines.{is_empty, is_newline}
 use Rattle.chunks.specs.Stored.{Chunk, stored_chunk, stored_list}
 use Rattle.chunks.specs.Appending.{with_space, capacity}
 use Rattle.printing.specs.Events.{Events, nothing, push, space, clear, trim, stop, ◌▹◌}
-use Rattle.printing.specs.Running.{is_spaced, Run, going, ended}
-use Rattle.printing.specs.declared.CodeFormatter.{CodeFormatter}
+use Rattle.printing.specs.Running.{State, Run, going, ended}
 
 pub data Held : Type 0 where
   held : List Chunk → Bool → Held
@@ -61,12 +60,12 @@ Storable (stop why) = Unit
 Storable (first ▹ next) = Storable first × Storable next
 
 -- the room and the state of a run hold the chunks: what is used is their stored form, oldest first
-pub record Holds (room : List ℕ) (state : CodeFormatter) (chunks : List Chunk) (pending : Bool) : Type 0 where
+pub record Holds (room : List ℕ) (state : State) (chunks : List Chunk) (pending : Bool) : Type 0 where
   pub used : state.used ≡ held_length chunks
   pub fits : state.used ≤ capacity (length room)
   pub stored : take state.used room ≡ stored_list (reverse chunks)
   pub solid : state.solid ≡ held_length (without_newlines chunks)
-  pub flag : is_spaced state ≡ pending
+  pub flag : state.spaced ≡ pending
   pub full : state.full ≡ 0
 
 -- a run in a room of so many bytes agrees with what is held: it goes on and holds the chunks, or has ended for the same refusal

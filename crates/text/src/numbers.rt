@@ -1,5 +1,5 @@
 // Bytes as numbers, and numbers of two bytes, the low byte first.
-ghost use Rattle.std.specs.Prelude.{◌≡◌, ◌<◌, get_or};
+ghost use Rattle.std.specs.Prelude.{◌≡◌, get_or};
 ghost use Rattle.text.specs.Numbers.{read_number};
 ghost use Rattle.text.specs.Stores.{number_end, number_buffer};
 
@@ -11,13 +11,6 @@ pub enum Unstored {
     NoRoom,
     // The number is above 65,535.
     TooLarge,
-}
-
-// A byte as a number of the width that places have.
-pub fn wide(b: u8) -> usize
-    ensures { (result ≡ b) × (result < 256) }
-{
-    usize::from(b)
 }
 
 // The byte at a place; 0 past the end.

@@ -1,148 +1,196 @@
--- Laws of a token of a list: what its lead-in has read says what it is, so what is shown behind its own bytes, or from its head on, is shown of the token.
-use Rattle.std.specs.Prelude.{Result, Some, Ok, Err}
+-- Laws of a token of a list: what its lead-in has read says what it is, so what goes on behind its own bytes, or from its head on, goes on with the token.
+use Rattle.std.specs.Prelude.{Option, Result, Some, None, Ok, Err}
 use Rattle.answers.specs.declared.Refusal.{Refusal}
 use mathlib.Core.Path.{◌≡◌, refl, sym, ap, ◌∙◌}
-use mathlib.Core.List.{List}
-use mathlib.Core.Bool.{Bool, true, false}
-use Prim.Native.Nat.{ℕ, ◌-◌, ◌/◌, ◌≤◌}
+use mathlib.Core.List.{List, []}
+use mathlib.Core.Bool.{Bool, true, false, ◌||◌}
+use Prim.Native.Nat.{ℕ, ◌-◌, ◌/◌, ◌<◌, ◌≤◌}
+use native.Mathlib.Omega.{arith}
 use lib.Dec.{eqb}
 use lib.ListN.{length, get_or}
-use borrow.Author.Tests.{eqb-true, eqb-false}
-use Rattle.text.proofs.Choices.{by_test}
+use lib.Seq.{slice}
+use Rattle.std.proofs.Common.{is_some}
 use Rattle.tree.specs.Tree.{built}
-use Rattle.tree.specs.Grammar.{kind_of, fields}
+use Rattle.tree.specs.Grammar.{fields}
 use Rattle.tree.specs.Own.{read_own}
-use Rattle.tree.specs.Parts.{first_class}
+use Rattle.tree.specs.Parts.{skipped, first_class, second_field, field_head, head_at}
 use Rattle.tree.specs.Reading.{read}
-use Rattle.tree.specs.Stored.{stored_with}
-use Rattle.tree.specs.declared.grammar.Class.TheVariants.{Word, BareToken, LocatedExpression, Mnemonic, DataSize}
+use Rattle.tree.specs.declared.grammar.Class.{Class}
+use Rattle.tree.specs.declared.grammar.Class.TheVariants.{Word, BareToken, LocatedExpression, Mnemonic, DataSize, ExpressionArguments}
 use Rattle.tree.specs.declared.grammar.Kind.{Kind}
 use Rattle.tree.specs.declared.grammar.Kind.TheVariants as variant
 use Rattle.tree.specs.declared.own.Own.{Own}
-use Rattle.tree.proofs.KindLayout.{kind_number}
+use Rattle.tree.specs.declared.parts.Head.{Head}
+use Rattle.tree.specs.Grammar.{kind_number}
+use Rattle.tree.proofs.KindLayout.{kind_number_lem}
 use Rattle.tree.proofs.OwnBytes.{own_fits}
-use Rattle.printing.specs.Running.{going, run, place_of, outcome, settled, Shown, Prints}
-use Rattle.printing.specs.declared.CodeFormatter.{CodeFormatter}
-use Rattle.printing.specs.declared.Context.{Context}
-use Rattle.printing.specs.declared.Printed.{Printed}
-use Rattle.printing.specs.declared.Printed.TheVariants.{Done}
-use Rattle.printing.proofs.Running.{run_full, done_before, ◌then◌}
-use Rattle.printing.proofs.Stops.{ended_going}
-use Rattle.events.specs.Printed.{plain}
-use Rattle.events.specs.Trees.{Before, leaf}
+use Rattle.printing.specs.Events.{Events, nothing}
+use Rattle.printing.specs.Running.{Run, run, place_of}
+use Rattle.printing.specs.Running.{State}
+use Rattle.events.specs.Printed.{Style, plain, printed}
+use Rattle.events.specs.Trees.{Before, word, leaf, events_in}
 use Rattle.events.specs.Views.{token_number}
 use Rattle.events.proofs.Heads.{number_read}
-use Rattle.leaves.specs.Records.{Opens, PrintsField, PrintsKind}
-use Rattle.leaves.specs.declared.record.Opened.TheVariants as opened_is
-use Rattle.leaves.proofs.Fielded.{bare, opened_kind}
-use Rattle.leads.specs.Leads.{before_of, lead_in, Led, LeadsIn}
-use Rattle.leads.specs.declared.Before as code
+use Rattle.events.proofs.OwnParts.{record_headed}
+use Rattle.events.proofs.Refusals.{skip_passed}
+use Rattle.leaves.specs.Records.{field_trees, fields_end}
+use Rattle.leaves.specs.Leaves.{LeafClass}
+use Rattle.leaves.proofs.Fielded.{bare, kind_read}
+use Rattle.leaves.proofs.Leaves.{text_shown}
+use Rattle.leaves.proofs.Records.{read_record}
+use Rattle.printers.specs.declared.Printer.{Printer}
+use Rattle.printers.specs.Going.{Page, page_of, or_refused, state_of, Goes}
+use Rattle.printers.proofs.Going.{◌onward◌, there, runs_alike, tree_stays}
+use Rattle.leads.proofs.Leads.{token_parts}
+use Rattle.leads.specs.Leads.{lead_in, LeadsAs, LeadsIn}
+use Rattle.tokens.specs.Inner.{sized_events, listed_events, GoesListed}
 use Rattle.leads.specs.declared.Lead.{Lead}
-use Rattle.leads.specs.declared.Lead.TheVariants.{Ready, Over}
-use Rattle.leads.proofs.Leads.{token_missing, lead_stopped}
-use Rattle.tokens.specs.Inner.{sized_events, listed_events}
-use Rattle.tokens.proofs.PlainTokens.{HeadFirst, kind_named, data_shown, data_headed, first_headed}
-use Rattle.tokens.proofs.Cycle.{token_opened}
+use Rattle.tokens.proofs.Cycle.{TokenRead, token_read_lem}
 
--- ---- the number of a token
+-- ---- a head that is printed where it was read, wherever the walk is
 
--- a token that went on was read, and its number is its first byte
-pub listed_number : (levels : ℕ) (bytes : List ℕ) (at : ℕ) (context : Context) (drops : Bool) (before : code.Before) (room : List ℕ) (state : CodeFormatter)
-    {token : Printed} {left : List ℕ} {next : CodeFormatter} {place end : ℕ}
-    → Shown token left (listed_events context drops (before_of before) (read levels bytes BareToken at).tree) (going room state) end → token ≡ Done next place
-    → token_number (read levels bytes BareToken at).tree ≡ get_or bytes at 0
-listed_number levels bytes at context drops before room state {token} {left} {next} shown done = go (read_own bytes at BareToken levels) refl
+-- the text of a leaf
+pub text_there : {before after : Printer} (class : Class) (levels : ℕ) (style : Style) (own : Own) (place : ℕ) → LeafClass class
+    → read_own before.tree.now place class levels ≡ Ok own
+    → Goes before after (λ page at. word page.context (printed page.context style (slice own.text own.end page.tree))) (λ page at. own.end)
+    → Goes before after (λ page at. events_in page.context (leaf style) false (read levels page.tree class place).tree)
+    (λ page at. (read levels page.tree class place).end)
+text_there {before} class levels style own place leaves is goes = record {
+  page = goes.page;
+  room = goes.room;
+  shown = text_shown before.tree.now class leaves place before.context style levels own is goes.shown;
+}
+
+-- ---- what was read
+
+-- a second field was found behind the first
+second_behind : (levels : ℕ) (class : Class) (head : Head) (first : Result ℕ Refusal) → second_field levels class first ≡ Ok head
+    → (first ≡ Ok head.place) × (head.class ≡ class) × (head.levels ≡ levels)
+second_behind levels class head (Ok place) e =
+    let same : record { place = place; class = class; levels = levels } ≡ head = cc in rw (← same) (refl, refl, refl)
+second_behind levels class head (Err why) e = cc
+
+-- a token of none of the numbers whose head lies elsewhere
+abbrev HeadFirst : ℕ → Type 0
+HeadFirst number = ((eqb number 2 || eqb number 3) ≡ false) × (eqb number 9 ≡ false) × (eqb number 5 ≡ false) × (eqb number 28 ≡ false)
+
+module _ (levels : ℕ) (bytes : List ℕ) (at : ℕ) (own : Own) (is : read_own bytes at BareToken levels ≡ Ok own) (head : Head)
+    (found : head_at levels bytes BareToken at ≡ Ok head)
   where
-    went : going left next ≡ settled (run (listed_events context drops (before_of before) (read levels bytes BareToken at).tree) (going room state))
-    went = sym (ap (λ (a : Printed). outcome a left) done) ∙ shown.state
+    -- so where the head of a `Data` was found its values were skipped, and it is the size
+    data_headed : get_or bytes at 0 ≡ 5
+        → (skipped (levels - 1) bytes ExpressionArguments own.end ≡ Ok head.place) × (head.class ≡ DataSize) × (head.levels ≡ levels - 1)
+    unfolding head_at field_head
+    data_headed five = second_behind (levels - 1) DataSize head _ (rw (is, five) at found)
 
-    go : (own : Result Own Refusal) → read_own bytes at BareToken levels ≡ own → token_number (read levels bytes BareToken at).tree ≡ get_or bytes at 0
-    go (Ok own) is = number_read levels bytes BareToken at own is
-    go (Err why) is =
-        by_test (eqb state.full 0)
-        (λ empty. ended_going (went
-        ∙ sym (lead_stopped levels bytes at context drops (before_of before) room state (token_missing levels bytes at why is) (eqb-true _ _ empty) _ 0).state))
-        (λ full. ended_going (went ∙ run_full _ room state (eqb-false _ _ full)))
+    -- that of another token is its first field
+    first_headed : (number : ℕ) (kind : Kind) → HeadFirst number → get_or bytes at 0 ≡ number → own.kind ≡ kind
+        → record { place = own.end; class = first_class BareToken (fields kind LocatedExpression); levels = levels - 1 } ≡ head
+    unfolding head_at field_head
+    first_headed number kind others is_number is-kind =
+        let same : Ok (record { place = own.end; class = first_class BareToken (fields kind LocatedExpression); levels = levels - 1 }) ≡ Ok head =
+        rw (is, is_number, is-kind, others.0, others.1, others.2, others.3) at found in
+        cc
+
+-- a walk that has no place of its own has ended
+ended_of : (over : Option Refusal) (state : State) (at : ℕ) → place_of (or_refused over (Ok (state, at))) 0 ≡ 0
+    → place_of (or_refused over (Ok (state, at))) 1 ≡ 1 → is_some over ≡ true
+ended_of None state at zero_place one_place = absurd (omega (arith, zero_place, one_place))
+ended_of (Some why) state at zero_place one_place = refl
 
 -- ---- a token behind its lead-in
 
-module _ {context : Context} {drops : Bool} {before : Before} {levels : ℕ} {bytes : List ℕ} {left room : List ℕ} {last : Printed} {lead : Lead}
-    (leads : LeadsIn lead left last room context drops before levels bytes)
+module _ {before between : Printer} {drops : Bool} {stood : Before} {levels : ℕ} {found : Option Lead}
+    (leads : LeadsIn before between drops stood levels found)
   where
     -- where the walk ended before it
-    pub listed_over : {answer : Printed} → lead ≡ Over answer
-        → Prints answer left last room (λ at. listed_events context drops before (read levels bytes BareToken at).tree) (λ at. (read levels bytes BareToken at).end)
-    listed_over {answer} is =
-        let over : LeadsIn (Over answer) left last room context drops before levels bytes = rw is at leads in
-        record { from = λ at here. over.from at here _ _ }
+    over : found ≡ None → LeadsAs before between drops stood levels None
+    over is = rw is at leads.leads
 
-    module _ {own head : Own} {state : CodeFormatter} (is : lead ≡ Ready own head state) (at : ℕ) (here : place_of last at ≡ at) where
-      -- what was read and run there
-      led : Led own head state left (outcome last room) (lead_in context drops before (read levels bytes BareToken at).tree) levels bytes at
-      led =
-          let ready : LeadsIn (Ready own head state) left last room context drops before levels bytes = rw is at leads in
-          ready.from at here
+    pub listed_over : found ≡ None → GoesListed before between drops stood levels
+    listed_over is = over is (λ page at. events_in page.context (leaf plain) false (read levels page.tree BareToken at).tree) _
 
-      -- so its record is open
-      pub listed_opens : Opens (opened_is.Record own state) left (Done state at) left context false levels bytes BareToken true
-      unfolding run
-      listed_opens = record {
-        from = λ place same. rw (← same) (refl, led.token, own_fits bytes at BareToken levels own led.token, refl);
-      }
+    -- whatever comes behind, and wherever: so it has ended
+    pub listed_ended : found ≡ None → is_some between.ended ≡ true
+    listed_ended is =
+        ended_of between.ended (state_of between) between.at (over is (λ page at. nothing) (λ page at. 0)).shown.next
+        (over is (λ page at. nothing) (λ page at. 1)).shown.next
 
-      -- and the text of its head lies within the bytes
-      pub head_text : (head.text ≤ head.end) × (head.end ≤ length bytes)
-      head_text = let held = own_fits bytes _ _ _ head led.reads in (held.part, held.inside)
+    module _ {lead : Lead} (is : found ≡ Some lead) where
+      led : LeadsAs before between drops stood levels (Some lead)
+      led = rw is at leads.leads
 
-      module _ {answer : Printed} {after : List ℕ} where
-        -- what is shown of the record is shown of the token of the list
-        pub listed_shown : PrintsField answer after (Done state at) left context (leaf plain) false levels bytes BareToken true
-            → Shown answer after (listed_events context drops before (read levels bytes BareToken at).tree) (outcome last room) (read levels bytes BareToken at).end
-        listed_shown token = record { ran = led.ran } then token.from at refl
+      pub lead_goes : Goes before between (λ page at. lead_in page.context drops stood (read levels page.tree BareToken at).tree) (λ page at. lead.token.end)
+      lead_goes = led.1
 
-        -- so is what is shown behind its own bytes, by its number
-        listed_kind : (number : ℕ) (kind : Kind) → get_or bytes at 0 ≡ number → kind_of number ≡ Some kind → bare kind ≡ false
-            → (own.kind ≡ kind → PrintsKind answer after (Done state own.end) left context (leaf plain) kind LocatedExpression (own.map / 2) (levels - 1) bytes)
-            → Shown answer after (listed_events context drops before (read levels bytes BareToken at).tree) (outcome last room) (read levels bytes BareToken at).end
-        listed_kind number kind byte known fielded done =
-            let opens = listed_opens in
-            let named = kind_named byte known (token_opened false at opens refl refl).known in
-            listed_shown (opened_kind opens refl (leaf plain) kind named fielded (done named))
+      -- the token's own bytes, the head that was found, and its own
+      parts : (read_own before.tree.now before.at BareToken levels ≡ Ok lead.token)
+          × (head : Head) × (head_at levels before.tree.now BareToken before.at ≡ Ok head) × (read_own before.tree.now head.place head.class head.levels ≡ Ok lead.head)
+      parts = token_parts levels before.tree.now before.at lead led.0
 
-        -- and what is shown from its head on, where that is its first field
-        listed_first : (number : ℕ) (kind : Kind) → HeadFirst number → get_or bytes at 0 ≡ number → kind_of number ≡ Some kind → bare kind ≡ false
-            → ((place : ℕ) → read_own bytes place (first_class BareToken (fields kind LocatedExpression)) (levels - 1) ≡ Ok head
-            → PrintsKind answer after (Done state place) left context (leaf plain) kind LocatedExpression (own.map / 2) (levels - 1) bytes)
-            → Shown answer after (listed_events context drops before (read levels bytes BareToken at).tree) (outcome last room) (read levels bytes BareToken at).end
-        listed_first number kind others byte known fielded shown =
-            listed_kind number kind byte known fielded (λ named.
-            let same = first_headed levels bytes at own led.token led.found led.finds number kind others byte named in
-            shown own.end (rw (← same) at led.reads))
+      -- its number is its kind's
+      byte : kind_number lead.token.kind ≡ get_or before.tree.now before.at 0
+      byte = kind_number_lem _ lead.token.kind (record_headed before.tree.now before.at BareToken levels lead.token parts.0).1.kind_is
 
-        -- that of an `Instruction` is its mnemonic
-        pub listed_instruction : get_or bytes at 0 ≡ 13
-            → ((place : ℕ) → read_own bytes place Mnemonic (levels - 1) ≡ Ok head
-            → PrintsKind answer after (Done state place) left context (leaf plain) variant.Instruction LocatedExpression (own.map / 2) (levels - 1) bytes)
-            → Shown answer after (listed_events context drops before (read levels bytes BareToken at).tree) (outcome last room) (read levels bytes BareToken at).end
-        unfolding built kind_number stored_with
-        listed_instruction number shown = listed_first 13 variant.Instruction (refl, refl, refl, refl) number refl refl shown
+      pub listed_number : token_number (read levels before.tree.now BareToken before.at).tree ≡ kind_number lead.token.kind
+      listed_number = number_read levels before.tree.now BareToken before.at lead.token parts.0 ∙ sym byte
 
-        -- that of a `Label` is its id
-        pub listed_label : get_or bytes at 0 ≡ 14
-            → ((place : ℕ) → read_own bytes place Word (levels - 1) ≡ Ok head
-            → PrintsKind answer after (Done state place) left context (leaf plain) variant.Label LocatedExpression (own.map / 2) (levels - 1) bytes)
-            → Shown answer after (listed_events context drops before (read levels bytes BareToken at).tree) (outcome last room) (read levels bytes BareToken at).end
-        unfolding built kind_number stored_with
-        listed_label number shown = listed_first 14 variant.Label (refl, refl, refl, refl) number refl refl shown
+      -- what its own bytes say of it
+      pub listed_read : TokenRead lead.token
+      listed_read = token_read_lem false before.tree.now before.at levels lead.token parts.0
 
-        -- of a `Data` what is shown from its size on
-        pub listed_data : get_or bytes at 0 ≡ 5
-            → ((place : ℕ) → read_own bytes place DataSize (levels - 1) ≡ Ok head
-            → Prints answer after (Done state place) left (λ at. sized_events context (read (levels - 1) bytes) own.end at) (λ at. (read (levels - 1) bytes DataSize at).end))
-            → Shown answer after (listed_events context drops before (read levels bytes BareToken at).tree) (outcome last room) (read levels bytes BareToken at).end
-        unfolding built kind_number stored_with
-        listed_data number shown =
-            listed_kind 5 variant.Data number refl refl (λ kind.
-            let size = data_headed levels bytes at own led.token led.found led.finds number in
-            let sized = shown led.found.place (rw (size.1, size.2) at led.reads) in
-            done_before refl (data_shown context (levels - 1) bytes (own.map / 2) own.end _ size.0 (sized.from _ refl)))
+      -- a level was left
+      pub listed_levels : 0 < levels
+      listed_levels = (read_record before.tree.now BareToken before.at levels lead.token parts.0).0
+
+      -- the text of its head lies within the bytes
+      pub head_text : (lead.head.text ≤ lead.head.end) × (lead.head.end ≤ length between.tree.now)
+      head_text = let held = own_fits before.tree.now _ _ _ lead.head parts.3 in rw (tree_stays led.1) (held.part, held.inside)
+
+      module _ (kind : Kind) (same : lead.token.kind ≡ kind) where
+        -- where its head is its first field it was read there
+        first_read : HeadFirst (kind_number kind)
+            → read_own between.tree.now lead.token.end (first_class BareToken (fields kind LocatedExpression)) (levels - 1) ≡ Ok lead.head
+        first_read first =
+            let number = sym byte ∙ ap kind_number same in
+            let here = first_headed levels before.tree.now before.at lead.token parts.0 parts.1 parts.2 (kind_number kind) kind first number same in
+            rw (tree_stays led.1) (rw (← here) at parts.3)
+
+        -- what goes on behind its own bytes goes on with the token, where its events are those of its fields
+        pub listed_goes : {after : Printer} {events : Page → ℕ → Events} {end : Page → ℕ → ℕ} → bare kind ≡ false → Goes between after events end
+            → ((x : Run) → run (events (page_of before) lead.token.end) x
+            ≡ run (events_in before.context (leaf plain) true
+            (built kind [] (field_trees (read (levels - 1) before.tree.now) (fields kind LocatedExpression) (lead.token.map / 2) lead.token.end))) x)
+            → end (page_of before) lead.token.end
+            ≡ fields_end (read (levels - 1) before.tree.now) (fields kind LocatedExpression) (lead.token.map / 2) lead.token.end
+            → GoesListed before after drops stood levels
+        unfolding events_in run
+        listed_goes fielded goes alike ends =
+            let token = kind_read before.tree.now BareToken before.at levels lead.token kind parts.0 same fielded in
+            let first = lead_in before.context drops stood (read levels before.tree.now BareToken before.at).tree in
+            there {events = λ page at. listed_events page.context drops stood (read levels page.tree BareToken at).tree}
+            (runs_alike (led.1 onward goes) (λ x.
+            alike (run first x) ∙ ap (λ tree. run (events_in before.context (leaf plain) false tree) (run first x)) (sym token.0))) refl (ends ∙ sym token.1)
+
+      -- the head of an `Instruction` is its mnemonic
+      pub mnemonic_read : lead.token.kind ≡ variant.Instruction → read_own between.tree.now lead.token.end Mnemonic (levels - 1) ≡ Ok lead.head
+      unfolding built
+      mnemonic_read kind = first_read variant.Instruction kind (refl, refl, refl, refl)
+
+      -- that of a `Label` is its id
+      pub id_read : lead.token.kind ≡ variant.Label → read_own between.tree.now lead.token.end Word (levels - 1) ≡ Ok lead.head
+      unfolding built
+      id_read kind = first_read variant.Label kind (refl, refl, refl, refl)
+
+      -- of a `Data` the values were skipped on the way to the size, so they hold no refusal, and what goes on from the size on goes on with both
+      pub listed_data : {after : Printer} → lead.token.kind ≡ variant.Data
+          → ((place : ℕ) → read_own between.tree.now place DataSize (levels - 1) ≡ Ok lead.head
+          → Goes between after (λ page values. sized_events page.context (read (levels - 1) page.tree) values place)
+          (λ page values. (read (levels - 1) page.tree DataSize place).end))
+          → GoesListed before after drops stood levels
+      unfolding built field_trees fields_end events_in run
+      listed_data kind goes =
+          let size = data_headed levels before.tree.now before.at lead.token parts.0 parts.1 parts.2 (sym byte ∙ ap kind_number kind) in
+          let passed = skip_passed (levels - 1) before.tree.now ExpressionArguments lead.token.end parts.1.place size.0 in
+          let sized = goes parts.1.place (ap (λ bytes. read_own bytes parts.1.place DataSize (levels - 1)) (tree_stays led.1) ∙ rw (size.1, size.2) at parts.3) in
+          listed_goes variant.Data kind refl sized (λ x. rw (passed.0, passed.1) refl) (rw passed.1 refl)

@@ -1,8 +1,8 @@
 -- The walk before the check: where it settles that the tree is accepted the check would pass, and else the check is asked.
---   pass_settled : settles tree printed ≡ true → OnePass options tree room (printed_answer printed) left
-use Rattle.std.specs.Prelude.{Ok, Err}
+--   pass_settled : settles tree walked ≡ true → OnePass options tree room (used_of walked) left
+use Rattle.std.specs.Prelude.{Result, Ok, Err}
 use Rattle.answers.specs.Numbers.{no_refusal, Answer}
-use mathlib.Core.Path.{◌≡◌, refl, sym, ap, ◌∙◌}
+use mathlib.Core.Path.{◌≡◌, refl, sym}
 use mathlib.Core.List.{List}
 use mathlib.Core.Bool.{true, false}
 use Prim.Native.Nat.{ℕ}
@@ -18,16 +18,15 @@ use Rattle.tree.specs.Checking.{read_file, plain_tree, length_checked, end_check
 use Rattle.tree.specs.declared.grammar.Class.TheVariants.{Tokens}
 use Rattle.tree.proofs.Readings.{passed_file, length_failed}
 use Rattle.tree.proofs.Plain.{plain_passed}
-use Rattle.printing.specs.Running.{at_start, outcome, room_of}
-use Rattle.printing.specs.declared.Printed.{Printed}
-use Rattle.printing.specs.declared.Printed.TheVariants.{Done, Refused}
-use Rattle.printing.proofs.Running.{place_behind}
+use Rattle.printing.specs.Running.{Run, going, ended, at_start, room_of}
 use Rattle.printing.proofs.Stops.{going_free}
+use Rattle.printers.specs.Going.{walked_of}
+use Rattle.printers.specs.declared.Walked.{Walked}
 use Rattle.events.specs.Trees.{first, file_end, tokens}
 use Rattle.events.proofs.Judged.{read_judged}
 use Rattle.tokens.specs.Chunks.{file_events, held_with, chunks_answer, RoomHolds, one_pass_with}
-use Rattle.tokens.specs.Settling.{Walks, printed_answer, settles}
-use Rattle.tokens.proofs.Whole.{whole_walked}
+use Rattle.tokens.specs.Settling.{file_run, file_walked, settles}
+use Rattle.tokens.proofs.Whole.{used_of, whole_walked}
 
 -- what is promised under given options
 pub record OnePass (options : FormattingOptions) (tree room : List ℕ) (said : Answer) (left : List ℕ) : Type 0 where
@@ -35,15 +34,10 @@ pub record OnePass (options : FormattingOptions) (tree room : List ℕ) (said : 
   pub holds : RoomHolds (held_with (Ok options) tree (length room)) left
   pub whole : left ≡ one_pass_with (Ok options) tree room
 
--- the room of an answer
-room_of_lem : (printed : Printed) (left : List ℕ) → left ≡ room_of (outcome printed left)
-room_of_lem (Done state at) left = refl
-room_of_lem (Refused why) left = refl
-
 -- a list that ends with the tree has nothing behind it
-end_passed : (tree : List ℕ) (end at : ℕ) → at ≡ end → eqb at (length tree) ≡ true → end_checked tree end ≡ no_refusal
-end_passed tree end at same last =
-    let whole : length tree ≡ end = sym (eqb-true at (length tree) last) ∙ same in
+end_passed : (tree : List ℕ) (end : ℕ) → eqb end (length tree) ≡ true → end_checked tree end ≡ no_refusal
+end_passed tree end last =
+    let whole : end ≡ length tree = eqb-true end (length tree) last in
     rw (le-ltb end (length tree) (omega (arith, whole)))
 
 module _ (options : FormattingOptions) (tree room : List ℕ) where
@@ -53,34 +47,38 @@ module _ (options : FormattingOptions) (tree room : List ℕ) where
       let failed = length_failed 65535 64 tree why unsized in
       record { answered = rw failed refl; holds = rw failed tt; whole = rw unsized refl }
 
-  module _ (narrow : Narrow options) (sized : length_checked 65535 tree ≡ no_refusal) {printed : Printed} {left : List ℕ} (walks : Walks printed left options tree room) where
-    -- the room is as the run leaves it
-    run_left : left ≡ one_pass_with (Ok options) tree room
-    run_left = rw sized (room_of_lem printed left ∙ ap room_of walks.state)
+  -- the walk settles that the tree is accepted: its run met no stop, so reading meets no refusal
+  settled_passed : length_checked 65535 tree ≡ no_refusal → settles tree (file_walked options tree room) ≡ true → batch_checked tree ≡ no_refusal
+  unfolding settles
+  settled_passed sized = go (file_run options tree room) refl
+    where
+      end : ℕ
+      end = (read_file 64 tree).end
 
-    -- the check refuses the tree
-    pub pass_failed : (why : Refusal) → batch_checked tree ≡ Err why → OnePass options tree room (Err why) left
-    pass_failed why failed = record { answered = rw failed refl; holds = rw failed tt; whole = run_left }
+      go : (after : Run) → file_run options tree room ≡ after → settles tree (walked_of after end) ≡ true → batch_checked tree ≡ no_refusal
+      go (going left state) ran settling =
+          passed_file 65535 64 tree (record {
+            size = sized;
+            layout = read_judged 64 tree Tokens 0 (record { options = options; indent = 0 }) (tokens false first file_end) true
+                (going_free (file_events options tree) room at_start (sym ran));
+            end = end_passed tree end (and_true_left (eqb end (length tree)) (plain_tree tree) settling);
+            texts = plain_passed tree (and_true_right (eqb end (length tree)) (plain_tree tree) settling) 64;
+          })
+      go (ended left why) ran settling = true_false (sym settling)
 
-    -- the check passes it
-    pub pass_passed : batch_checked tree ≡ no_refusal → OnePass options tree room (printed_answer printed) left
-    pass_passed passed =
-        let held = whole_walked options tree room narrow passed walks in
-        record { answered = held.answered; holds = held.holds; whole = run_left }
+  module _ (narrow : Narrow options) (sized : length_checked 65535 tree ≡ no_refusal) {walked : Result Walked Refusal} {left : List ℕ}
+      (walks : walked ≡ file_walked options tree room) (stored : left ≡ room_of (file_run options tree room))
+    where
+      -- the room is as the run leaves it
+      run_left : left ≡ one_pass_with (Ok options) tree room
+      run_left = rw sized stored
 
-    -- an answer that settles it: the walk met no stop, so reading meets no refusal
-    settled_passed : (is : Printed) → printed ≡ is → settles tree is ≡ true → batch_checked tree ≡ no_refusal
-    unfolding settles
-    settled_passed (Done state at) is settling =
-        let free = going_free (file_events options tree) room at_start (ap (λ (p : Printed). outcome p left) (sym is) ∙ walks.state) in
-        passed_file 65535 64 tree (record {
-          size = sized;
-          layout = read_judged 64 tree Tokens 0 (record { options = options; indent = 0 }) (tokens false first file_end) true free;
-          end = end_passed tree (read_file 64 tree).end at (place_behind walks is) (and_true_left (eqb at (length tree)) (plain_tree tree) settling);
-          texts = plain_passed tree (and_true_right (eqb at (length tree)) (plain_tree tree) settling) 64;
-        })
-    settled_passed (Refused why) is settling = true_false (sym settling)
+      -- the check passes it
+      pub pass_passed : batch_checked tree ≡ no_refusal → OnePass options tree room (used_of walked) left
+      pass_passed passed =
+          let held = whole_walked options tree room narrow passed walks stored in
+          record { answered = held.answered; holds = held.holds; whole = run_left }
 
-    -- so the walk's own answer is the call's
-    pub pass_settled : settles tree printed ≡ true → OnePass options tree room (printed_answer printed) left
-    pass_settled settling = pass_passed (settled_passed printed refl settling)
+      -- so where the walk settles it its own answer is the call's
+      pub pass_settled : settles tree walked ≡ true → OnePass options tree room (used_of walked) left
+      pass_settled settling = pass_passed (settled_passed sized (rw walks at settling))

@@ -1,21 +1,32 @@
--- Not part of any promise of this crate: what tokens print before the block or the token inside them, by the number of their kind, and where that begins.
-use Rattle.std.specs.Prelude.{ℕ, List, [], ◌∷◌, Bool, true, false, cond, eqb}
-use Rattle.tree.specs.Kinds as kinds
+-- Not part of any promise of this crate: what tokens print before the block or the token inside them, by their kind, and where that begins.
+use Rattle.std.specs.Prelude.{ℕ, Bool, true, false}
 use Rattle.tree.specs.Reading.{Reader, read}
 use Rattle.tree.specs.declared.grammar.Class.TheVariants.{Word, Char, Colon, LocatedExpression, StringRecord, ImportArguments, IdentifierArguments}
+use Rattle.tree.specs.declared.grammar.Kind.{Kind}
+use Rattle.tree.specs.declared.grammar.Kind.TheVariants as variant
 use Rattle.printing.specs.Events.{Events, nothing, space, ◌▹◌}
-use Rattle.printing.specs.Running.{Prints}
 use Rattle.printing.specs.declared.Context.{Context}
-use Rattle.printing.specs.declared.Printed.{Printed}
 use Rattle.events.specs.Printed.{plain}
-use Rattle.events.specs.Trees.{blank, skipping, one_of, leaf, labelled, arguments, imports, events_in}
+use Rattle.events.specs.Trees.{blank, skipping, leaf, labelled, arguments, imports, events_in}
+use Rattle.printers.specs.Going.{Goes}
+use Rattle.printers.specs.declared.Printer.{Printer}
 
--- the kinds without a block or a token inside
-abbrev pub is_plain : ℕ → Bool
-is_plain number =
-    one_of number
-    (kinds.align ∷ kinds.assert ∷ kinds.«data» ∷ kinds.eof ∷ kinds.error ∷ kinds.expression ∷ kinds.file ∷ kinds.instruction
-    ∷ kinds.macro_invocation ∷ kinds.program_counter_definition ∷ kinds.text ∷ kinds.trace ∷ kinds.variable_definition ∷ [])
+-- the kinds of tokens without a block or a token inside
+abbrev pub is_plain : Kind → Bool
+is_plain variant.Align = true
+is_plain variant.Assert = true
+is_plain variant.Data = true
+is_plain variant.Eof = true
+is_plain variant.Error = true
+is_plain variant.Expression = true
+is_plain variant.File = true
+is_plain variant.Instruction = true
+is_plain variant.MacroInvocation = true
+is_plain variant.ProgramCounterDefinition = true
+is_plain variant.Text = true
+is_plain variant.Trace = true
+is_plain variant.VariableDefinition = true
+is_plain other = false
 
 -- ---- places behind the first fields
 
@@ -54,9 +65,7 @@ pair_events context reader at =
     ▹ events_in context (leaf plain) true (reader Char (behind_tag reader at)).tree ▹ blank context
 
 abbrev pub definition_events : Context → Reader → ℕ → Events
-definition_events context reader at =
-    events_in context (leaf plain) false (reader Word at).tree ▹ blank context
-    ▹ events_in context (leaf plain) true (reader Word (behind_tag reader at)).tree ▹ blank context
+definition_events context reader at = named_events context reader at ▹ blank context
 
 abbrev pub import_events : Context → Reader → ℕ → Events
 import_events context reader at =
@@ -68,10 +77,12 @@ import_events context reader at =
 abbrev pub label_events : Context → Reader → ℕ → Events
 label_events context reader at = events_in context labelled false (reader Word at).tree ▹ skipping (reader Colon (behind_tag reader at)).tree
 
+abbrev pub label_end : Reader → ℕ → ℕ
+label_end reader at = (reader Colon (behind_tag reader at)).end
+
 abbrev pub macro_events : Context → Reader → ℕ → Events
 macro_events context reader at =
-    events_in context (leaf plain) false (reader Word at).tree ▹ blank context
-    ▹ events_in context (leaf plain) true (reader Word (behind_tag reader at)).tree ▹ events_in context (leaf plain) true (reader Char (behind_name reader at)).tree
+    named_events context reader at ▹ events_in context (leaf plain) true (reader Char (behind_name reader at)).tree
     ▹ events_in context arguments true (reader IdentifierArguments (behind_opening reader at)).tree
     ▹ events_in context (leaf plain) true (reader Char (behind_arguments reader at)).tree ▹ space
 
@@ -80,28 +91,32 @@ test_events context reader at =
     events_in context (leaf plain) false (reader Word at).tree ▹ space
     ▹ events_in context (leaf plain) true (reader LocatedExpression (behind_tag reader at)).tree ▹ space
 
--- ---- by the number of the kind
+-- ---- by the kind
 
-abbrev pub front_events : Context → Reader → ℕ → ℕ → Events
-front_events context reader at number =
-    cond (eqb number kinds.config_pair) (pair_events context reader at)
-    (cond (eqb number kinds.definition) (definition_events context reader at)
-    (cond (eqb number kinds.import) (import_events context reader at)
-    (cond (eqb number kinds.label) (label_events context reader at)
-    (cond (eqb number kinds.macro_definition) (macro_events context reader at)
-    (cond (eqb number kinds.test) (test_events context reader at)
-    (cond (one_of number (kinds.if ∷ kinds.loop ∷ kinds.segment ∷ [])) (tagged_events context reader at ▹ blank context) nothing))))))
+abbrev pub front_events : Context → Reader → ℕ → Kind → Events
+front_events context reader at variant.ConfigPair = pair_events context reader at
+front_events context reader at variant.Definition = definition_events context reader at
+front_events context reader at variant.If = tagged_events context reader at ▹ blank context
+front_events context reader at variant.Import = import_events context reader at
+front_events context reader at variant.Label = label_events context reader at
+front_events context reader at variant.Loop = tagged_events context reader at ▹ blank context
+front_events context reader at variant.MacroDefinition = macro_events context reader at
+front_events context reader at variant.Segment = tagged_events context reader at ▹ blank context
+front_events context reader at variant.Test = test_events context reader at
+front_events context reader at other = nothing
 
-abbrev pub front_end : Reader → ℕ → ℕ → ℕ
-front_end reader at number =
-    cond (eqb number kinds.config_pair) (reader Char (behind_tag reader at)).end
-    (cond (eqb number kinds.definition) (behind_name reader at)
-    (cond (eqb number kinds.import) (reader StringRecord (reader Word (behind_imports reader at)).end).end
-    (cond (eqb number kinds.label) (reader Colon (behind_tag reader at)).end
-    (cond (eqb number kinds.macro_definition) (reader Char (behind_arguments reader at)).end
-    (cond (eqb number kinds.test) (reader LocatedExpression (behind_tag reader at)).end
-    (cond (one_of number (kinds.if ∷ kinds.loop ∷ kinds.segment ∷ [])) (reader LocatedExpression (behind_tag reader at)).end at))))))
+abbrev pub front_end : Reader → ℕ → Kind → ℕ
+front_end reader at variant.ConfigPair = (reader Char (behind_tag reader at)).end
+front_end reader at variant.Definition = behind_name reader at
+front_end reader at variant.If = (reader LocatedExpression (behind_tag reader at)).end
+front_end reader at variant.Import = (reader StringRecord (reader Word (behind_imports reader at)).end).end
+front_end reader at variant.Label = label_end reader at
+front_end reader at variant.Loop = (reader LocatedExpression (behind_tag reader at)).end
+front_end reader at variant.MacroDefinition = (reader Char (behind_arguments reader at)).end
+front_end reader at variant.Segment = (reader LocatedExpression (behind_tag reader at)).end
+front_end reader at variant.Test = (reader LocatedExpression (behind_tag reader at)).end
+front_end reader at other = at
 
-abbrev pub PrintsFront : Printed → List ℕ → Printed → List ℕ → Context → ℕ → ℕ → List ℕ → Type 0
-PrintsFront answer left last room context number levels bytes =
-    Prints answer left last room (λ at. front_events context (read levels bytes) at number) (λ at. front_end (read levels bytes) at number)
+abbrev pub GoesFront : Printer → Printer → Kind → ℕ → Type 0
+GoesFront before after kind levels =
+    Goes before after (λ page at. front_events page.context (read levels page.tree) at kind) (λ page at. front_end (read levels page.tree) at kind)

@@ -1,36 +1,46 @@
--- Not part of any promise of this crate: what stands inside tokens, by the number of their kind.
-use Rattle.std.specs.Prelude.{ℕ, ◌+◌, ◌*◌, ◌≤◌, ◌≡◌, [], ◌∷◌, Bool, true, false, cond, eqb}
+-- Not part of any promise of this crate: what stands inside tokens, by their kind.
+use Rattle.std.specs.Prelude.{ℕ, ◌+◌, ◌*◌, ◌≤◌, ◌≡◌, Bool, true, false, cond, Option, Some, None}
+use Rattle.std.proofs.Common.{is_some}
 use Rattle.options.specs.declared.BracePosition.{BracePosition}
 use Rattle.options.specs.declared.BracePosition.TheVariants.{SameLine, NewLine}
 use Rattle.tree.specs.Tree.{Tree, absent}
-use Rattle.tree.specs.Kinds as kinds
-use Rattle.tree.specs.Reading.{Reader}
+use Rattle.tree.specs.Reading.{Reader, read}
 use Rattle.tree.specs.declared.grammar.Class.{Class}
-use Rattle.tree.specs.declared.grammar.Class.TheVariants.{Word, DataSize, BareToken, LocatedToken, ExpressionArguments, BlockRecord, OperandRecord}
+use Rattle.tree.specs.declared.grammar.Class.TheVariants.{Word, Mnemonic, DataSize, BareToken, LocatedToken, ExpressionArguments, BlockRecord, OperandRecord}
+use Rattle.tree.specs.declared.grammar.Kind.{Kind}
+use Rattle.tree.specs.declared.grammar.Kind.TheVariants as variant
+use Rattle.tree.specs.Grammar.{kind_number}
 use Rattle.printing.specs.Events.{Events, nothing, space, clear, ◌▹◌}
 use Rattle.printing.specs.declared.Context.{Context}
-use Rattle.events.specs.Printed.{plain, data_size}
-use Rattle.events.specs.Views.{bit_at}
-use Rattle.events.specs.Trees.{blank, newline, one_of, leaf, arguments, Before, else_events, events_in}
+use Rattle.events.specs.Printed.{plain, mnemonic, data_size}
+use Rattle.events.specs.Views.{bit_at, token_number}
+use Rattle.events.specs.Trees.{blank, newline, leaf, arguments, Before, events_in}
 use Rattle.leads.specs.Leads.{lead_in}
+use Rattle.printers.specs.Going.{Goes}
+use Rattle.printers.specs.declared.Printer.{Printer}
 use Rattle.tokens.specs.declared.walk.Inner.{Inner}
 use Rattle.tokens.specs.declared.walk.Inner.TheVariants.{Nothing, Block, Token, Branches}
 
 abbrev pub token_class : Bool → Class
 token_class located = cond located LocatedToken BareToken
 
-abbrev pub inner_of : ℕ → ℕ → Inner
-inner_of number bits =
-    cond (eqb number kinds.config_pair) (Token true true)
-    (cond (eqb number kinds.definition) (Token (bit_at 2 bits) false)
-    (cond (eqb number kinds.if) Branches
-    (cond (eqb number kinds.import) (Block (bit_at 4 bits))
-    (cond (one_of number (kinds.label ∷ kinds.segment ∷ [])) (Block (bit_at 2 bits))
-    (cond (one_of number (kinds.braces ∷ kinds.config ∷ kinds.loop ∷ kinds.macro_definition ∷ kinds.test ∷ [])) (Block true) Nothing)))))
+abbrev pub inner_of : Kind → ℕ → Inner
+inner_of variant.ConfigPair bits = Token true true
+inner_of variant.Definition bits = Token (bit_at 2 bits) false
+inner_of variant.If bits = Branches (bit_at 3 bits)
+inner_of variant.Import bits = Block (bit_at 4 bits)
+inner_of variant.Label bits = Block (bit_at 2 bits)
+inner_of variant.Segment bits = Block (bit_at 2 bits)
+inner_of variant.Braces bits = Block true
+inner_of variant.Config bits = Block true
+inner_of variant.Loop bits = Block true
+inner_of variant.MacroDefinition bits = Block true
+inner_of variant.Test bits = Block true
+inner_of other bits = Nothing
 
 -- "`tag_else` and `else_` stand together or not at all"
-abbrev pub Ends : ℕ → ℕ → Type 0
-Ends number bits = number ≡ kinds.if → bit_at 3 bits ≡ bit_at 4 bits
+abbrev pub Ends : Kind → ℕ → Type 0
+Ends kind bits = kind ≡ variant.If → bit_at 3 bits ≡ bit_at 4 bits
 
 -- a block is at most 64 further in, and at every level there is room for one more
 abbrev pub Narrow : Context → ℕ → Type 0
@@ -49,8 +59,8 @@ abbrev pub branch_events : Context → Bool → Reader → ℕ → Events
 branch_events context other reader at =
     events_in context (leaf plain) true (reader BlockRecord at).tree
     ▹ cond other
-    (else_events context context.options.braces.position (events_in context (leaf plain) true (reader Word (behind_then reader at)).tree)
-    (events_in context (leaf plain) true (reader BlockRecord (reader Word (behind_then reader at)).end).tree))
+    (else_front context context.options.braces.position (events_in context (leaf plain) true (reader Word (behind_then reader at)).tree)
+    ▹ events_in context (leaf plain) true (reader BlockRecord (reader Word (behind_then reader at)).end).tree)
     nothing
 
 abbrev pub branches_end : Bool → Reader → ℕ → ℕ
@@ -72,7 +82,31 @@ operand_events context bits reader at = space ▹ events_in context (leaf plain)
 abbrev pub operand_end : ℕ → Reader → ℕ → ℕ
 operand_end bits reader at = cond (bit_at 1 bits) (reader OperandRecord at).end at
 
--- ---- a token of a list: what stands before it, and the token without its own trivia
+-- and from it on
+abbrev pub instruction_events : Context → ℕ → Reader → ℕ → Events
+instruction_events context bits reader at =
+    events_in context (leaf mnemonic) false (reader Mnemonic at).tree ▹ operand_events context bits reader (reader Mnemonic at).end
 
+abbrev pub instruction_end : ℕ → Reader → ℕ → ℕ
+instruction_end bits reader at = operand_end bits reader (reader Mnemonic at).end
+
+-- ---- a token of a list
+
+-- whether newlines first in it are dropped: in a block, before its first token
+abbrev pub dropping : Bool → Option Kind → Bool
+dropping block None = block
+dropping block (Some kind) = false
+
+-- what stands before it, and the token without its own trivia
 abbrev pub listed_events : Context → Bool → Before → Tree → Events
 listed_events context drops before item = lead_in context drops before item ▹ events_in context (leaf plain) false item
+
+abbrev pub GoesListed : Printer → Printer → Bool → Before → ℕ → Type 0
+GoesListed before after drops stood levels =
+    Goes before after (λ page at. listed_events page.context drops stood (read levels page.tree BareToken at).tree)
+    (λ page at. (read levels page.tree BareToken at).end)
+
+-- the kind of the token where the walk was, by its number, or none where it has ended
+abbrev pub KindIs : Printer → Printer → ℕ → Option Kind → Type 0
+KindIs before after levels (Some kind) = token_number (read levels before.tree.now BareToken before.at).tree ≡ kind_number kind
+KindIs before after levels None = is_some after.ended ≡ true

@@ -1,23 +1,22 @@
 -- Not part of any promise of this crate: what a walk says by itself, before a check.
-use Rattle.answers.specs.Numbers.{Answer}
-use Rattle.std.specs.Prelude.{List, Bool, false, ◌&&◌, ℕ, length, eqb, Ok, Err}
+use Rattle.std.specs.Prelude.{ℕ, List, Bool, false, ◌&&◌, length, eqb, Result, Ok, Err}
+use Rattle.answers.specs.declared.Refusal.{Refusal}
 use Rattle.options.specs.declared.FormattingOptions.{FormattingOptions}
 use Rattle.tree.specs.Checking.{read_file, plain_tree}
-use Rattle.printing.specs.Running.{going, at_start, Shown}
-use Rattle.printing.specs.declared.Printed.{Printed}
-use Rattle.printing.specs.declared.Printed.TheVariants.{Done, Refused}
+use Rattle.printing.specs.Running.{Run, going, at_start, run, settled}
+use Rattle.printers.specs.Going.{walked_of}
+use Rattle.printers.specs.declared.Walked.{Walked}
 use Rattle.tokens.specs.Chunks.{file_events}
 
--- it shows the events of the file, from the start of a room on
-abbrev pub Walks : Printed → List ℕ → FormattingOptions → List ℕ → List ℕ → Type 0
-Walks printed left options tree room = Shown printed left (file_events options tree) (going room at_start) (read_file 64 tree).end
+-- the run of a file's events, from the start of a room on
+abbrev pub file_run : FormattingOptions → List ℕ → List ℕ → Run
+file_run options tree room = settled (run (file_events options tree) (going room at_start))
 
--- its answer
-abbrev pub printed_answer : Printed → Answer
-printed_answer (Done state end) = Ok state.used
-printed_answer (Refused why) = Err why
+-- what the walk says of it
+abbrev pub file_walked : FormattingOptions → List ℕ → List ℕ → Result Walked Refusal
+file_walked options tree room = walked_of (file_run options tree room) (read_file 64 tree).end
 
 -- it went on to the tree's last byte, and no text can hold a byte above 127: the tree is accepted
-unfoldable pub settles : List ℕ → Printed → Bool
-settles tree (Done state end) = eqb end (length tree) && plain_tree tree
-settles tree (Refused why) = false
+unfoldable pub settles : List ℕ → Result Walked Refusal → Bool
+settles tree (Ok walked) = eqb walked.at (length tree) && plain_tree tree
+settles tree (Err why) = false

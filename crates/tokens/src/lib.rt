@@ -4,13 +4,15 @@
 ghost use Rattle.std.specs.Prelude.{◌≡◌, length, Ok};
 ghost use Rattle.answers.specs.Numbers.{numbers};
 ghost use Rattle.options.specs.Types.{Narrow};
+ghost use Rattle.printing.specs.Running.{room_of};
 ghost use Rattle.tokens.specs.Chunks.{held_with, room_with, one_pass_with, chunks_held, chunks_answer, RoomHolds, chunks_room, one_pass_room};
 ghost use Rattle.tokens.specs.Chunks.{numbers_held};
-ghost use Rattle.tokens.specs.Settling.{Walks, printed_answer, settles};
+ghost use Rattle.tokens.specs.Settling.{file_run, file_walked, settles};
 
-use answers::{Answer, Checked};
+use answers::{Answer, Refusal};
 use options::FormattingOptions;
-use printing::{CodeFormatter, Context, Printed};
+use printers::{Printer, Walked};
+use printing::Context;
 use tree::check;
 
 pub mod fronts;
@@ -18,26 +20,18 @@ pub mod plain;
 pub mod walk;
 
 // The walk over a whole tree into an empty room.
-fn walk_file(tree: &[u8], options: FormattingOptions, room: &mut [u8]) -> Printed
+fn walk_file(tree: &[u8], options: FormattingOptions, room: &mut [u8]) -> Result<Walked, Refusal>
     requires { Narrow options }
-    ensures { Walks result room.new options tree.now room.old }
+    ensures answer { result ≡ file_walked options tree.now room.old }
+    ensures room { room.new ≡ room_of (file_run options tree.now room.old) }
 {
     let context = Context {
         options: options,
         indent: 0,
     };
-    let start = Printed::Done(CodeFormatter::new(), 0);
-    walk::format_tokens(tree, room, context, 64, false, start)
-}
-
-// What a walk answers by itself: the used length, or why it ended.
-fn printed_answer(printed: Printed) -> Answer
-    ensures { result ≡ printed_answer printed }
-{
-    match printed {
-        Printed::Done(state, _) => Ok(state.used),
-        Printed::Refused(refusal) => Err(refusal),
-    }
+    let mut printer = Printer::new(tree, room, context);
+    walk::format_tokens(&mut printer, 64, false);
+    printer.answer()
 }
 
 // The walk under given options: refusals 3, 4, 5, 7 and 8.
@@ -49,12 +43,8 @@ fn chunks_with(tree: &[u8], options: FormattingOptions, room: &mut [u8]) -> Answ
         RoomHolds held room.new }
     ensures room { room.new ≡ room_with (Ok options) tree.now room.old }
 {
-    let checked = tree::check_tree(tree);
-    if let Err(refusal) = checked {
-        return Err(refusal);
-    }
-    let printed = walk_file(tree, options, room);
-    printed_answer(printed)
+    tree::check_tree(tree)?;
+    walk_file(tree, options, room).map(|walked| walked.used)
 }
 
 // The chunks of a stored tree under stored options, stored at the start of the work room; or refusal 1, 2, 3, 4, 5, 7
@@ -68,25 +58,19 @@ pub fn chunks(tree: &[u8], options: &[u8], room: &mut [u8]) -> Answer
     ensures numbers { let held = chunks_held tree.now options.now (length room.old) in
         numbers result ≡ numbers_held held }
 {
-    let read = options::read_options(options);
-    match read {
-        Ok(options) => chunks_with(tree, options, room),
-        Err(refusal) => Err(refusal),
-    }
+    let options = options::read_options(options)?;
+    chunks_with(tree, options, room)
 }
 
 // Whether the walk's answer says by itself that the tree is accepted. Every record that a walk passes is judged, so one
 // that went on to the last byte has met no refusal 4 or 5, and in a plain tree there is no 7.
-fn settles(tree: &[u8], printed: Printed) -> bool
-    ensures { result ≡ settles tree.now printed }
+fn settles(tree: &[u8], walked: Result<Walked, Refusal>) -> bool
+    ensures { result ≡ settles tree.now walked }
 {
-    let Printed::Done(_, end) = printed else {
-        return false;
-    };
-    if end != tree.len() {
-        return false;
+    match walked {
+        Ok(walked) => walked.at == tree.len() && check::is_plain(tree),
+        Err(_) => false,
     }
-    check::is_plain(tree)
 }
 
 // The walk under given options before the check: refusals 3, 4, 5, 7 and 8.
@@ -99,20 +83,12 @@ fn one_pass_with(tree: &[u8], options: FormattingOptions, room: &mut [u8]) -> An
     ensures room { room.new ≡ one_pass_with (Ok options) tree.now room.old }
 {
     // a tree of a wrong length, however long, is refused without a look at its bytes
-    let sized = check::check_length(tree, 65535);
-    if let Err(refusal) = sized {
-        return Err(refusal);
+    check::check_length(tree, 65535)?;
+    let walked = walk_file(tree, options, room);
+    if !settles(tree, walked) {
+        tree::check_tree(tree)?;
     }
-    let printed = walk_file(tree, options, room);
-    let answer = printed_answer(printed);
-    if settles(tree, printed) {
-        return answer;
-    }
-    let checked = tree::check_tree(tree);
-    if let Err(refusal) = checked {
-        return Err(refusal);
-    }
-    answer
+    walked.map(|walked| walked.used)
 }
 
 // `chunks` for a caller who clears the room after every answer: the tree is walked first, and checked only where the
@@ -127,9 +103,6 @@ pub fn chunks_in_one_pass(tree: &[u8], options: &[u8], room: &mut [u8]) -> Answe
     ensures numbers { let held = chunks_held tree.now options.now (length room.old) in
         numbers result ≡ numbers_held held }
 {
-    let read = options::read_options(options);
-    match read {
-        Ok(options) => one_pass_with(tree, options, room),
-        Err(refusal) => Err(refusal),
-    }
+    let options = options::read_options(options)?;
+    one_pass_with(tree, options, room)
 }

@@ -1,66 +1,62 @@
 // The walk: a token opens a block, a block opens a token list, and a list returns to tokens.
-ghost use Rattle.std.specs.Prelude.{◌≡◌, true, false, ◌-◌, ◌<◌, ◌≤◌, Some};
+ghost use Rattle.std.specs.Prelude.{◌≡◌, true, false, ◌-◌, ◌<◌, ◌≤◌};
 ghost use Rattle.tree.specs.Kinds as kinds;
-ghost use Rattle.tree.specs.Grammar.{kind_of};
 ghost use Rattle.tree.specs.Reading.{read};
 ghost use Rattle.tree.specs.declared.grammar.Class.TheVariants as class;
-ghost use Rattle.tree.specs.declared.grammar.Kind.{Kind};
-ghost use Rattle.printing.specs.Running.{Prints};
+ghost use Rattle.tree.specs.Grammar.{kind_number};
 ghost use Rattle.events.specs.Printed.{plain};
 ghost use Rattle.events.specs.Trees as Trees;
 ghost use Rattle.events.specs.Trees.{events_in};
-ghost use Rattle.leaves.specs.Records.{PrintsField, PrintsNode};
 ghost use Rattle.leaves.specs.Lists.{items_end};
+ghost use Rattle.printers.specs.Going.{Goes};
+ghost use Rattle.printers.specs.Records.{GoesField, GoesNode};
 ghost use Rattle.leads.specs.Leads.{before_of};
-ghost use Rattle.tokens.specs.Inner.{token_class, inner_of, Ends, Narrow, else_front, branch_events, branches_end, listed_events};
-ghost use Rattle.tokens.specs.Tokens.{PrintsTokens, each_events};
+ghost use Rattle.tokens.specs.Inner.{inner_of, token_class, Ends, Narrow, else_front, branch_events, branches_end};
+ghost use Rattle.tokens.specs.Inner.{dropping, GoesListed, KindIs};
+ghost use Rattle.tokens.specs.Tokens.{GoesTokens, each_events};
 
 use crate::{fronts, plain};
-use leads::{Before, Lead};
-use leaves::record::Opened;
-use leaves::{leaf, record};
 use options::BracePosition;
-use printing::{Context, Printed};
-use text::numbers;
-use tree::grammar::Class;
-use tree::kinds;
+use printers::{Printer, leaf, record};
+use printing::Context;
+use tree::grammar::{Class, Kind};
 
 // What stands inside a token.
 #[derive(Clone, Copy)]
 pub enum Inner {
     Nothing,
-    Block(bool),
-    Token(bool, bool),
-    Branches,
+    Block { stands: bool },
+    Token { stands: bool, located: bool },
+    Branches { other: bool },
 }
 
-// What stands inside a token, by the number of its kind: a block, a token, two branches, or nothing of these.
-fn inner_of(number: usize, bits: usize) -> Inner
-    ensures { result ≡ inner_of number bits }
+// What stands inside a token, by its kind: a block, a token, two branches, or nothing of these.
+fn inner_of(kind: Kind, bits: usize) -> Inner
+    ensures { result ≡ inner_of kind bits }
 {
-    match number {
-        kinds::CONFIG_PAIR => Inner::Token(true, true),
-        kinds::DEFINITION => Inner::Token(record::stands(bits, 2), false),
-        kinds::IF => Inner::Branches,
-        kinds::IMPORT => Inner::Block(record::stands(bits, 4)),
-        kinds::LABEL => Inner::Block(record::stands(bits, 2)),
-        kinds::SEGMENT => Inner::Block(record::stands(bits, 2)),
-        kinds::BRACES => Inner::Block(true),
-        kinds::CONFIG => Inner::Block(true),
-        kinds::LOOP => Inner::Block(true),
-        kinds::MACRO_DEFINITION => Inner::Block(true),
-        kinds::TEST => Inner::Block(true),
+    match kind {
+        Kind::ConfigPair => Inner::Token {
+            stands: true,
+            located: true,
+        },
+        Kind::Definition => Inner::Token {
+            stands: record::stands(bits, 2),
+            located: false,
+        },
+        Kind::If => Inner::Branches {
+            other: record::stands(bits, 3),
+        },
+        Kind::Import => Inner::Block {
+            stands: record::stands(bits, 4),
+        },
+        Kind::Label | Kind::Segment => Inner::Block {
+            stands: record::stands(bits, 2),
+        },
+        Kind::Braces | Kind::Config | Kind::Loop | Kind::MacroDefinition | Kind::Test => {
+            Inner::Block { stands: true }
+        }
         _ => Inner::Nothing,
     }
-}
-
-fn token_class(located: bool) -> Class
-    ensures { result ≡ token_class located }
-{
-    if located {
-        return Class::LocatedToken;
-    }
-    Class::BareToken
 }
 
 // The context inside a block.
@@ -68,293 +64,198 @@ fn deeper(context: Context) -> Context
     requires { (context.options.whitespace.indent ≤ 64) × (context.indent ≤ 4096) }
     ensures { result ≡ Trees.deeper context }
 {
-    let options = context.options;
-    let whitespace = options.whitespace;
-    let indent = whitespace.indent;
     Context {
-        options: options,
-        indent: context.indent + indent,
+        options: context.options,
+        indent: context.indent + context.options.whitespace.indent,
     }
 }
 
 // The opening brace, on the same line or on a new one.
-fn open_block(
-    tree: &[u8],
-    room: &mut [u8],
-    context: Context,
-    levels: usize,
-    last: Printed,
-) -> Printed
-    ensures { let reader = read levels tree.now in
-        Prints result room.new last room.old
-        (λ at. Trees.opening context context.options.braces.position
-        (events_in context (Trees.leaf plain) false (reader class.OpenBrace at).tree))
-        (λ at. (reader class.OpenBrace at).end) }
+fn open_block(printer: &mut Printer, levels: usize)
+    ensures { Goes printer.old printer.new
+        (λ page at.
+        let brace = events_in page.context (Trees.leaf plain) false (read levels page.tree class.OpenBrace at).tree in
+        Trees.opening page.context page.context.options.braces.position brace)
+        (λ page at. (read levels page.tree class.OpenBrace at).end) }
 {
-    let options = context.options;
-    let braces = options.braces;
-    let position = braces.position;
-    match position {
+    if let BracePosition::NewLine = printer.context.options.braces.position {
+        printer.push(b"\n");
+    }
+    leaf::format_leaf(printer, levels, leaf::OPEN_BRACE);
+    printer.push(b"\n");
+}
+
+// What stands between the branches of an `If`.
+fn format_else(printer: &mut Printer, levels: usize)
+    ensures { Goes printer.old printer.new
+        (λ page at.
+        let tag = events_in page.context (Trees.leaf plain) true (read levels page.tree class.Word at).tree in
+        else_front page.context page.context.options.braces.position tag)
+        (λ page at. (read levels page.tree class.Word at).end) }
+{
+    match printer.context.options.braces.position {
         BracePosition::SameLine => {
-            let lparen = leaf::open_brace(tree, room, context, levels, last);
-            lparen.push(room, context, b"\n")
+            printer.push(b" ");
+            leaf::format_leaf(printer, levels, leaf::WORD);
+            printer.push(b" ");
         }
         BracePosition::NewLine => {
-            let line = last.push(room, context, b"\n");
-            let lparen = leaf::open_brace(tree, room, context, levels, line);
-            lparen.push(room, context, b"\n")
+            printer.push(b"\n");
+            leaf::format_leaf(printer, levels, leaf::WORD);
         }
     }
 }
 
-// What stands between the branches of an `If`.
-fn format_else(
-    tree: &[u8],
-    room: &mut [u8],
-    context: Context,
-    levels: usize,
-    last: Printed,
-) -> Printed
-    ensures { let reader = read levels tree.now in
-        Prints result room.new last room.old
-        (λ at. else_front context context.options.braces.position
-        (events_in context (Trees.leaf plain) true (reader class.Word at).tree))
-        (λ at. (reader class.Word at).end) }
+// The class of a token inside a token.
+fn token_class(located: bool) -> Class
+    ensures { result ≡ token_class located }
 {
-    let options = context.options;
-    let braces = options.braces;
-    let position = braces.position;
-    match position {
-        BracePosition::SameLine => {
-            let gap = last.push(room, context, b" ");
-            let tag = leaf::word(tree, room, context, levels, gap);
-            tag.push(room, context, b" ")
-        }
-        BracePosition::NewLine => {
-            let line = last.push(room, context, b"\n");
-            leaf::word(tree, room, context, levels, line)
-        }
+    if located {
+        Class::LocatedToken
+    } else {
+        Class::BareToken
     }
 }
 
 // A token, by its kind: what it prints before the block or the token inside it, and that.
 #[cycle(token)]
-fn format_token(
-    tree: &[u8],
-    room: &mut [u8],
-    context: Context,
-    levels: usize,
-    stands: bool,
-    located: bool,
-    shown: bool,
-    last: Printed,
-) -> Printed
-    requires { Narrow context levels }
-    ensures { PrintsField result room.new last room.old context (Trees.leaf plain) shown levels
-        tree.now (token_class located) stands }
+fn format_token(printer: &mut Printer, levels: usize, stands: bool, located: bool)
+    requires { Narrow printer.old.context levels }
+    ensures { let place = Trees.leaf plain in
+        GoesField printer.old printer.new place true levels (token_class located) stands }
 {
-    let Printed::Done(_, at) = last else {
-        return last;
-    };
     let class = token_class(located);
-    let opened = record::open(tree, room, context, levels, class, stands, shown, last);
-    let Opened::Record(own, state) = opened else {
-        return record::closed(opened);
+    let Some(own) = record::open(printer, levels, class, stands, true) else {
+        return;
     };
-    let number = numbers::byte_at(tree, at);
-    let start = Printed::Done(state, own.end);
-    format_inner(tree, room, context, levels - 1, number, own.map / 2, start)
+    format_inner(printer, levels - 1, own.kind, own.map / 2);
 }
 
-// A token of a list, and what stands before it. What the lead-in has read is not read again: the token's own bytes, and
-// those of its head where that is the mnemonic of an `Instruction`, the size of a `Data` or the id of a `Label`. A
-// label without a block ends with what stands before one.
+// A token of a list, and what stands before it; its kind, or none where the walk ended before it. What the lead-in has
+// read is not read again: the token's own bytes, and those of its head where that is the mnemonic of an `Instruction`,
+// the size of a `Data` or the id of a `Label`. A label without a block ends with what stands before one.
 #[cycle(token)]
 fn format_listed_token(
-    tree: &[u8],
-    room: &mut [u8],
-    context: Context,
+    printer: &mut Printer,
     levels: usize,
     drops: bool,
-    before: Before,
-    last: Printed,
-) -> Printed
-    requires { Narrow context levels }
-    ensures { let reader = read levels tree.now in
-        Prints result room.new last room.old
-        (λ at. listed_events context drops (before_of before) (reader class.BareToken at).tree)
-        (λ at. (reader class.BareToken at).end) }
+    before: Option<Kind>,
+) -> Option<Kind>
+    requires { Narrow printer.old.context levels }
+    ensures goes { GoesListed printer.old printer.new drops (before_of before) levels }
+    ensures kind { KindIs printer.old printer.new levels result }
 {
-    let Printed::Done(_, at) = last else {
-        return last;
-    };
-    let lead = leads::format_lead_in(tree, room, context, levels, drops, before, last);
-    let Lead::Ready(own, head, state) = lead else {
-        return leads::over(lead);
-    };
-    let number = numbers::byte_at(tree, at);
+    let lead = leads::format_lead_in(printer, levels, drops, before)?;
+    let kind = lead.token.kind;
+    let bits = lead.token.map / 2;
     let below = levels - 1;
-    let bits = own.map / 2;
-    if number == kinds::INSTRUCTION {
-        return plain::format_listed_instruction(tree, room, context, below, bits, head, state);
-    }
-    if number == kinds::DATA {
-        return plain::format_sized(tree, room, context, below, own.end, head, state);
-    }
-    if number == kinds::LABEL {
-        let front = fronts::format_listed_label(tree, room, context, below, head, state);
-        if !record::stands(bits, 2) {
-            return front;
+    match kind {
+        Kind::Instruction => {
+            plain::format_listed_instruction(printer, below, bits, lead.head);
         }
-        return format_block(tree, room, context, below, true, front);
+        Kind::Data => plain::format_sized(printer, below, lead.head),
+        Kind::Label => {
+            fronts::format_listed_label(printer, below, lead.head);
+            format_block(printer, below, record::stands(bits, 2));
+        }
+        _ => format_inner(printer, below, kind, bits),
     }
-    let start = Printed::Done(state, own.end);
-    format_inner(tree, room, context, below, number, bits, start)
+    Some(kind)
 }
 
 // A token whose own bytes were read: what it prints before the block or the token inside it, and that.
 #[cycle(token)]
-fn format_inner(
-    tree: &[u8],
-    room: &mut [u8],
-    context: Context,
-    levels: usize,
-    number: usize,
-    bits: usize,
-    last: Printed,
-) -> Printed
-    requires narrow { Narrow context levels }
-    requires ends { Ends number bits }
-    ensures { number ≤ kinds.variable_definition → (kind : Kind) → kind_of number ≡ Some kind
-        → PrintsNode result room.new last room.old context kind bits levels tree.now }
+fn format_inner(printer: &mut Printer, levels: usize, kind: Kind, bits: usize)
+    requires narrow { Narrow printer.old.context levels }
+    requires ends { Ends kind bits }
+    ensures { kind_number kind ≤ kinds.variable_definition
+        → GoesNode printer.old printer.new kind bits levels }
 {
-    let inner = inner_of(number, bits);
+    let inner = inner_of(kind, bits);
     if let Inner::Nothing = inner {
-        return plain::format_plain_token(tree, room, context, levels, number, bits, last);
+        plain::format_plain_token(printer, levels, kind, bits);
+        return;
     }
-    let front = fronts::format_token_front(tree, room, context, levels, number, last);
+    fronts::format_token_front(printer, levels, kind);
     match inner {
-        Inner::Block(stands) => format_block(tree, room, context, levels, stands, front),
-        Inner::Token(stands, located) => {
-            format_token(tree, room, context, levels, stands, located, true, front)
-        }
-        Inner::Branches => {
-            format_branches(tree, room, context, levels, record::stands(bits, 3), front)
-        }
-        Inner::Nothing => front,
+        Inner::Block { stands } => format_block(printer, levels, stands),
+        Inner::Token { stands, located } => format_token(printer, levels, stands, located),
+        Inner::Branches { other } => format_branches(printer, levels, other),
+        Inner::Nothing => {}
     }
 }
 
 // The branches of an `If`.
 #[cycle(token)]
-fn format_branches(
-    tree: &[u8],
-    room: &mut [u8],
-    context: Context,
-    levels: usize,
-    other: bool,
-    last: Printed,
-) -> Printed
-    requires { Narrow context levels }
-    ensures { let reader = read levels tree.now in
-        Prints result room.new last room.old
-        (λ at. branch_events context other reader at)
-        (λ at. branches_end other reader at) }
+fn format_branches(printer: &mut Printer, levels: usize, other: bool)
+    requires { Narrow printer.old.context levels }
+    ensures { Goes printer.old printer.new
+        (λ page at. branch_events page.context other (read levels page.tree) at)
+        (λ page at. branches_end other (read levels page.tree) at) }
 {
-    let then = format_block(tree, room, context, levels, true, last);
-    if !other {
-        return then;
+    format_block(printer, levels, true);
+    if other {
+        format_else(printer, levels);
+        format_block(printer, levels, true);
     }
-    let tag = format_else(tree, room, context, levels, then);
-    format_block(tree, room, context, levels, true, tag)
 }
 
 // A block that may stand or not: its list has exactly one newline behind it, and stands further in.
 #[cycle(token)]
-fn format_block(
-    tree: &[u8],
-    room: &mut [u8],
-    context: Context,
-    levels: usize,
-    stands: bool,
-    last: Printed,
-) -> Printed
-    requires { Narrow context levels }
-    ensures { PrintsField result room.new last room.old context (Trees.leaf plain) true levels
-        tree.now class.BlockRecord stands }
+fn format_block(printer: &mut Printer, levels: usize, stands: bool)
+    requires { Narrow printer.old.context levels }
+    ensures { let place = Trees.leaf plain in
+        GoesField printer.old printer.new place true levels class.BlockRecord stands }
 {
-    let class = Class::BlockRecord;
-    let opened = record::open(tree, room, context, levels, class, stands, true, last);
-    let Opened::Record(own, state) = opened else {
-        return record::closed(opened);
+    let Some(_) = record::open(printer, levels, Class::BlockRecord, stands, true) else {
+        return;
     };
-    let start = Printed::Done(state, own.end);
-    let lparen = open_block(tree, room, context, levels - 1, start);
-    let inner = format_tokens(tree, room, deeper(context), levels - 1, true, lparen);
-    let trimmed = inner.trim_newlines();
-    let line = trimmed.push(room, context, b"\n");
-    leaf::close_brace(tree, room, context, levels - 1, line)
+    open_block(printer, levels - 1);
+    let context = printer.context;
+    printer.context = deeper(context);
+    format_tokens(printer, levels - 1, true);
+    printer.context = context;
+    printer.trim_newlines();
+    printer.push(b"\n");
+    leaf::format_leaf(printer, levels - 1, leaf::CLOSE_BRACE);
+}
+
+// Whether the newlines first in a list are dropped: those of a block, before its first token.
+fn drops_newlines(block: bool, before: Option<Kind>) -> bool
+    ensures { result ≡ dropping block before }
+{
+    block && before.is_none()
 }
 
 // A token list: the file's, or that of a block, whose first newlines are dropped and whose `}` stands for an end.
 #[cycle(token)]
-pub(crate) fn format_tokens(
-    tree: &[u8],
-    room: &mut [u8],
-    context: Context,
-    levels: usize,
-    block: bool,
-    last: Printed,
-) -> Printed
-    requires { Narrow context levels }
-    ensures { PrintsTokens result room.new last room.old context block levels tree.now }
+pub(crate) fn format_tokens(printer: &mut Printer, levels: usize, block: bool)
+    requires { Narrow printer.old.context levels }
+    ensures { GoesTokens printer.old printer.new block levels }
 {
-    let opened = record::open(tree, room, context, levels, Class::Tokens, true, true, last);
-    let Opened::Record(own, state) = opened else {
-        return record::closed(opened);
+    let Some(own) = record::open(printer, levels, Class::Tokens, true, true) else {
+        return;
     };
-    let start = Printed::Done(state, own.end);
-    format_each_token(tree, room, context, levels, block, own.count, start)
+    format_each_token(printer, levels, block, own.count);
 }
 
 // So many tokens, and the end of their list; `levels` are those of the list.
 #[cycle(token)]
-fn format_each_token(
-    tree: &[u8],
-    room: &mut [u8],
-    context: Context,
-    levels: usize,
-    block: bool,
-    count: usize,
-    last: Printed,
-) -> Printed
-    requires narrow { Narrow context levels }
+fn format_each_token(printer: &mut Printer, levels: usize, block: bool, count: usize)
+    requires narrow { Narrow printer.old.context levels }
     requires levels_nonzero { 0 < levels }
-    ensures { let reader = read (levels - 1) tree.now in
-        Prints result room.new last room.old
-        (λ at. each_events context block levels tree.now count at)
-        (λ at. items_end reader class.BareToken count at) }
+    ensures { Goes printer.old printer.new
+        (λ page at. each_events page.context block levels page.tree count at)
+        (λ page at. items_end (read (levels - 1) page.tree) class.BareToken count at) }
 {
-    let mut answer = last;
-    let mut before = Before {
-        first: true,
-        previous: 0,
-    };
-    let mut left = count;
-    while 0 < left {
-        let Printed::Done(_, at) = answer else {
-            return answer;
-        };
-        let drops = block && before.first;
-        answer = format_listed_token(tree, room, context, levels - 1, drops, before, answer);
-        before = Before {
-            first: false,
-            previous: numbers::byte_at(tree, at),
-        };
-        left -= 1;
+    let mut before = None;
+    for _ in 0..count {
+        before = format_listed_token(printer, levels - 1, drops_newlines(block, before), before);
+        if before.is_none() {
+            return;
+        }
     }
     if block {
-        return leads::format_lead_out(tree, room, context, levels, before.first, before, answer);
+        leads::format_lead_out(printer, levels, drops_newlines(block, before), before);
     }
-    answer.settled()
 }

@@ -2,16 +2,20 @@
 use Rattle.std.specs.Prelude.{Option, Result, Some, None, Ok, Err}
 use Rattle.answers.specs.Numbers.{Checked}
 use mathlib.Core.Path.{◌≡◌, refl, sym, ap, ◌∙◌}
+use mathlib.Core.Bool.{false}
 use mathlib.Core.List.{List, [], ◌∷◌}
 use Prim.Native.Nat.{ℕ, zero, suc, ◌+◌, ◌-◌, ◌%◌, ◌≤◌, ◌<◌}
 use native.Mathlib.Omega.{arith}
-use lib.Dec.{eqb}
+use lib.Dec.{eqb, leb}
+use Rattle.std.proofs.Common.{cond}
 use lib.ListN.{length, get_or}
 use lib.Seq.{slice, slice_empty}
-use borrow.Author.Tests.{eq-eqb, ne_eqb, le-leb, lt-leb}
+use borrow.Author.Tests.{eq-eqb, ne_eqb, le-leb, lt-leb, lt-ltb}
 use Rattle.answers.specs.declared.Refusal.{Refusal}
 use Rattle.text.specs.Numbers.{number_at}
 use Rattle.text.proofs.Choices.{by_test}
+use Rattle.tree.specs.Codes.{code_of, code_number}
+use Rattle.tree.specs.declared.codes.Code.{Code}
 use Rattle.tree.specs.Grammar.{Slot}
 use Rattle.tree.specs.Own.{layout, trivium_end, read_own}
 use Rattle.tree.specs.Reading.{Placed, slot_class, trivium_behind, trivium_text, trivia_from, read}
@@ -22,6 +26,7 @@ use Rattle.tree.specs.declared.grammar.Class.{Class}
 use Rattle.tree.specs.declared.own.Own.{Own}
 use Rattle.tree.specs.declared.parts.TriviumSpan.{TriviumSpan}
 use Rattle.tree.proofs.Rows.{row_first, row_none}
+use Rattle.tree.proofs.Coded.{code_is, no_code}
 use Rattle.tree.proofs.OwnBytes.{item_held, own_cases, own_fits}
 use Rattle.tree.proofs.KindNumbers.{none_at}
 use Rattle.tree.specs.Grammar.{kind_of}
@@ -56,21 +61,25 @@ skip_read levels bytes class at fault read_record found same is =
 
 -- an item that was read: its code, its text, which lies within the bytes, and the place behind it
 pub record ItemRead (bytes : List ℕ) (at : ℕ) (item : TriviumSpan) : Type 0 where
-  pub code : item.code ≡ get_or bytes at 0
+  pub code : code_number item.code ≡ get_or bytes at 0
   pub text : slice item.start item.end bytes ≡ trivium_text bytes at
   pub order : item.start ≤ item.end
   pub inside : item.end ≤ length bytes
   pub behind : item.end ≡ trivium_behind bytes at
 
 -- the item up to the place that `trivium_end` gives is one
-item_here : (bytes : List ℕ) (at end : ℕ) → trivium_end bytes at ≡ Some end
-    → ItemRead bytes at (item_to bytes at end)
-item_here bytes at end is =
+item_here : (bytes : List ℕ) (at end : ℕ) (item : TriviumSpan) (found : Option Code) → trivium_end bytes at ≡ Some end → code_of (get_or bytes at 0) ≡ found
+    → item_to at end found ≡ Some item → ItemRead bytes at item
+item_here bytes at end item None is known e = let z : ◌≡◌ {A = ℕ} 0 1 = cc in absurd (omega arith)
+item_here bytes at end item (Some code) is known e =
     let held = item_held bytes at end is in
     let item_end = held.0.inside in
-    by_test (eqb (get_or bytes at 0) 1)
+    let byte = code_is (get_or bytes at 0) code known in
+    let same : record { code = code; start = cond (eqb (code_number code) 1) end (at + 3); end = end } ≡ item = cc in
+    rw (← same, byte)
+    (by_test (eqb (get_or bytes at 0) 1)
     (λ t. record {
-      code = refl;
+      code = byte;
       text = rw t (slice_empty end bytes);
       order = rw t (omega arith);
       inside = omega arith;
@@ -79,16 +88,16 @@ item_here bytes at end is =
     (λ t.
     let behind_text : end ≡ at + 3 + number_at bytes (at + 1) = rw t at (sym held.1) in
     record {
-      code = refl;
+      code = byte;
       text = rw t (ap (λ (behind : ℕ). slice (at + 3) behind bytes) behind_text);
       order = rw t (omega arith);
       inside = omega arith;
       behind = sym held.1;
-    })
+    }))
 
 -- by what `trivium_end` gives
 item_on : (bytes : List ℕ) (at : ℕ) (item : TriviumSpan) (span : Option ℕ) → trivium_end bytes at ≡ span → trivium_on bytes at span ≡ Some item → ItemRead bytes at item
-item_on bytes at item (Some end) is e = let same : item_to bytes at end ≡ item = cc in rw (← same) (item_here bytes at end is)
+item_on bytes at item (Some end) is e = item_here bytes at end item (code_of (get_or bytes at 0)) is refl e
 item_on bytes at item None is e = let z : ◌≡◌ {A = ℕ} 0 1 = cc in absurd (omega arith)
 
 -- what `trivium_at` finds is one
@@ -96,9 +105,28 @@ pub item_read : (bytes : List ℕ) (at : ℕ) (item : TriviumSpan) → trivium_a
 unfolding trivium_at
 item_read bytes at item e = item_on bytes at item (trivium_end bytes at) refl e
 
+-- where `trivium_end` gives a place one is found up to there
+item_found : (bytes : List ℕ) (at end : ℕ) (code : Option Code) → trivium_end bytes at ≡ Some end → code_of (get_or bytes at 0) ≡ code
+    → (item : TriviumSpan) × (item_to at end code ≡ Some item) × (item.end ≡ end)
+unfolding trivium_end
+item_found bytes at end (Some code) is known = (record { code = code; start = cond (eqb (code_number code) 1) end (at + 3); end = end }, refl, refl)
+item_found bytes at end None is known =
+    let byte = get_or bytes at 0 in
+    let past = no_code byte known in
+    let other : eqb byte 1 ≡ false = ne_eqb byte 1 (λ same. omega (arith, same, past)) in
+    by_test (leb (length bytes) at)
+    (λ over. let none : None ≡ Some end = rw over at is in let z : ◌≡◌ {A = ℕ} 0 1 = cc in absurd (omega arith))
+    (λ here. let none : None ≡ Some end = rw (here, other, lt-ltb 3 byte past) at is in let z : ◌≡◌ {A = ℕ} 0 1 = cc in absurd (omega arith))
+
+pub item_stands : (bytes : List ℕ) (at end : ℕ) → trivium_end bytes at ≡ Some end → (item : TriviumSpan) × (trivium_at bytes at ≡ Some item) × (item.end ≡ end)
+unfolding trivium_at
+item_stands bytes at end is =
+    let found = item_found bytes at end (code_of (get_or bytes at 0)) is refl in
+    (found.0, ap (trivium_on bytes at) is ∙ found.1, found.2)
+
 -- it is the first of the items that stand there
 pub items_first : (bytes : List ℕ) (at count : ℕ) (item : TriviumSpan) → trivium_at bytes at ≡ Some item
-    → trivia_from bytes at (suc count) ≡ record { code = item.code; text = slice item.start item.end bytes } ∷ trivia_from bytes item.end count
+    → trivia_from bytes at (suc count) ≡ record { code = code_number item.code; text = slice item.start item.end bytes } ∷ trivia_from bytes item.end count
 unfolding trivia_from
 items_first bytes at count item e = let this = item_read bytes at item e in rw (this.code, this.text, this.behind)
 

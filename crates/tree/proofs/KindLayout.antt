@@ -10,17 +10,13 @@ use lib.Dec.{eqb}
 use borrow.Author.Tests.{eqb-true}
 use Rattle.text.specs.Ink.{flat}
 use Rattle.text.proofs.Choices.{by_test, true_false, and_true_left, and_true_right}
-use Rattle.tree.specs.Grammar.{all_kinds, kind_of, fields}
+use Rattle.tree.specs.Grammar.{all_kinds, kind_of, kind_number, fields}
 use Rattle.tree.specs.Tree.{Tree, Trivium, absent, chain, built}
 use Rattle.tree.specs.Stored.{stored_node, stored_leaf, item_count, stored_with, stored}
 use Rattle.tree.specs.declared.grammar.Kind.{Kind}
 use Rattle.tree.specs.declared.grammar.Kind.TheVariants as variant
 use Rattle.tree.specs.declared.grammar.Class.{Class}
 use Rattle.tree.proofs.OwnBytes.{leaf_number}
-
--- the number of a kind: the first byte of its stored form
-unfoldable pub kind_number : Kind → ℕ
-kind_number kind = get_or (stored_with [] (built kind [] [])) 0 0
 
 -- the stored forms of so many trees from a place of a list on
 abbrev pub forms_from : ℕ → ℕ → List Tree → List (List ℕ)
@@ -31,7 +27,7 @@ forms_from place (suc count) trees = stored (get_or trees place absent) ∷ form
 pub node_stored : (kind : Kind) (value : Class) (trivia : List Trivium) (text : List ℕ) (trees : List Tree)
     → eqb (kind_number kind) 24 ≡ false → leaf_number (kind_number kind) ≡ false
     → stored_with trivia (built kind text trees) ≡ stored_node (kind_number kind) trivia (forms_from 0 (length (fields kind value)) trees)
-unfolding kind_number stored_with built
+unfolding stored_with built
 node_stored variant.Align value trivia text trees list leaf = refl
 node_stored variant.Assert value trivia text trees list leaf = refl
 node_stored variant.Braces value trivia text trees list leaf = refl
@@ -93,7 +89,6 @@ number_in_order first (here ∷ others) (suc number) kind order e =
 
 -- the byte of a kind is its number
 pub kind_number_lem : (number : ℕ) (kind : Kind) → kind_of number ≡ Some kind → kind_number kind ≡ number
-unfolding kind_number stored_with built
 kind_number_lem number kind e = omega (arith, number_in_order 0 all_kinds number kind refl e)
 
 -- the forms of trees behind the first

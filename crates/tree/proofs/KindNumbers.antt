@@ -6,9 +6,10 @@ use mathlib.Core.Logic.{◌⊎◌, ⊎_elim}
 use Prim.Native.Nat.{ℕ}
 use lib.Dec.{eqb}
 use borrow.Author.Tests.{eq-eqb, ne_eqb}
-use Rattle.tree.specs.Grammar.{kind_of}
+use Rattle.tree.specs.Grammar.{kind_of, kind_number}
 use Rattle.tree.specs.declared.grammar.Kind.{Kind}
 use Rattle.tree.specs.declared.grammar.Kind.TheVariants.{Leaf, PathItem}
+use Rattle.tree.specs.declared.grammar.Kind.TheVariants as variant
 use Rattle.tree.proofs.KindLayout.{kind_number_lem}
 
 module _ (number : ℕ) (kind : Kind) (known : kind_of number ≡ Some kind) where
@@ -41,3 +42,16 @@ module _ (number : ℕ) (kind : Kind) (known : kind_of number ≡ Some kind) whe
 pub none_at : (number : ℕ) → kind_of number ≡ None → (place : ℕ) (other : Kind) → kind_of place ≡ Some other → eqb number place ≡ false
 none_at number none place other is =
     ne_eqb _ _ (λ same. let z : None ≡ Some other = sym none ∙ ap kind_of same ∙ is in cc)
+
+-- the number of a kind is that of no other
+pub numbered : (kind : Kind) → kind_of (kind_number kind) ≡ Some kind
+numbered variant.Align = refl
+numbered other = refl
+
+-- so it is this one's just where the kind is
+module _ {kind other : Kind} (number : ℕ) (known : kind_of number ≡ Some other) where
+  pub this_number : kind ≡ other → eqb (kind_number kind) number ≡ true
+  this_number same = is_kind (kind_number kind) kind (numbered kind) number other known same
+
+  pub other_number : (kind ≡ other → ⊥) → eqb (kind_number kind) number ≡ false
+  other_number different = no_kind (kind_number kind) kind (numbered kind) number other known different

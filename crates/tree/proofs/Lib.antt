@@ -18,5 +18,6 @@ pub mod Faults
 pub mod Records
 pub mod Plain
 pub mod Judging
+pub mod Coded
 pub mod Heads
 pub mod Numbers

@@ -32,7 +32,8 @@ use Rattle.tree.specs.declared.grammar.TextRule.TheVariants.{NoText, Free, Byte}
 use Rattle.tree.specs.declared.own.Own.{Own}
 use Rattle.tree.specs.declared.own.TriviaSpan.{TriviaSpan}
 use Rattle.tree.proofs.Cases.{by_choice, both_passed}
-use Rattle.tree.proofs.KindLayout.{kind_number, node_stored, kind_number_lem, forms_all, items_counted, items_stored, leaf_stored}
+use Rattle.tree.specs.Grammar.{kind_number}
+use Rattle.tree.proofs.KindLayout.{node_stored, kind_number_lem, forms_all, items_counted, items_stored, leaf_stored}
 use Rattle.tree.proofs.Places.{Stands, none_stands, both_stand, part_stands, byte_stands, number_stands}
 use Rattle.tree.proofs.OwnBytes.{TextHeld, ItemHeld, Headed, leaf_number, items_held, trivia_cases, own_cases}
 use Rattle.tree.proofs.Readings.{every_reading, file_passed}

@@ -33,6 +33,52 @@ all_kinds =
 abbrev pub kind_of : ℕ → Option Kind
 kind_of byte = get_or (map Some all_kinds) byte None
 
+-- and the byte of a kind
+abbrev pub kind_number : Kind → ℕ
+kind_number kind.Align = kinds.align
+kind_number kind.Assert = kinds.assert
+kind_number kind.Braces = kinds.braces
+kind_number kind.Config = kinds.config
+kind_number kind.ConfigPair = kinds.config_pair
+kind_number kind.Data = kinds.«data»
+kind_number kind.Definition = kinds.definition
+kind_number kind.Eof = kinds.eof
+kind_number kind.Error = kinds.error
+kind_number kind.Expression = kinds.expression
+kind_number kind.If = kinds.if
+kind_number kind.Import = kinds.import
+kind_number kind.File = kinds.file
+kind_number kind.Instruction = kinds.instruction
+kind_number kind.Label = kinds.label
+kind_number kind.Loop = kinds.loop
+kind_number kind.MacroDefinition = kinds.macro_definition
+kind_number kind.MacroInvocation = kinds.macro_invocation
+kind_number kind.ProgramCounterDefinition = kinds.program_counter_definition
+kind_number kind.Segment = kinds.segment
+kind_number kind.Test = kinds.test
+kind_number kind.Text = kinds.text
+kind_number kind.Trace = kinds.trace
+kind_number kind.VariableDefinition = kinds.variable_definition
+kind_number kind.Vec = kinds.vec
+kind_number kind.Leaf = kinds.leaf
+kind_number kind.PathItem = kinds.path_item
+kind_number kind.Block = kinds.block
+kind_number kind.BinaryExpression = kinds.binary_expression
+kind_number kind.Factor = kinds.factor
+kind_number kind.CurrentProgramCounter = kinds.current_program_counter
+kind_number kind.ExprParens = kinds.expr_parens
+kind_number kind.FunctionCall = kinds.function_call
+kind_number kind.IdentifierValue = kinds.identifier_value
+kind_number kind.Number = kinds.number
+kind_number kind.StringFactor = kinds.string_factor
+kind_number kind.InterpolatedString = kinds.interpolated_string
+kind_number kind.Operand = kinds.operand
+kind_number kind.RegisterSuffix = kinds.register_suffix
+kind_number kind.ImportAs = kinds.import_as
+kind_number kind.ImportAll = kinds.import_all
+kind_number kind.SpecificImportArg = kinds.specific_import_arg
+kind_number kind.ArgItem = kinds.arg_item
+
 -- ---- the classes
 
 -- "Bit 0 may stand only where the Rust has a `Located`"

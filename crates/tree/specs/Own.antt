@@ -168,11 +168,6 @@ read_own bytes at class levels =
     cond (leb (length bytes) at) (Err (layout (length bytes)))
     (cond (eqb levels 0) (Err (record { reason = TreeDepth; place = at })) (own_at bytes at class))
 
--- the refusal that reading met; a record that was read has none, and the place behind it stands for one
-abbrev pub refusal_of : Result Own Refusal → Refusal
-refusal_of (Err refusal) = refusal
-refusal_of (Ok own) = layout own.end
-
 -- what holds of own bytes that were read: they stand behind the record's place and within the bytes, and their trivia items keep the layout
 pub record OwnFits (bytes : List ℕ) (at : ℕ) (own : Own) : Type 0 where
   pub behind : at + 2 ≤ own.text

@@ -8,6 +8,7 @@ use Rattle.tree.specs.Codes as codes
 use Rattle.tree.specs.Grammar.{Slot, rule, fields}
 use Rattle.tree.specs.Own.{layout, trivium_end, read_own}
 use Rattle.tree.specs.Reading.{slot_class, read}
+use Rattle.tree.specs.declared.codes.Code.{Code}
 use Rattle.tree.specs.declared.grammar.Class.{Class}
 use Rattle.tree.specs.declared.grammar.Class.TheVariants.{DataSize, BinaryOp, LocatedExpression, BareExpression, BlockRecord, ExpressionArguments}
 use Rattle.tree.specs.declared.own.Own.{Own}
@@ -24,19 +25,15 @@ skipped_on end (Err refusal) = Err refusal
 unfoldable pub skipped : ℕ → List ℕ → Class → ℕ → Result ℕ Refusal
 skipped levels bytes class at = skipped_on (read levels bytes class at).end (read levels bytes class at).checked
 
--- the refusal that skipping met; a record that was skipped has none, and the place behind it stands for one
-abbrev pub refused_skip : Result ℕ Refusal → Refusal
-refused_skip (Err refusal) = refusal
-refused_skip (Ok place) = layout place
-
 -- ---- a trivia item
 
 -- the item between a place and the place behind it: its code, and the places of its text, of which a newline has none
-abbrev pub item_to : List ℕ → ℕ → ℕ → TriviumSpan
-item_to bytes at end = record { code = get_or bytes at 0; start = cond (eqb (get_or bytes at 0) codes.newline) end (at + 3); end = end }
+abbrev pub item_to : ℕ → ℕ → Option Code → Option TriviumSpan
+item_to at end (Some code) = Some (record { code = code; start = cond (eqb (codes.code_number code) codes.newline) end (at + 3); end = end })
+item_to at end None = None
 
 abbrev pub trivium_on : List ℕ → ℕ → Option ℕ → Option TriviumSpan
-trivium_on bytes at (Some end) = Some (item_to bytes at end)
+trivium_on bytes at (Some end) = item_to at end (codes.code_of (get_or bytes at 0))
 trivium_on bytes at None = None
 
 -- "each a code (.. 1 newline ..) and, but for newline, a two-byte length and bytes"
@@ -98,11 +95,6 @@ head_behind levels bytes class at own =
 -- the head of a token's record: its place, its class and the levels left there, or the refusal that is met before it
 unfoldable pub head_at : ℕ → List ℕ → Class → ℕ → Result Head Refusal
 head_at levels bytes class at = head_on levels bytes class at (read_own bytes at class levels)
-
--- the refusal on the way to a head; a head that was found has none, and its place stands for one
-abbrev pub refused_head : Result Head Refusal → Refusal
-refused_head (Err refusal) = refusal
-refused_head (Ok head) = layout head.place
 
 -- ---- in document 01's numbers: 0 with the place that was found, or a refusal's number and place
 

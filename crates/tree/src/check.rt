@@ -10,11 +10,15 @@ ghost use Rattle.tree.specs.Rows.{class_of};
 ghost use Rattle.tree.specs.Walk.{standing, fault_with, fault_from, record_read, walked, walker_of};
 ghost use Rattle.tree.specs.Plans.{plan_of, next_part};
 
+use crate::codes::Code;
 use crate::grammar::{Class, Kind};
 use crate::own::Own;
-use crate::{codes, grammar, own};
+use crate::{grammar, own};
 use answers::{Checked, Reason, Refusal};
-use text::{numbers, scans};
+use text::scans;
+
+// The code byte of a newline, the one item without a length.
+const NEWLINE: u8 = Code::Newline as u8;
 
 // The parts of a record that are still to be read: the fields of a row whose bits stand, then `count` items of a class.
 #[derive(Clone, Copy, Debug, PartialEq, Eq)]
@@ -110,10 +114,10 @@ fn fault_in_trivia(tree: &[u8], at: usize, count: usize, fault: usize) -> usize
     let mut place = at;
     let mut found = fault;
     for _ in 0..count {
-        if tree[place] == codes::NEWLINE {
+        if tree[place] == NEWLINE {
             place += 1;
         } else {
-            let length = numbers::wide(tree[place + 1]) + 256 * numbers::wide(tree[place + 2]);
+            let length = usize::from(tree[place + 1]) + 256 * usize::from(tree[place + 2]);
             let start = place + 3;
             found = fault_in(tree, start, start + length, found);
             place = start + length;

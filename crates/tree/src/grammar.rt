@@ -5,7 +5,7 @@ ghost use Rattle.tree.specs.Rows.{class_number, class_of, row_of};
 ghost use Rattle.tree.specs.Walk.{SetOf, allows};
 
 use crate::kinds;
-use text::{characters, numbers};
+use text::characters;
 
 // The braces of a block and the colon of a label, as wide as the bounds of a text.
 const OPENING_BRACE: usize = characters::OPENING_BRACE as usize;
@@ -111,7 +111,7 @@ static KINDS: [Kind; 43] = [
 
 impl Kind {
     // The kind that a record's first byte stands for.
-    pub(crate) fn of_byte(byte: u8) -> Option<Kind>
+    pub fn of_byte(byte: u8) -> Option<Kind>
         ensures { result ≡ Grammar.kind_of byte }
     {
         let place = usize::from(byte);
@@ -273,7 +273,7 @@ impl TextRule {
             TextRule::NoText => false,
             TextRule::Free => !text.is_empty(),
             TextRule::Byte(low, high) => match text {
-                [byte] => low <= numbers::wide(*byte) && numbers::wide(*byte) <= high,
+                [byte] => low <= usize::from(*byte) && usize::from(*byte) <= high,
                 _ => false,
             },
         }

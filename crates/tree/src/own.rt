@@ -3,11 +3,12 @@ ghost use Rattle.std.specs.Prelude.{◌≡◌, ℕ, ◌<◌, get_or, length, IfS
 ghost use Rattle.tree.specs.Grammar.{fields, kind_of};
 ghost use Rattle.tree.specs.Own.{sized_end, trivium_end, trivia_end, fields_fit, text_fits, else_fits, trivia_fits};
 ghost use Rattle.tree.specs.Own.{map_fits, may_stand, trivia_read, text_end, layout, rest_of, own_at, read_own};
-ghost use Rattle.tree.specs.Own.{Fits, refusal_of, numbers_own, own_numbers};
+ghost use Rattle.tree.specs.Own.{Fits, numbers_own, own_numbers};
 ghost use Rattle.tree.specs.Walk.{rest_on, judged_on, first_bytes, found_on};
 
+use crate::codes::Code;
 use crate::grammar::{Class, Kind, Rule, TextRule};
-use crate::{codes, grammar, kinds};
+use crate::{grammar, kinds};
 use answers::{Reason, Refusal};
 use text::numbers;
 
@@ -48,14 +49,10 @@ pub(crate) fn trivium_end(tree: &[u8], at: usize) -> Option<usize>
     if tree.len() <= at {
         return None;
     }
-    let code = tree[at];
-    if code == codes::NEWLINE {
-        return Some(at + 1);
+    match Code::of_byte(tree[at])? {
+        Code::Newline => Some(at + 1),
+        _ => sized_end(tree, at + 1),
     }
-    if codes::CPP_STYLE < code {
-        return None;
-    }
-    sized_end(tree, at + 1)
 }
 
 // `count` trivia items.
@@ -235,7 +232,7 @@ fn judge(tree: &[u8], at: usize, rule: Rule) -> Option<(Kind, usize)>
     if tree.len() - at < 2 {
         return None;
     }
-    let map = numbers::wide(tree[at + 1]);
+    let map = usize::from(tree[at + 1]);
     map_fits(rule, kind, map).then_some((kind, map))
 }
 
@@ -318,15 +315,4 @@ pub fn read_own(tree: &[u8], at: usize, class: Class, levels: usize) -> Result<O
         return Err(layout(at));
     };
     Ok(own)
-}
-
-// The refusal that reading met, for callers that have not the refusal alone; a record that was read has none, and the
-// place behind it stands for one.
-pub fn refusal_of(read: Result<Own, Refusal>) -> Refusal
-    ensures { result ≡ refusal_of read }
-{
-    match read {
-        Ok(own) => layout(own.end),
-        Err(refusal) => refusal,
-    }
 }

@@ -7,18 +7,19 @@ ghost use Rattle.tree.specs.Parts.{trivium_at, spans_at, trivia_left};
 ghost use Rattle.tree.specs.Parts.{skipped, first_class, second_field, field_head, inner_head};
 ghost use Rattle.tree.specs.Parts.{head_on, head_behind, head_at};
 ghost use Rattle.tree.specs.Walk.{first_field};
-ghost use Rattle.tree.specs.Parts.{refused_skip, refused_head, numbers_skipped, read_numbers};
+ghost use Rattle.tree.specs.Parts.{numbers_skipped, read_numbers};
 ghost use Rattle.tree.specs.Parts.{numbers_head, behind_numbers, head_numbers};
 
+use crate::codes::Code;
 use crate::grammar::{Class, Kind};
 use crate::own::Own;
-use crate::{check, codes, grammar, own};
+use crate::{check, grammar, own};
 use answers::Refusal;
 
 // A trivia item, by its code and the places of its text, which for a newline are both the place behind it.
 #[derive(Clone, Copy, Debug, PartialEq, Eq)]
 pub struct TriviumSpan {
-    pub code: u8,
+    pub code: Code,
     pub start: usize,
     pub end: usize,
 }
@@ -40,23 +41,17 @@ pub fn skip(tree: &[u8], at: usize, class: Class, levels: usize) -> Result<usize
     Ok(end)
 }
 
-// The refusal that skipping met; a record that was skipped has none, and the place behind it stands for one.
-pub fn refused_skip(found: Result<usize, Refusal>) -> Refusal
-    ensures { result ≡ refused_skip found }
-{
-    match found {
-        Err(refusal) => refusal,
-        Ok(place) => own::layout(place),
-    }
-}
-
 // A trivia item.
 pub fn trivium_at(tree: &[u8], at: usize) -> Option<TriviumSpan>
     ensures { result ≡ trivium_at tree.now at }
 {
     let end = own::trivium_end(tree, at)?;
-    let code = tree[at];
-    let start = if code == codes::NEWLINE { end } else { at + 3 };
+    let code = Code::of_byte(tree[at])?;
+    let start = if let Code::Newline = code {
+        end
+    } else {
+        at + 3
+    };
     Some(TriviumSpan { code, start, end })
 }
 
@@ -219,14 +214,4 @@ pub fn head_place(tree: &[u8], at: usize, class: Class, levels: usize) -> Result
 {
     let own = own::read_own(tree, at, class, levels)?;
     head_behind(tree, at, class, levels, own)
-}
-
-// The refusal on the way to a head; a head that was found has none, and its place stands for one.
-pub fn refused_head(found: Result<Head, Refusal>) -> Refusal
-    ensures { result ≡ refused_head found }
-{
-    match found {
-        Err(refusal) => refusal,
-        Ok(head) => own::layout(head.place),
-    }
 }

@@ -30,7 +30,8 @@ use Rattle.tree.specs.declared.grammar.Class.TheVariants.{LocatedExpression}
 use Rattle.tree.specs.declared.grammar.TextRule.{TextRule}
 use Rattle.tree.specs.declared.own.Own.{Own}
 use Rattle.tree.proofs.Cases.{by_choice}
-use Rattle.tree.proofs.KindLayout.{kind_number, forms_from, node_stored, kind_number_lem, forms_all, items_counted, items_stored, leaf_stored}
+use Rattle.tree.specs.Grammar.{kind_number}
+use Rattle.tree.proofs.KindLayout.{forms_from, node_stored, kind_number_lem, forms_all, items_counted, items_stored, leaf_stored}
 use Rattle.tree.proofs.Places.{Stands}
 use Rattle.tree.proofs.OwnBytes.{leaf_number, leaf_other}
 use Rattle.tree_laws.specs.WellFormed.{TriviaFit, TextFits, FieldsFit, standing, left_out, ItemsFit, Formed, ElseFits, Within, WellFormed}

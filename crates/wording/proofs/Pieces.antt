@@ -1,5 +1,5 @@
 -- Laws of lines and their pieces.
-use mathlib.Core.Path.{◌≡◌, refl, ap}
+use mathlib.Core.Path.{◌≡◌, refl, sym, ap, ◌∙◌}
 use mathlib.Core.List.{List, [], ◌∷◌, ◌++◌, map}
 use Prim.Native.Nat.{ℕ, zero, suc, ◌+◌, ◌-◌, ◌/◌, ◌%◌, ◌≤◌, ◌<◌}
 use Prim.Native.String.{String}
@@ -16,12 +16,8 @@ use Rattle.text.specs.Stores.{fits, stored_end, stored_buffer}
 use Rattle.text.specs.Literals.{ascii}
 use Rattle.text.proofs.Choices.{by_test}
 use Rattle.text.proofs.Parts.{part_slice}
-use Rattle.tree.specs.Tree.{Trivium}
-use Rattle.tree.specs.Parts.{trivium_at, spans_on, spans_at}
-use Rattle.tree.specs.declared.parts.TriviumSpan.{TriviumSpan}
-use Rattle.leaves.specs.Items.{item_of, items_on, items_at}
-use Rattle.leaves.proofs.Items.{item_lies}
-use Rattle.wording.specs.Lines.{Line, line_in, put, puts, digits}
+use Rattle.wording.specs.Lines.{Line, line_in, line_of, put, puts, Gets, digits}
+use Rattle.wording.specs.declared.lines.Line as lines
 use Rattle.wording.specs.Losses.{letter, letters}
 use Rattle.wording.specs.Names.{token_kinds, part_kinds, kind_name}
 
@@ -30,6 +26,20 @@ pub puts_append : (pieces more : List (List ℕ)) (line : Line) → puts (pieces
 unfolding puts
 puts_append [] more line = refl
 puts_append (piece ∷ pieces) more line = puts_append pieces more (put piece line)
+
+-- a line that gets pieces, and then more
+infixr 50 ◌onward◌
+pub ◌onward◌ : {before between after : lines.Line} {pieces more : List (List ℕ)}
+    → Gets before between pieces → Gets between after more → Gets before after (pieces ++ more)
+◌onward◌ {before} {pieces = pieces} {more} one other = record {
+  line = other.line ∙ ap (puts more) one.line ∙ sym (puts_append pieces more (line_of before));
+  lender = other.lender ∙ one.lender;
+}
+
+-- and one that gets none
+pub stays : {line : lines.Line} → Gets line line []
+unfolding puts
+stays = record { line = refl; lender = refl }
 
 -- a store that succeeded
 pub put_stored : (buffer : List ℕ) (at : ℕ) (piece : List ℕ) {next : List ℕ} {end : ℕ} → stored_end buffer at piece ≡ Some end
@@ -102,30 +112,3 @@ pub letters_next : (left place bits next : ℕ) → left ≡ next + 1 → letter
 unfolding letters
 letters_next zero place bits next more = absurd (omega arith)
 letters_next (suc left) place bits next more = let same : left ≡ next = omega arith in rw same
-
--- ---- trivia
-
--- the texts of some items lie within bytes
-abbrev pub Lie : List ℕ → List TriviumSpan → Type 0
-Lie bytes [] = Unit {0}
-Lie bytes (item ∷ items) = ((item.start ≤ item.end) × (item.end ≤ length bytes)) × Lie bytes items
-
--- those at a place, told by their places and by their texts
-pub record Read (bytes : List ℕ) (items : List Trivium) (spans : List TriviumSpan) : Type 0 where
-  pub lie : Lie bytes spans
-  pub texts : items ≡ map (item_of bytes) spans
-
--- one, and those behind it
-read_on : (bytes : List ℕ) (at : ℕ) (items : ℕ → List Trivium) (spans : ℕ → List TriviumSpan) → ((place : ℕ) → Read bytes (items place) (spans place))
-    → (found : Option TriviumSpan) → found ≡ trivium_at bytes at → Read bytes (items_on bytes items found) (spans_on spans found)
-read_on bytes at items spans rest None is = record { lie = tt; texts = refl }
-read_on bytes at items spans rest (Some item) is = record {
-  lie = (item_lies bytes at item is refl, (rest item.end).lie);
-  texts = ap (λ (others : List Trivium). item_of bytes item ∷ others) (rest item.end).texts;
-}
-
-pub items_read : (bytes : List ℕ) (at count : ℕ) → Read bytes (items_at bytes at count) (spans_at bytes at count)
-unfolding items_at spans_at
-items_read bytes at zero = record { lie = tt; texts = refl }
-items_read bytes at (suc count) =
-    read_on bytes at (λ place. items_at bytes place count) (λ place. spans_at bytes place count) (λ place. items_read bytes place count) _ refl

@@ -1,10 +1,12 @@
 -- A line that is put together in a lent buffer: pieces one behind the other from a place on. A piece that does not fit is left out.
-use Rattle.std.specs.Prelude.{ℕ, zero, suc, ◌+◌, ◌/◌, ◌%◌, List, [], ◌∷◌, ◌++◌, map, cond, ◌||◌, length, get_or, replicate, eqb, ltb}
+use Rattle.std.specs.Prelude.{ℕ, ◌≡◌, zero, suc, ◌+◌, ◌/◌, ◌%◌, List, [], ◌∷◌, ◌++◌, map, cond, ◌||◌, length, get_or, replicate, eqb, ltb}
 use Prim.Native.String.{String}
+use Rattle.std.specs.Borrow.{GName}
 use Rattle.std.proofs.lemmas.List.Edits.{sets}
 use Rattle.text.specs.Characters as characters
 use Rattle.text.specs.Stores.{fits}
 unfoldable pub use Rattle.text.specs.Literals.{ascii}
+use Rattle.wording.specs.declared.lines.Line as lines
 
 -- a buffer, and the place behind the line's last byte
 pub record Line : Type 0 where
@@ -21,6 +23,20 @@ put piece line =
 unfoldable pub puts : List (List ℕ) → Line → Line
 puts [] line = line
 puts (piece ∷ pieces) line = puts pieces (put piece line)
+
+-- ---- the struct that the functions put pieces into
+
+abbrev pub line_of : lines.Line → Line
+line_of line = line_in line.buffer.now line.used
+
+-- the lent buffer that a line stands in, by its name: what the line holds when it is let go is what the buffer of that name then holds
+abbrev pub lender_of : lines.Line → GName
+lender_of line = line.buffer.ghost_name
+
+-- a line gets pieces behind what it holds, and stays in its buffer
+pub record Gets (before after : lines.Line) (pieces : List (List ℕ)) : Type 0 where
+  pub line : line_of after ≡ puts pieces (line_of before)
+  pub lender : lender_of after ≡ lender_of before
 
 -- ---- pieces
 

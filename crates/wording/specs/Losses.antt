@@ -1,13 +1,12 @@
 -- A line for a record that uses one of the eight places of document 01.
 use Rattle.std.specs.Prelude.{ℕ, zero, suc, ◌+◌, ◌/◌, ◌%◌, List, [], ◌∷◌, ◌++◌, cond, None, length, eqb, ltb, leb}
 use Prim.Native.String.{String}
-use Rattle.tree.specs.Kinds as kinds
 use Rattle.tree.specs.Codes as codes
 use Rattle.tree.specs.Tree.{Trivium}
 use Rattle.tree.specs.declared.own.Own.{Own}
 use Rattle.leaves.specs.Items.{items_at}
 use Rattle.wording.specs.Lines.{say, quoted}
-use Rattle.wording.specs.Records.{offset, content}
+use Rattle.wording.specs.Records.{offset, leaf_content}
 
 -- a letter in parentheses, where its bit stands
 abbrev pub letter : ℕ → ℕ → List (List ℕ)
@@ -39,7 +38,7 @@ comments (item ∷ items) = comment item ++ comments items
 
 -- the closing character itself, for (h)
 abbrev pub closing : List ℕ → ℕ → Own → List (List ℕ)
-closing tree bit own = cond (eqb bit 1) (content tree kinds.leaf None own) []
+closing tree bit own = cond (eqb bit 1) (leaf_content tree None own) []
 
 -- a loss's line: its record's offset, the letters (a) to (h) of its places, the texts that stand there, and what becomes of them
 abbrev pub loss_pieces : List ℕ → ℕ → ℕ → Own → List (List ℕ)

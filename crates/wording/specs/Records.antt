@@ -39,11 +39,13 @@ abbrev pub leaf_shown : List ℕ → Option Table → Own → List (List ℕ)
 leaf_shown tree None own = quoted (slice own.text own.end tree)
 leaf_shown tree (Some table) own = indexed table (get_or tree own.text 0)
 
+-- what a leaf shows behind a space; nothing where it has no text
+abbrev pub leaf_content : List ℕ → Option Table → Own → List (List ℕ)
+leaf_content tree table own = cond (leb own.end own.text) [] (say " " ++ leaf_shown tree table own)
+
 -- what stands in a record beside its parts: how many a list has, or what a leaf shows
 abbrev pub content : List ℕ → ℕ → Option Table → Own → List (List ℕ)
-content tree number table own =
-    cond (eqb number kinds.vec) (say " of " ++ decimal own.count)
-    (cond (leb own.end own.text) [] (say " " ++ leaf_shown tree table own))
+content tree number table own = cond (eqb number kinds.vec) (say " of " ++ decimal own.count) (leaf_content tree table own)
 
 -- a record's line: its offset, its depth, its kind by name, a list's count or what a leaf shows, and its trivia
 abbrev pub record_pieces : List ℕ → ℕ → ℕ → Class → Own → List (List ℕ)

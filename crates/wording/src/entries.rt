@@ -1,6 +1,6 @@
 // What a leaf shows of a case of an enum: what is printed of it under the default options, and its index.
 ghost use Rattle.std.specs.Prelude.{◌≡◌, map};
-ghost use Rattle.wording.specs.Lines.{puts};
+ghost use Rattle.wording.specs.Lines.{Gets};
 ghost use Rattle.wording.specs.Entries.{entries, indexed, table_of};
 
 use crate::lines::Line;
@@ -79,7 +79,7 @@ pub(crate) fn table_of(class: Class) -> Option<Table>
 
 // A case, and its index in parentheses.
 pub(crate) fn put_indexed(line: &mut Line, table: Table, index: usize)
-    ensures { line.new ≡ puts (indexed table index) line.old }
+    ensures { Gets line.old line.new (indexed table index) }
 {
     line.put_name(table.names(), index);
     line.put(b" (");

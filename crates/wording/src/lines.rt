@@ -1,8 +1,6 @@
 // A line in a lent buffer, put together from pieces. A piece that does not fit is left out.
-ghost use Rattle.std.specs.Prelude.{◌≡◌, [], ◌∷◌, map, take, get_or};
-ghost use Rattle.wording.specs.Lines.{line_in, puts, spaces, digits, decimal, coded, shown, quoted};
+ghost use Rattle.std.specs.Prelude.{◌≡◌, ◌≤◌, [], ◌∷◌, map, length, take, get_or};
 
-use std::marker::Model;
 use text::{characters, stores};
 
 // The buffer, and how much of it is used.
@@ -10,37 +8,39 @@ use text::{characters, stores};
 pub struct Line<'a> {
     buffer: &'a mut [u8],
     used: usize,
-}
-
-impl<'a> Model for Line<'a> {
-    ghost use Rattle.std.specs.Prelude.{◌≤◌, length};
-    ghost use Rattle.wording.specs.Lines as lines;
-
-    ghost Value = { lines.Line };
-
-    ghost view = { λ line. lines.line_in line.buffer.now line.used };
-
-    ghost invariant = { λ line. line.used ≤ length line.buffer.now };
+    ghost within: { used ≤ length buffer.now },
 }
 
 impl<'a> Line<'a> {
+    ghost use Rattle.wording.specs.Lines.{line_in, line_of, lender_of, Gets};
+    ghost use Rattle.wording.specs.Lines.{spaces, digits, decimal, coded, shown, quoted};
+
     // A line with nothing in it.
     pub fn new(buffer: &'a mut [u8]) -> Line<'a>
-        ensures { result ≡ line_in buffer.old 0 }
+        ensures line { line_of result ≡ line_in buffer.old 0 }
+        ensures lender { lender_of result ≡ buffer.entry.ghost_name }
     {
         Line { buffer, used: 0 }
     }
 
+    // How much of the buffer is used.
+    pub fn used(&self) -> usize
+        ensures used { result ≡ (line_of self.now).used }
+        ensures within { result ≤ length (line_of self.now).buffer }
+    {
+        self.used
+    }
+
     // What the line holds.
     pub fn written(&self) -> &[u8]
-        ensures { result.now ≡ take self.now.used self.now.buffer }
+        ensures { result.now ≡ take (line_of self.now).used (line_of self.now).buffer }
     {
         &self.buffer[..self.used]
     }
 
     // Puts bytes behind what the line holds.
     pub fn put(&mut self, bytes: &[u8])
-        ensures { self.new ≡ puts (bytes.now ∷ []) self.old }
+        ensures { Gets self.old self.new (bytes.now ∷ []) }
     {
         if let Some(end) = stores::copy(bytes, self.buffer, self.used) {
             self.used = end;
@@ -48,7 +48,7 @@ impl<'a> Line<'a> {
     }
 
     pub(crate) fn put_spaces(&mut self, count: usize)
-        ensures { self.new ≡ puts (spaces count) self.old }
+        ensures { Gets self.old self.new (spaces count) }
     {
         if let Some(end) = stores::fill(self.buffer, self.used, count, characters::SPACE) {
             self.used = end;
@@ -57,7 +57,7 @@ impl<'a> Line<'a> {
 
     // The name of an index; past the last there is none.
     pub(crate) fn put_name(&mut self, names: &[&str], index: usize)
-        ensures { self.new ≡ puts (get_or (map (λ name. name.now) names.now) index [] ∷ []) self.old }
+        ensures { Gets self.old self.new (get_or (map (λ name. name.now) names.now) index [] ∷ []) }
     {
         if let Some(name) = names.get(index) {
             self.put(name.as_bytes());
@@ -66,7 +66,7 @@ impl<'a> Line<'a> {
 
     // The last digits of a number, at most so many.
     fn put_digits(&mut self, n: usize, most: usize)
-        ensures { self.new ≡ puts (digits most n) self.old }
+        ensures { Gets self.old self.new (digits most n) }
     {
         if most == 0 {
             return;
@@ -79,14 +79,14 @@ impl<'a> Line<'a> {
 
     // A number in decimal: no number that a computer's word holds has more than twenty digits.
     pub fn put_number(&mut self, n: usize)
-        ensures { self.new ≡ puts (decimal n) self.old }
+        ensures { Gets self.old self.new (decimal n) }
     {
         self.put_digits(n, 20);
     }
 
     // A byte by its two digits of base sixteen.
     fn put_coded(&mut self, byte: u8)
-        ensures { self.new ≡ puts (coded byte ∷ []) self.old }
+        ensures { Gets self.old self.new (coded byte ∷ []) }
     {
         let digits = b"0123456789abcdef";
         let high = digits[usize::from(byte / 16)];
@@ -98,7 +98,7 @@ impl<'a> Line<'a> {
     // character by its number.
     #[tactic(auto, using(std::proofs::lemmas::Bool::Decides::nat_tests), unfolding(crate::specs::Lines::shown))]
     fn put_shown(&mut self, byte: u8)
-        ensures { self.new ≡ puts (shown byte ∷ []) self.old }
+        ensures { Gets self.old self.new (shown byte ∷ []) }
     {
         match byte {
             characters::NEWLINE => self.put(b"\\n"),
@@ -111,7 +111,7 @@ impl<'a> Line<'a> {
 
     // A text in quotes.
     pub(crate) fn put_quoted(&mut self, bytes: &[u8])
-        ensures { self.new ≡ puts (quoted bytes.now) self.old }
+        ensures { Gets self.old self.new (quoted bytes.now) }
     {
         self.put(b"\"");
         for &byte in bytes {

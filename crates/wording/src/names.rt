@@ -1,12 +1,14 @@
 // The names of refusals, kinds, chunk types and trivia.
 ghost use Rattle.std.specs.Prelude.{◌≡◌, get_or};
 ghost use Rattle.answers.specs.Numbers.{number};
-ghost use Rattle.wording.specs.Lines.{puts, say, ascii};
+ghost use Rattle.tree.specs.Codes.{code_number};
+ghost use Rattle.wording.specs.Lines.{Gets, say, ascii};
 ghost use Rattle.wording.specs.Names.{reasons, kind_name, trivia_names, type_name};
 
 use crate::lines::Line;
 use answers::Reason;
 use chunks::stored::ChunkType;
+use tree::codes::Code;
 
 // The kinds by their numbers: the tokens, and from a list on their parts.
 const KINDS: [&str; 43] = [
@@ -55,9 +57,6 @@ const KINDS: [&str; 43] = [
     "ArgItem",
 ];
 
-// What a trivia item is, by its code.
-const TRIVIA: [&str; 4] = ["whitespace", "newline", "comment", "line comment"];
-
 pub(crate) fn reason_name(reason: Reason) -> &'static str
     ensures { result.now ≡ ascii (get_or reasons (number reason) "") }
 {
@@ -86,14 +85,18 @@ pub(crate) fn type_name(ty: ChunkType) -> &'static str
 
 // A kind, by its number: a byte of a tree, which may be no kind's and then has no name.
 pub(crate) fn put_kind(line: &mut Line, number: usize)
-    ensures { line.new ≡ puts (say (kind_name number)) line.old }
+    ensures { Gets line.old line.new (say (kind_name number)) }
 {
     line.put_name(&KINDS, number);
 }
 
-// What a trivia item is, by its code: a byte of a tree, as above.
-pub(crate) fn put_code(line: &mut Line, code: u8)
-    ensures { line.new ≡ puts (say (get_or trivia_names code "")) line.old }
+pub(crate) fn code_name(code: Code) -> &'static str
+    ensures { result.now ≡ ascii (get_or trivia_names (code_number code) "") }
 {
-    line.put_name(&TRIVIA, usize::from(code));
+    match code {
+        Code::Whitespace => "whitespace",
+        Code::Newline => "newline",
+        Code::CStyle => "comment",
+        Code::CppStyle => "line comment",
+    }
 }

@@ -2,25 +2,25 @@
 ghost use Rattle.std.specs.Prelude.{◌≡◌};
 ghost use Rattle.text.specs.Literals.{ascii};
 ghost use Rattle.leaves.specs.Items.{items_at};
-ghost use Rattle.wording.specs.Lines.{puts};
+ghost use Rattle.wording.specs.Lines.{Gets};
 ghost use Rattle.wording.specs.Losses.{letters, fate, comments, loss_line};
 
 use crate::lines::Line;
 use crate::records;
+use losses::places::Place;
 use tree::own::Own;
 use tree::parts::Trivia;
-use tree::{codes, kinds};
 
 // Three of the eight places as bits of a record's letters, which `losses::lost` tells: (f), (g) and (h).
-pub const REGISTER_LETTER: usize = 32;
+pub const REGISTER_LETTER: usize = 1 << Place::RegisterLetter as usize;
 
-const EXPRESSION_HEAD: usize = 64;
+const EXPRESSION_HEAD: usize = 1 << Place::ExpressionHead as usize;
 
-const CLOSING: usize = 128;
+const CLOSING: usize = 1 << Place::ClosingCharacter as usize;
 
 // The letters of eight bits in parentheses, the lowest first.
 fn put_letters(line: &mut Line, bits: usize)
-    ensures { line.new ≡ puts (letters 8 97 bits) line.old }
+    ensures { Gets line.old line.new (letters 8 97 bits) }
 {
     let mut rest = bits;
     for letter in b'a'..=b'h' {
@@ -33,10 +33,10 @@ fn put_letters(line: &mut Line, bits: usize)
 
 // The comments of a record.
 fn put_comments(line: &mut Line, tree: &[u8], own: Own)
-    ensures { line.new ≡ puts (comments (items_at tree.now own.trivia own.trivia_count)) line.old }
+    ensures { Gets line.old line.new (comments (items_at tree.now own.trivia own.trivia_count)) }
 {
     for item in Trivia::new(tree, own.trivia, own.trivia_count) {
-        if codes::C_STYLE <= item.code {
+        if item.code.is_comment() {
             line.put(b" ");
             line.put_quoted(&tree[item.start..item.end]);
         }
@@ -58,7 +58,7 @@ fn fate(bits: usize) -> &'static str
 // A loss's line: its record's offset, the letters of its places, the comments that stand there and for (h) the closing
 // character itself, and what becomes of them; nothing where the own bytes do not stand in the tree.
 pub fn put_loss(line: &mut Line, tree: &[u8], place: usize, bits: usize, own: Own)
-    ensures { line.new ≡ puts (loss_line tree.now place bits own) line.old }
+    ensures { Gets line.old line.new (loss_line tree.now place bits own) }
 {
     if tree.len() < own.end {
         return;
@@ -67,7 +67,7 @@ pub fn put_loss(line: &mut Line, tree: &[u8], place: usize, bits: usize, own: Ow
     put_letters(line, bits);
     put_comments(line, tree, own);
     if bits / CLOSING % 2 == 1 {
-        records::put_content(line, tree, kinds::LEAF, None, own);
+        records::put_leaf(line, tree, None, own);
     }
     line.put(fate(bits).as_bytes());
     line.put(b"\n");

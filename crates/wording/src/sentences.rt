@@ -1,6 +1,6 @@
 // A refusal as one plain sentence: its number, its name, what its place counts in, the place, and what stands there.
-ghost use Rattle.std.specs.Prelude.{◌≡◌};
-ghost use Rattle.wording.specs.Lines.{puts};
+ghost use Rattle.std.specs.Prelude.{◌≡◌, ◌≤◌, length};
+ghost use Rattle.wording.specs.Lines.{line_in, puts, Gets};
 ghost use Rattle.wording.specs.Sentences.{standing, limited, meaning, sentence};
 
 use crate::lines::Line;
@@ -9,7 +9,7 @@ use answers::{Reason, Refusal};
 
 // What stands at a place of an input.
 fn put_standing(line: &mut Line, input: &[u8], place: usize)
-    ensures { line.new ≡ puts (standing input.now place) line.old }
+    ensures { Gets line.old line.new (standing input.now place) }
 {
     if input.len() <= place {
         return line.put(b", where the input ends");
@@ -21,7 +21,7 @@ fn put_standing(line: &mut Line, input: &[u8], place: usize)
 
 // The limit that a need passes.
 fn put_limit(line: &mut Line, limit: usize)
-    ensures { line.new ≡ puts (limited limit) line.old }
+    ensures { Gets line.old line.new (limited limit) }
 {
     line.put(b", and the limit is ");
     line.put_number(limit);
@@ -36,7 +36,7 @@ fn put_meaning(
     work: usize,
     text: usize,
 )
-    ensures { line.new ≡ puts (meaning refusal.reason refusal.place tree.now options.now work text) line.old }
+    ensures { Gets line.old line.new (meaning refusal.reason refusal.place tree.now options.now work text) }
 {
     match refusal.reason {
         Reason::OptionsLength | Reason::OptionsValue => {
@@ -71,7 +71,7 @@ pub fn put_refusal(
     work: usize,
     text: usize,
 )
-    ensures { line.new ≡ puts (sentence refusal tree.now options.now work text) line.old }
+    ensures { Gets line.old line.new (sentence refusal tree.now options.now work text) }
 {
     line.put(b"Refusal ");
     line.put_number(refusal.reason.number());
@@ -81,4 +81,22 @@ pub fn put_refusal(
     line.put_number(refusal.place);
     put_meaning(line, refusal, tree, options, work, text);
     line.put(b".\n");
+}
+
+// The same at the start of a lent buffer: how much of it is used.
+pub fn store_refusal(
+    buffer: &mut [u8],
+    refusal: Refusal,
+    tree: &[u8],
+    options: &[u8],
+    work: usize,
+    text: usize,
+) -> usize
+    ensures line { line_in buffer.new result ≡ puts (sentence refusal tree.now options.now work text)
+        (line_in buffer.old 0) }
+    ensures within { result ≤ length buffer.new }
+{
+    let mut line = Line::new(buffer);
+    put_refusal(&mut line, refusal, tree, options, work, text);
+    line.used()
 }

@@ -1,47 +1,29 @@
 -- Each kind by itself, and all others.
 use mathlib.Core.Path.{refl}
-use borrow.Author.Tests.{ne_eqb}
+use mathlib.Core.Logic.{⊎_elim}
+use Rattle.tree.specs.Tree.{built}
 use Rattle.events.specs.Trees.{one_of}
+use Rattle.tree.proofs.KindNumbers.{other_number}
 use Rattle.leads.proofs.after_same.Goals as goal
 
-pub returns-in-2 : goal.returns-in-2
-unfolding one_of
-returns-in-2 c = rw c.in-2.is refl
+pub returns-in-Braces : goal.returns-in-Braces
+unfolding one_of built
+returns-in-Braces c = ⊎_elim (λ is. rw is) (⊎_elim (λ is. rw is) (⊎_elim (λ is. rw is) (⊎_elim (λ is. rw is) (λ is. rw is)))) c.in-Braces.is
 
-pub returns-in-6 : goal.returns-in-6
-unfolding one_of
-returns-in-6 c = rw c.in-6.is refl
-
-pub returns-in-10 : goal.returns-in-10
-unfolding one_of
-returns-in-10 c = rw c.in-10.is refl
-
-pub returns-in-15 : goal.returns-in-15
-unfolding one_of
-returns-in-15 c = rw c.in-15.is refl
-
-pub returns-in-19 : goal.returns-in-19
-unfolding one_of
-returns-in-19 c = rw c.in-19.is refl
-
-pub returns-in-11 : goal.returns-in-11
-unfolding one_of
-returns-in-11 c = rw c.in-11.is refl
-
-pub returns-in-14 : goal.returns-in-14
-unfolding one_of
-returns-in-14 c = rw c.in-14.is refl
+pub returns-in-Import : goal.returns-in-Import
+unfolding one_of built
+returns-in-Import c = ⊎_elim (λ is. rw is) (λ is. rw is) c.in-Import.is
 
 pub returns-in_default : goal.returns-in_default
 unfolding one_of
 returns-in_default c =
-    let others = c.in_default.in_default-own.rest in
+    let other = c.in_default in
     rw (
-      ne_eqb _ _ others.1,
-      ne_eqb _ _ others.0.1,
-      ne_eqb _ _ others.0.0.1,
-      ne_eqb _ _ others.0.0.0.1,
-      ne_eqb _ _ others.0.0.0.0.1,
-      ne_eqb _ _ others.0.0.0.0.0.1,
-      ne_eqb _ _ others.0.0.0.0.0.0.1,
-    ) refl
+      other_number 2 refl other.not-Braces,
+      other_number 6 refl other.not-Definition,
+      other_number 10 refl other.not-If,
+      other_number 15 refl other.not-Loop,
+      other_number 19 refl other.not-Segment,
+      other_number 11 refl other.not-Import,
+      other_number 14 refl other.not-Label,
+    )

@@ -1,13 +1,18 @@
 -- The tests of the definition.
-use mathlib.Core.Path.{refl}
-use borrow.Author.Tests.{eq-eqb, ne_eqb}
+use Rattle.tree.specs.Tree.{built}
+use Rattle.tree.specs.declared.grammar.Kind.TheVariants.{Error}
+use Rattle.leads.proofs.Numbered.{same_number}
 use Rattle.leads.proofs.breaks.Goals as goal
 
-pub returns-then-number-eq-ERROR : goal.returns-then-number-eq-ERROR
-returns-then-number-eq-ERROR c = rw c.if-number-eq-ERROR.true refl
+pub returns-then-eq : goal.returns-then-eq
+unfolding built
+returns-then-eq c = rw (same_number c.args.kind Error c.if-eq.ensures)
 
-pub returns-then-previous-number : goal.returns-then-previous-number
-returns-then-previous-number c = rw (ne_eqb _ _ c.if-number-eq-ERROR.false, eq-eqb _ _ c.if-previous-number.true) c.after_same.ensures
+pub returns-then-eq-2 : goal.returns-then-eq-2
+unfolding built
+returns-then-eq-2 c =
+    rw (same_number c.args.kind Error c.if-eq.ensures, same_number c.args.previous c.args.kind c.if-eq-2.ensures) c.after_same.ensures
 
 pub returns : goal.returns
-returns c = rw (ne_eqb _ _ c.if-number-eq-ERROR.false, ne_eqb _ _ c.if-previous-number.false) c.after_other.ensures
+unfolding built
+returns c = rw (same_number c.args.kind Error c.if-eq.ensures, same_number c.args.previous c.args.kind c.if-eq-2.ensures) c.after_other.ensures

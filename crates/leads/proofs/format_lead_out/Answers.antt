@@ -1,25 +1,25 @@
--- A refusal stays; what is met on the way ends the walk; else the trivia are run, then the newline.
-use Rattle.printing.proofs.Running.{refused_before, done_before}
-use Rattle.leads.specs.Leads.{before_of}
-use Rattle.leaves.proofs.Leaves.{own_items, full_refused}
-use Rattle.leads.proofs.Leads.{closing_stopped, closing_shown}
+-- A walk that has ended stays; what is met on the way ends it; else the trivia are run, then the newline.
+use mathlib.Core.Path.{refl, sym, ap, ◌∙◌}
+use Rattle.tree.specs.Tree.{built}
+use Rattle.tree.specs.declared.grammar.Class.TheVariants.{CloseBrace}
+use Rattle.printing.specs.Running.{run}
+use Rattle.events.specs.Trees.{stop_at}
+use Rattle.events.proofs.Heads.{own_refused, own_read}
+use Rattle.leaves.proofs.Leaves.{own_items}
+use Rattle.printers.proofs.Going.{◌onward◌, has_ended, runs_alike, stops_first}
 use Rattle.leads.proofs.format_lead_out.Goals as goal
 
-pub returns-in_default : goal.returns-in_default
-returns-in_default c = refused_before c.in_default.is
+pub returns-then-is_some : goal.returns-then-is_some
+returns-then-is_some c = has_ended (sym c.is_some.ensures ∙ c.if-is_some.true)
 
-pub returns-then-state-ne0 : goal.returns-then-state-ne0
-returns-then-state-ne0 c = done_before c.in-Done.is (full_refused _ c.finish.ensures.answer c.if-state-ne0.true)
+pub returns-in-Ok : goal.returns-in-Ok
+unfolding run built
+returns-in-Ok c =
+    let read = c.read_own.ensures in
+    let brace = own_read _ _ CloseBrace _ _ (sym read.answer ∙ c.in-Ok.is) in
+    runs_alike (c.list_trivia.ensures onward c.break_before.ensures) (λ x. rw (brace.0, brace.1, ← own_items _ _ _ read.fits c.in-Ok.is))
 
-pub returns-in_default-found : goal.returns-in_default-found
-returns-in_default-found c =
-    done_before c.in-Done.is
-    (closing_stopped _ _ _ c.args.context c.args.drops (before_of c.args.stood) _ _
-    c.read_own-found.ensures.answer c.in_default-found.is c.refusal_of.ensures c.if-state-ne0.false)
-
-pub returns : goal.returns
-returns c =
-    done_before c.in-Done.is
-    (closing_shown _ _ _ c.args.context c.args.drops (before_of c.args.stood) _ _ _ _ _
-    c.read_own-found.ensures.answer c.in-Ok.is (own_items _ _ _ c.read_own-found.ensures.fits c.in-Ok.is)
-    c.list_trivia-shown.ensures c.break_before-next.ensures c.finish-2.ensures.answer)
+pub returns-in-Err : goal.returns-in-Err
+returns-in-Err c =
+    stops_first (sym c.is_some.ensures ∙ c.if-is_some.false) refl refl refl
+    (ap stop_at (own_refused _ _ CloseBrace _ _ (sym c.read_own.ensures.answer ∙ c.in-Err.is)))

@@ -1,13 +1,16 @@
 -- The two kinds, and all others.
 use mathlib.Core.Path.{refl}
-use borrow.Author.Tests.{ne_eqb}
+use Rattle.tree.specs.Tree.{built}
+use Rattle.tree.proofs.KindNumbers.{other_number}
 use Rattle.leads.proofs.has_block.Goals as goal
 
-pub returns-then-number-eq-IMPORT : goal.returns-then-number-eq-IMPORT
-returns-then-number-eq-IMPORT c = rw c.if-number-eq-IMPORT.true c.stands.ensures
+pub returns-in-Import : goal.returns-in-Import
+unfolding built
+returns-in-Import c = rw c.in-Import.is c.stands.ensures
 
-pub returns-then-number-eq-LABEL : goal.returns-then-number-eq-LABEL
-returns-then-number-eq-LABEL c = rw c.if-number-eq-LABEL.true c.stands-then-number-eq-LABEL.ensures
+pub returns-in-Label : goal.returns-in-Label
+unfolding built
+returns-in-Label c = rw c.in-Label.is c.stands-in-Label.ensures
 
-pub returns : goal.returns
-returns c = rw (ne_eqb _ _ c.if-number-eq-IMPORT.false, ne_eqb _ _ c.if-number-eq-LABEL.false) refl
+pub returns-in_default : goal.returns-in_default
+returns-in_default c = rw (other_number 11 refl c.in_default.not-Import, other_number 14 refl c.in_default.not-Label)

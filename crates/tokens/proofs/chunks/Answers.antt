@@ -1,22 +1,21 @@
 -- The two cases of the definition.
-use mathlib.Core.Path.{refl, sym, ◌∙◌}
+use mathlib.Core.Path.{◌≡◌, refl, sym, ◌∙◌}
+use Rattle.std.specs.Prelude.{Err}
+use Rattle.std.proofs.Common.{rules}
 use Rattle.tokens.specs.Chunks.{chunks_held, chunks_room}
 use Rattle.tokens.proofs.Numbers.{held_numbers}
 use Rattle.tokens.proofs.chunks.Goals as goal
 
-pub chunks_with-requires : goal.chunks_with-requires
-chunks_with-requires c =
-    rw c.in-Ok.is at c.read_options-read.ensures.narrow
-
-pub returns-in-Ok : goal.returns-in-Ok
+pub returns-in_err-options : goal.returns-in_err-options
 unfolding chunks_held chunks_room
-returns-in-Ok c =
-    let same = sym c.read_options-read.ensures.answer ∙ c.in-Ok.is in
+returns-in_err-options c =
+    let same = sym c.read_options.ensures.answer ∙ c.in_err-options.was in
+    let said : c.from_residual.result ≡ Err c.in_err-options.field-0.0 = search rules in
+    rw same (record { answer = said; stored = tt; room = refl; numbers = held_numbers _ said })
+
+pub returns : goal.returns
+unfolding chunks_held chunks_room
+returns c =
+    let same = sym c.read_options.ensures.answer ∙ c.in_ok-options.was in
     let said = c.chunks_with.ensures in
     rw same (record { answer = said.answer; stored = said.stored; room = said.room; numbers = held_numbers _ said.answer })
-
-pub returns-in-Err : goal.returns-in-Err
-unfolding chunks_held chunks_room
-returns-in-Err c =
-    let same = sym c.read_options-read.ensures.answer ∙ c.in-Err.is in
-    rw same (record { answer = refl; stored = tt; room = refl; numbers = held_numbers _ refl })

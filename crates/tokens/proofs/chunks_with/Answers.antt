@@ -1,14 +1,11 @@
 -- A tree that is not accepted is refused before anything is pushed; else the walk showed what is held.
-use mathlib.Core.Path.{sym, ◌∙◌}
-use Rattle.tokens.proofs.Whole.{whole_failed, whole_walked}
+use mathlib.Core.Path.{◌≡◌, sym, ◌∙◌}
+use Rattle.std.proofs.Common.{rules}
+use Rattle.tokens.proofs.Whole.{used_of, whole_walked}
 use Rattle.tokens.proofs.chunks_with.Goals as goal
-
-pub returns-in-Err : goal.returns-in-Err
-returns-in-Err c =
-    let whole = whole_failed _ _ _ _ (sym c.check_tree-checked.ensures.answer ∙ c.in-Err.is) in
-    record { answer = whole.answered; stored = whole.holds; room = whole.whole }
 
 pub returns : goal.returns
 returns c =
-    let whole = whole_walked _ _ _ c.requires (sym c.check_tree-checked.ensures.answer ∙ c.in_default.is) c.walk_file-printed.ensures in
-    record { answer = c.printed_answer.ensures ∙ whole.answered; stored = whole.holds; room = whole.whole }
+    let used : c.map.result ≡ used_of c.walk_file.result = search rules in
+    let whole = whole_walked _ _ _ c.requires (sym c.check_tree.ensures.answer ∙ c.in_ok-check_tree.was) c.walk_file.ensures.answer c.walk_file.ensures.room in
+    record { answer = used ∙ whole.answered; stored = whole.holds; room = whole.whole }

@@ -4,14 +4,14 @@ use borrow.Author.Tests.{eq-eqb, ne_eqb}
 use Rattle.tokens.specs.Settling.{settles}
 use Rattle.tokens.proofs.settles.Goals as goal
 
-pub returns-in_default : goal.returns-in_default
+pub returns-then-walked-tree : goal.returns-then-walked-tree
 unfolding settles
-returns-in_default c = rw c.in_default.is refl
+returns-then-walked-tree c = rw (c.in-Ok.is, eq-eqb _ _ c.if-walked-tree.true) c.is_plain.ensures
 
-pub returns-then-end-tree : goal.returns-then-end-tree
+pub returns-else-walked-tree : goal.returns-else-walked-tree
 unfolding settles
-returns-then-end-tree c = rw (c.in-Done.is, ne_eqb _ _ c.if-end-tree.true) refl
+returns-else-walked-tree c = rw (c.in-Ok.is, ne_eqb _ _ c.if-walked-tree.false) refl
 
-pub returns : goal.returns
+pub returns-in-Err : goal.returns-in-Err
 unfolding settles
-returns c = rw (c.in-Done.is, eq-eqb _ _ c.if-end-tree.false) c.is_plain.ensures
+returns-in-Err c = rw c.in-Err.is refl

@@ -1,432 +1,256 @@
--- Every printer goes on from the last answer, so what one shows is what its calls show one behind the other; each call is of fewer levels, or of the same levels
+-- What a printer goes on with is what its calls go on with one behind the other; each call is of fewer levels, or of the same levels
 -- from a printer of fields to one of records.
-use mathlib.Core.Path.{◌≡◌, refl, ◌∙◌}
+use mathlib.Core.Path.{◌≡◌, refl, sym, ◌∙◌}
 use mathlib.Core.Logic.{⊎_elim}
-use mathlib.Core.Bool.{true, false, ◌||◌}
+use mathlib.Core.Bool.{true, false, cond, ◌||◌}
+use Prim.Native.Nat.{◌+◌, ◌-◌}
 use native.Mathlib.Omega.{arith}
 use Rattle.tree.specs.Tree.{built}
-use Rattle.tree.specs.Stored.{stored_with}
+use Rattle.tree.specs.Reading.{read}
+use Rattle.tree.specs.declared.grammar.Class.TheVariants.{Char, LocatedFactor}
 use Rattle.tree.specs.declared.grammar.Kind.TheVariants as variant
-use Rattle.tree.proofs.KindLayout.{kind_number}
-use Rattle.printing.proofs.Running.{◌then◌, ◌thence◌, ran_printer, place_behind, refused_before, done_before, handed_on, stays_refused}
+use Rattle.printing.specs.Running.{run}
 use Rattle.events.specs.Printed.{plain}
-use Rattle.events.specs.Views.{bit_at}
+use Rattle.events.specs.Views.{view, bit_at}
 use Rattle.events.specs.Trees.{leaf, events_in}
 use Rattle.leaves.specs.Records.{field_trees, fields_end}
-use Rattle.leaves.proofs.Fielded.{opened_levels, opened_one, opened_kind, opened_list, shown_closed}
+use Rattle.leaves.proofs.Classes.{word_leaf, char_leaf, binary_op_leaf}
+use Rattle.printers.proofs.Going.{◌onward◌, runs_alike, ends_alike, aside, has_ended}
+use Rattle.printers.proofs.Opening.{closed, opened_levels, opened_one, opened_kind, opened_list}
 use Rattle.expressions.specs.Expressions.{item_class, list_place}
-use Rattle.expressions.proofs.Cycle.{item_rule, factor_is, counter_is, list_is, list_items}
-use Rattle.expressions.proofs.Cycle.{unsigned_shown, signed_shown, binary_shown, none_left, one_left}
+use Rattle.expressions.proofs.Stands.{field_stands}
+use Rattle.expressions.proofs.Cycle.{item_rule, factor_is, counter_is, list_is, list_items, none_left, one_left}
 use Rattle.expressions.proofs.expression.+expression.Goals as goal
 
 -- ---- format_argument: the value, its comma and a space to come are the events of the record that was opened
 
 pub format_argument-returns-in_default : goal.format_argument-returns-in_default
-format_argument-returns-in_default t c = refused_before c.in_default.is
+format_argument-returns-in_default t c = rw (← c.item_class.ensures) (closed c.open.ensures (list_place c.args.of) c.in_default.is)
 
-pub format_argument-returns-in_default-opened : goal.format_argument-returns-in_default-opened
-format_argument-returns-in_default-opened t c =
-    let of = c.args.of in
-    let done = c.in-Done.is in
-    rw done
-    (rw (← c.item_class-class.ensures) (shown_closed c.open-opened.ensures.opens (list_place of) c.in_default-opened.is c.closed.ensures.answer))
+pub format_argument-overflow_sub-levels : goal.format_argument-overflow_sub-levels
+format_argument-overflow_sub-levels t c = opened_levels c.open.ensures c.in-Some.is
 
-pub format_argument-overflow_sub-inner : goal.format_argument-overflow_sub-inner
-format_argument-overflow_sub-inner t c =
-    opened_levels c.open-opened.ensures.opens c.in-Record.is
+pub format_argument-format_value-requires : goal.format_argument-format_value-requires
+format_argument-format_value-requires t c = let some = opened_levels c.open.ensures c.in-Some.is in (omega (arith, some), tt)
 
-pub format_argument-format_value-value-requires : goal.format_argument-format_value-value-requires
-format_argument-format_value-value-requires t c =
-    let levels_left = opened_levels c.open-opened.ensures.opens c.in-Record.is in
-    (omega (arith, levels_left), tt)
+pub format_argument-overflow_sub-levels-2 : goal.format_argument-overflow_sub-levels-2
+format_argument-overflow_sub-levels-2 t c = opened_levels c.open.ensures c.in-Some.is
 
 pub format_argument-returns : goal.format_argument-returns
-unfolding built field_trees fields_end events_in bit_at kind_number stored_with
+unfolding built field_trees fields_end events_in bit_at
 format_argument-returns t c =
     let of = c.args.of in
-    let opens = rw c.item_class-class.ensures at c.open-opened.ensures.opens in
-    let is = c.in-Record.is in
-    let done = c.in-Done.is in
-    rw done
-    (opened_kind opens is (list_place of) variant.ArgItem
-    (opened_one opens is 42 variant.ArgItem (item_rule of).0 (item_rule of).1 (item_rule of).2 refl) refl
-    (rw (item_rule of).3 (record {
-      from = λ at here.
-          let value = c.format_value-value.ensures.from at here in
-          let comma = c.optional_character-comma.ensures.from _ (value.next) in
-          let gap = (c.spc_if_next.ensures _).from _ comma.next in
-          rw (← c.stands-comma_stands.ensures) (value thence comma thence gap);
-    })))
+    let opens = rw c.item_class.ensures at c.open.ensures in
+    let is = c.in-Some.is in
+    let rule = item_rule of in
+    opened_kind opens is (list_place of) variant.ArgItem (opened_one opens is 42 variant.ArgItem rule.0 rule.1 rule.2 refl) refl
+    (rw rule.3 (c.format_value.ensures onward rw c.stands-comma.ensures at (c.format_optional_leaf.ensures.leaf char_leaf) onward c.spc_if_next.ensures))
 
 -- ---- format_arguments: a list is its items and a star its fields; what is no star is a list, as nothing else may stand there
 
 pub format_arguments-returns-in_default : goal.format_arguments-returns-in_default
-format_arguments-returns-in_default t c = refused_before c.in_default.is
-
-pub format_arguments-returns-in_default-opened : goal.format_arguments-returns-in_default-opened
-format_arguments-returns-in_default-opened t c =
-    let of = c.args.of in
-    let done = c.in-Done.is in
-    rw done
-    (rw (← c.list_class-class.ensures) (shown_closed c.open-opened.ensures.opens (list_place of) c.in_default-opened.is c.closed.ensures.answer))
+format_arguments-returns-in_default t c = rw (← c.list_class.ensures) (closed c.open.ensures (list_place c.args.of) c.in_default.is)
 
 pub format_arguments-overflow_sub-levels : goal.format_arguments-overflow_sub-levels
-format_arguments-overflow_sub-levels t c =
-    opened_levels c.open-opened.ensures.opens c.in-Record.is
+format_arguments-overflow_sub-levels t c = opened_levels c.open.ensures c.in-Some.is
 
 pub format_arguments-overflow_sub-levels-in_default-kind : goal.format_arguments-overflow_sub-levels-in_default-kind
-format_arguments-overflow_sub-levels-in_default-kind t c =
-    opened_levels c.open-opened.ensures.opens c.in-Record.is
+format_arguments-overflow_sub-levels-in_default-kind t c = opened_levels c.open.ensures c.in-Some.is
 
 pub format_arguments-format_each_argument-requires : goal.format_arguments-format_each_argument-requires
-format_arguments-format_each_argument-requires t c =
-    let levels_left = opened_levels c.open-opened.ensures.opens c.in-Record.is in
-    (omega (arith, levels_left), tt)
+format_arguments-format_each_argument-requires t c = let some = opened_levels c.open.ensures c.in-Some.is in (omega (arith, some), tt)
 
 pub format_arguments-returns-in-ImportAll : goal.format_arguments-returns-in-ImportAll
-unfolding built field_trees fields_end events_in bit_at kind_number stored_with
+unfolding built field_trees fields_end events_in
 format_arguments-returns-in-ImportAll t c =
-    let of = c.args.of in
-    let opens = rw c.list_class-class.ensures at c.open-opened.ensures.opens in
-    let is = c.in-Record.is in
-    let done = c.in-Done.is in
-    rw done
-    (opened_kind opens is (list_place of) variant.ImportAll c.in-ImportAll.is refl
-    (record { from = λ at here. c.format_import_all.ensures.from at here }))
+    let opens = rw c.list_class.ensures at c.open.ensures in
+    opened_kind opens c.in-Some.is (list_place c.args.of) variant.ImportAll c.in-ImportAll.is refl c.format_import_all.ensures
 
 pub format_arguments-returns-in_default-kind : goal.format_arguments-returns-in_default-kind
 format_arguments-returns-in_default-kind t c =
     let of = c.args.of in
-    let opens = rw c.list_class-class.ensures at c.open-opened.ensures.opens in
-    let is = c.in-Record.is in
-    let done = c.in-Done.is in
-    rw done
-    (opened_list opens is (list_place of) (item_class of) (list_is of opens is c.in_default-kind.not-ImportAll) (list_items of) c.format_each_argument.ensures)
+    let opens = rw c.list_class.ensures at c.open.ensures in
+    let is = c.in-Some.is in
+    opened_list opens is (list_place of) (item_class of) (list_is of opens is c.in_default-kind.not-ImportAll) (list_items of) c.format_each_argument.ensures
 
--- ---- format_binary_expression: the operator is skipped, and printed where it stands once the left side is; then the walk goes on behind the left side
-
-pub format_binary_expression-returns-in_default : goal.format_binary_expression-returns-in_default
-format_binary_expression-returns-in_default t c = refused_before c.in_default.is
-
-pub format_binary_expression-format_expression-lhs-requires : goal.format_binary_expression-format_expression-lhs-requires
-format_binary_expression-format_expression-lhs-requires t c =
-    (omega arith, tt)
-
-pub format_binary_expression-returns-in_default-lhs : goal.format_binary_expression-returns-in_default-lhs
-unfolding built field_trees fields_end events_in bit_at
-format_binary_expression-returns-in_default-lhs t c =
-    let skipped = (c.skip-skipped.ensures.from _).from _ refl in
-    let lhs = c.format_expression-lhs.ensures.from _ skipped.next in
-    done_before c.in-Done.is (skipped thence handed_on lhs c.in_default-lhs.is)
+-- ---- format_binary_expression: the operator is skipped, and printed where it stands once the left side is
 
 pub format_binary_expression-format_expression-requires : goal.format_binary_expression-format_expression-requires
-format_binary_expression-format_expression-requires t c =
-    (omega arith, tt)
+format_binary_expression-format_expression-requires t c = (omega arith, tt)
 
-pub format_binary_expression-shape_of-room : goal.format_binary_expression-shape_of-room
-format_binary_expression-shape_of-room t c =
-    c.format_expression.auto.room ∙ c.push-right.auto.room ∙ c.operator-operator.auto.room
-    ∙ c.push-left.auto.room
-    ∙ c.format_expression-lhs.auto.room
+pub format_binary_expression-format_expression-requires-2 : goal.format_binary_expression-format_expression-requires-2
+format_binary_expression-format_expression-requires-2 t c = (omega arith, tt)
 
 pub format_binary_expression-returns : goal.format_binary_expression-returns
+unfolding built field_trees fields_end events_in run
 format_binary_expression-returns t c =
-    let skipped = (c.skip-skipped.ensures.from _).from _ refl in
-    let lhs = c.format_expression-lhs.ensures.from _ skipped.next in
-    let done = c.in-Done-lhs.is in
-    let gap = c.push-left.ensures.from _ refl in
-    let back = (c.moved_to.ensures _).from _ gap.next in
-    let operator = c.operator-operator.ensures.from _ back.next in
-    let gap2 = c.push-right.ensures.from _ operator.next in
-    let onward = (c.moved_to-2.ensures _).from _ gap2.next in
-    let rhs = c.format_expression.ensures.from _ onward.next in
-    done_before c.in-Done.is
-    (binary_shown _ _ _ _ _ (place_behind lhs done) (skipped thence ran_printer lhs done then gap thence back thence operator thence gap2 thence onward thence rhs))
+    let operator = c.format_leaf.ensures.leaf binary_op_leaf onward c.push-2.ensures in
+    runs_alike (c.skip.ensures onward c.format_expression.ensures onward aside (c.push.ensures onward c.move_to.ensures) operator c.move_to-2.ensures
+    onward c.format_expression-2.ensures)
+    (λ x. refl)
 
 -- ---- format_call: the fields are printed in their order
 
-pub format_call-format_arguments-args-requires : goal.format_call-format_arguments-args-requires
-format_call-format_arguments-args-requires t c =
-    (omega arith, tt)
+pub format_call-format_arguments-requires : goal.format_call-format_arguments-requires
+format_call-format_arguments-requires t c = (omega arith, tt)
 
 pub format_call-returns : goal.format_call-returns
-unfolding built field_trees fields_end events_in bit_at
+unfolding built field_trees fields_end events_in
 format_call-returns t c =
-    record {
-      from = λ at here.
-          let name = c.word-name.ensures.from at here in
-          let lparen = c.character-lparen.ensures.from _ name.next in
-          let args = c.format_arguments-args.ensures.from _ lparen.next in
-          let rparen = c.character.ensures.from _ args.next in
-          name thence lparen thence args thence rparen;
-    }
+    c.format_leaf.ensures.leaf word_leaf onward c.format_leaf-2.ensures.leaf char_leaf onward c.format_arguments.ensures
+    onward c.format_leaf-3.ensures.leaf char_leaf
 
--- ---- format_each_argument: at the head of the loop, whoever shows the items that are left has shown them all
+-- ---- format_each_argument: at the head of the loop, what goes on with the arguments that are left has gone on with all
 
-pub format_each_argument-loop-left-init : goal.format_each_argument-loop-left-init
-format_each_argument-loop-left-init t c = (refl, λ start here. (start, here, λ said after rest. rest))
+pub format_each_argument-loop-init : goal.format_each_argument-loop-init
+format_each_argument-loop-init t c after rest = let all : c.args.count - 0 ≡ c.args.count = omega arith in rw all at rest
 
-pub format_each_argument-shape_of-room-in_default : goal.format_each_argument-shape_of-room-in_default
-format_each_argument-shape_of-room-in_default t c =
-    c.loop-left.invariant.0
+pub format_each_argument-returns-then-is_some : goal.format_each_argument-returns-then-is_some
+format_each_argument-returns-then-is_some t c = c.loop.invariant _ (has_ended (sym c.is_some.ensures ∙ c.if-is_some.true))
 
-pub format_each_argument-returns-in_default : goal.format_each_argument-returns-in_default
-format_each_argument-returns-in_default t c =
-    record {
-      from = λ start here.
-          let now = c.loop-left.invariant.1 start here in
-          now.2 _ _ (stays_refused c.in_default.is);
-    }
+pub format_each_argument-format_argument-requires : goal.format_each_argument-format_argument-requires
+format_each_argument-format_argument-requires t c = (omega arith, tt)
 
-pub format_each_argument-format_argument-answer-requires : goal.format_each_argument-format_argument-answer-requires
-format_each_argument-format_argument-answer-requires t c =
-    (omega arith, tt)
-
-pub format_each_argument-overflow_sub-left : goal.format_each_argument-overflow_sub-left
-format_each_argument-overflow_sub-left t c =
-    c.loop-left-test.true
-
-pub format_each_argument-loop-left-smaller : goal.format_each_argument-loop-left-smaller
-format_each_argument-loop-left-smaller t c =
-    omega (arith, c.loop-left-test.true)
-
-pub format_each_argument-loop-left-preserved : goal.format_each_argument-loop-left-preserved
-format_each_argument-loop-left-preserved t c =
-    let of = c.args.of in (
-      c.format_argument-answer.auto.room ∙ c.loop-left.invariant.0,
-      λ start here.
-          let now = c.loop-left.invariant.1 start here in
-          let item = c.format_argument-answer.ensures.from now.0 now.1 in
-          (_, item.next, λ said after rest. now.2 said after (one_left _ _ of c.loop-left.left now.0 c.loop-left-test.true item rest)),
-    )
-
-pub format_each_argument-shape_of-room : goal.format_each_argument-shape_of-room
-format_each_argument-shape_of-room t c =
-    c.loop-left.invariant.0
+pub format_each_argument-loop-preserved : goal.format_each_argument-loop-preserved
+format_each_argument-loop-preserved t c after rest =
+    let left = c.args.count - c.loop.counter in
+    let next : left - 1 ≡ c.args.count - (c.loop.counter + 1) = omega arith in
+    c.loop.invariant after (one_left c.args.levels c.args.of left (omega arith) c.format_argument.ensures (rw (← next) at rest))
 
 pub format_each_argument-returns : goal.format_each_argument-returns
 format_each_argument-returns t c =
-    let of = c.args.of in
-    record {
-      from = λ start here.
-          let now = c.loop-left.invariant.1 start here in
-          let cleared = (c.clear_spc_if_next.ensures _).from now.0 now.1 in
-          now.2 _ _ (none_left _ _ of c.loop-left.left now.0 c.loop-left-test.false cleared);
-    }
+    c.loop.invariant _ (none_left c.args.levels c.args.of (c.args.count - c.loop.counter) (omega arith) c.clear_spc_if_next.ensures)
 
 -- ---- format_expression: what is no binary expression is a factor, as nothing else may stand there
 
 pub format_expression-returns-in_default : goal.format_expression-returns-in_default
-format_expression-returns-in_default t c = refused_before c.in_default.is
-
-pub format_expression-returns-in_default-opened : goal.format_expression-returns-in_default-opened
-format_expression-returns-in_default-opened t c =
-    let done = c.in-Done.is in
-    rw done
-    (rw (← c.expression_class-class.ensures) (shown_closed c.open-opened.ensures.opens (leaf plain) c.in_default-opened.is c.closed.ensures.answer))
+format_expression-returns-in_default t c = rw (← c.expression_class.ensures) (closed c.open.ensures (leaf plain) c.in_default.is)
 
 pub format_expression-overflow_sub-levels : goal.format_expression-overflow_sub-levels
-format_expression-overflow_sub-levels t c =
-    opened_levels c.open-opened.ensures.opens c.in-Record.is
+format_expression-overflow_sub-levels t c = opened_levels c.open.ensures c.in-Some.is
 
 pub format_expression-format_binary_expression-requires : goal.format_expression-format_binary_expression-requires
-format_expression-format_binary_expression-requires t c =
-    let levels_left = opened_levels c.open-opened.ensures.opens c.in-Record.is in
-    (omega (arith, levels_left), tt)
+format_expression-format_binary_expression-requires t c = let some = opened_levels c.open.ensures c.in-Some.is in (omega (arith, some), tt)
 
 pub format_expression-overflow_sub-levels-in_default-kind : goal.format_expression-overflow_sub-levels-in_default-kind
-format_expression-overflow_sub-levels-in_default-kind t c =
-    opened_levels c.open-opened.ensures.opens c.in-Record.is
+format_expression-overflow_sub-levels-in_default-kind t c = opened_levels c.open.ensures c.in-Some.is
 
 pub format_expression-format_factor-requires : goal.format_expression-format_factor-requires
-format_expression-format_factor-requires t c =
-    let levels_left = opened_levels c.open-opened.ensures.opens c.in-Record.is in
-    (omega (arith, levels_left), tt)
+format_expression-format_factor-requires t c = let some = opened_levels c.open.ensures c.in-Some.is in (omega (arith, some), tt)
 
 pub format_expression-returns-in-BinaryExpression : goal.format_expression-returns-in-BinaryExpression
-unfolding built field_trees fields_end events_in bit_at kind_number stored_with
+unfolding built field_trees fields_end events_in
 format_expression-returns-in-BinaryExpression t c =
-    let opens = rw c.expression_class-class.ensures at c.open-opened.ensures.opens in
-    let is = c.in-Record.is in
-    let done = c.in-Done.is in
-    rw done
-    (opened_kind opens is (leaf plain) variant.BinaryExpression c.in-BinaryExpression.is refl
-    (record { from = λ at here. c.format_binary_expression.ensures.from at here }))
+    let opens = rw c.expression_class.ensures at c.open.ensures in
+    opened_kind opens c.in-Some.is (leaf plain) variant.BinaryExpression c.in-BinaryExpression.is refl c.format_binary_expression.ensures
 
 pub format_expression-returns-in_default-kind : goal.format_expression-returns-in_default-kind
-unfolding kind_number stored_with built
+unfolding built
 format_expression-returns-in_default-kind t c =
-    let located = c.args.located in
-    let opens = rw c.expression_class-class.ensures at c.open-opened.ensures.opens in
-    let is = c.in-Record.is in
-    let done = c.in-Done.is in
-    rw done
-    (opened_kind opens is (leaf plain) variant.Factor (factor_is located opens is c.in_default-kind.not-BinaryExpression) refl c.format_factor.ensures)
+    let opens = rw c.expression_class.ensures at c.open.ensures in
+    let is = c.in-Some.is in
+    opened_kind opens is (leaf plain) variant.Factor (factor_is c.args.located opens is c.in_default-kind.not-BinaryExpression) refl c.format_factor.ensures
 
 -- ---- format_expression_factor: each case has its printer; what has no arm is the program counter
 
 pub format_expression_factor-returns-in_default : goal.format_expression_factor-returns-in_default
-format_expression_factor-returns-in_default t c = refused_before c.in_default.is
-
-pub format_expression_factor-returns-in_default-opened : goal.format_expression_factor-returns-in_default-opened
-format_expression_factor-returns-in_default-opened t c =
-    let done = c.in-Done.is in
-    rw done
-    (shown_closed c.open-opened.ensures.opens (leaf plain) c.in_default-opened.is c.closed.ensures.answer)
+format_expression_factor-returns-in_default t c = closed c.open.ensures (leaf plain) c.in_default.is
 
 pub format_expression_factor-overflow_sub-inner : goal.format_expression_factor-overflow_sub-inner
-format_expression_factor-overflow_sub-inner t c =
-    opened_levels c.open-opened.ensures.opens c.in-Record.is
+format_expression_factor-overflow_sub-inner t c = opened_levels c.open.ensures c.in-Some.is
 
 pub format_expression_factor-format_parens-requires : goal.format_expression_factor-format_parens-requires
-format_expression_factor-format_parens-requires t c =
-    let levels_left = opened_levels c.open-opened.ensures.opens c.in-Record.is in
-    (omega (arith, levels_left), tt)
+format_expression_factor-format_parens-requires t c = let some = opened_levels c.open.ensures c.in-Some.is in (omega (arith, some), tt)
 
 pub format_expression_factor-format_call-requires : goal.format_expression_factor-format_call-requires
-format_expression_factor-format_call-requires t c =
-    let levels_left = opened_levels c.open-opened.ensures.opens c.in-Record.is in
-    (omega (arith, levels_left), tt)
+format_expression_factor-format_call-requires t c = let some = opened_levels c.open.ensures c.in-Some.is in (omega (arith, some), tt)
 
 pub format_expression_factor-returns-in-ExprParens : goal.format_expression_factor-returns-in-ExprParens
-unfolding built field_trees fields_end events_in bit_at kind_number stored_with
+unfolding built field_trees fields_end events_in
 format_expression_factor-returns-in-ExprParens t c =
-    let opens = c.open-opened.ensures.opens in
-    let is = c.in-Record.is in
-    let done = c.in-Done.is in
-    rw done
-    (opened_kind opens is (leaf plain) variant.ExprParens c.in-ExprParens.is refl
-    (record { from = λ at here. c.format_parens.ensures.from at here }))
+    opened_kind c.open.ensures c.in-Some.is (leaf plain) variant.ExprParens c.in-ExprParens.is refl c.format_parens.ensures
 
 pub format_expression_factor-returns-in-FunctionCall : goal.format_expression_factor-returns-in-FunctionCall
-unfolding built field_trees fields_end events_in bit_at kind_number stored_with
+unfolding built field_trees fields_end events_in
 format_expression_factor-returns-in-FunctionCall t c =
-    let opens = c.open-opened.ensures.opens in
-    let is = c.in-Record.is in
-    let done = c.in-Done.is in
-    rw done
-    (opened_kind opens is (leaf plain) variant.FunctionCall c.in-FunctionCall.is refl
-    (record { from = λ at here. c.format_call.ensures.from at here }))
+    opened_kind c.open.ensures c.in-Some.is (leaf plain) variant.FunctionCall c.in-FunctionCall.is refl c.format_call.ensures
 
 pub format_expression_factor-returns-in-IdentifierValue : goal.format_expression_factor-returns-in-IdentifierValue
-unfolding built field_trees fields_end events_in bit_at kind_number stored_with
+unfolding built field_trees fields_end events_in
 format_expression_factor-returns-in-IdentifierValue t c =
-    let opens = c.open-opened.ensures.opens in
-    let is = c.in-Record.is in
-    let done = c.in-Done.is in
-    rw done
-    (opened_kind opens is (leaf plain) variant.IdentifierValue c.in-IdentifierValue.is refl
-    (record { from = λ at here. c.format_identifier_value.ensures.from at here }))
+    opened_kind c.open.ensures c.in-Some.is (leaf plain) variant.IdentifierValue c.in-IdentifierValue.is refl c.format_identifier_value.ensures
 
 pub format_expression_factor-returns-in-Number : goal.format_expression_factor-returns-in-Number
-unfolding built field_trees fields_end events_in bit_at kind_number stored_with
+unfolding built field_trees fields_end events_in
 format_expression_factor-returns-in-Number t c =
-    let opens = c.open-opened.ensures.opens in
-    let is = c.in-Record.is in
-    let done = c.in-Done.is in
-    rw done
-    (opened_kind opens is (leaf plain) variant.Number c.in-Number.is refl
-    (record { from = λ at here. c.format_number.ensures.from at here }))
+    opened_kind c.open.ensures c.in-Some.is (leaf plain) variant.Number c.in-Number.is refl c.format_number.ensures
 
 pub format_expression_factor-returns-in-StringFactor : goal.format_expression_factor-returns-in-StringFactor
-unfolding built field_trees fields_end events_in bit_at kind_number stored_with
+unfolding built field_trees fields_end events_in
 format_expression_factor-returns-in-StringFactor t c =
-    let opens = c.open-opened.ensures.opens in
-    let is = c.in-Record.is in
-    let done = c.in-Done.is in
-    rw done
-    (opened_kind opens is (leaf plain) variant.StringFactor c.in-StringFactor.is refl
-    (record { from = λ at here. c.format_string.ensures.from at here }))
+    opened_kind c.open.ensures c.in-Some.is (leaf plain) variant.StringFactor c.in-StringFactor.is refl c.format_string.ensures
 
 pub format_expression_factor-returns-in_default-kind : goal.format_expression_factor-returns-in_default-kind
-unfolding built field_trees fields_end events_in bit_at kind_number stored_with
+unfolding built field_trees fields_end events_in
 format_expression_factor-returns-in_default-kind t c =
-    let opens = c.open-opened.ensures.opens in
-    let is = c.in-Record.is in
+    let opens = c.open.ensures in
+    let is = c.in-Some.is in
     let other = c.in_default-kind in
     let kind = counter_is opens is other.not-ExprParens other.not-FunctionCall other.not-IdentifierValue other.not-Number other.not-StringFactor in
-    let done = c.in-Done.is in
-    rw done
-    (opened_kind opens is (leaf plain) variant.CurrentProgramCounter kind refl
-    (record { from = λ at here. c.character.ensures.from at here }))
+    opened_kind opens is (leaf plain) variant.CurrentProgramCounter kind refl (c.format_leaf.ensures.leaf char_leaf)
 
 -- ---- format_factor: the signs are printed behind the factor that was skipped, and the walk goes back to it; without signs nothing is skipped
 
-pub format_factor-returns-in_default : goal.format_factor-returns-in_default
-format_factor-returns-in_default t c = refused_before c.in_default.is
-
 pub format_factor-format_expression_factor-requires : goal.format_factor-format_expression_factor-requires
-format_factor-format_expression_factor-requires t c =
-    (omega arith, tt)
+format_factor-format_expression_factor-requires t c = (omega arith, tt)
 
 pub format_factor-returns-then-not-tag_neg : goal.format_factor-returns-then-not-tag_neg
+unfolding built field_trees fields_end events_in bit_at run view
 format_factor-returns-then-not-tag_neg t c =
-    let first = c.stands-tag_not.result in
-    let second = c.stands-tag_neg.result in
-    let none : (first || second) ≡ false = simp (c.if-not-tag_neg.true.0, c.if-not-tag_neg.true.1) in
-    let signs = rw (c.stands-tag_not.ensures, c.stands-tag_neg.ensures) at none in
-    done_before c.in-Done.is (unsigned_shown _ _ _ _ _ signs (c.format_expression_factor.ensures.from _ refl))
+    let not = c.stands-tag_not.ensures in
+    let neg = c.stands-tag_neg.ensures in
+    let none = c.if-not-tag_neg.true in
+    ends_alike c.format_expression_factor.ensures (λ x. rw (← not, ← neg, none.0, none.1) refl) (rw (← not, ← neg, none.0, none.1) refl)
 
-pub format_factor-returns-in_default-tags : goal.format_factor-returns-in_default-tags
-format_factor-returns-in_default-tags t c =
-    let first = c.stands-tag_not.result in
-    let second = c.stands-tag_neg.result in
-    let some : (first || second) ≡ true =
-    ⊎_elim (λ (one : first ≡ true). simp one) (λ (other : (first ≡ false) × (second ≡ true)). simp (other.0, other.1)) c.if-not-tag_neg.either in
-    let signs = rw (c.stands-tag_not.ensures, c.stands-tag_neg.ensures) at some in
-    done_before c.in-Done.is
-    (signed_shown _ _ _ _ _ refl signs (handed_on (c.format_tags-tags.ensures.from _ refl) c.in_default-tags.is))
-
-pub format_factor-format_expression_factor-printed-requires : goal.format_factor-format_expression_factor-printed-requires
-format_factor-format_expression_factor-printed-requires t c =
-    (omega arith, tt)
+pub format_factor-format_expression_factor-requires-2 : goal.format_factor-format_expression_factor-requires-2
+format_factor-format_expression_factor-requires-2 t c = (omega arith, tt)
 
 pub format_factor-returns : goal.format_factor-returns
+unfolding built field_trees fields_end events_in bit_at run
 format_factor-returns t c =
+    let levels = c.args.levels in
+    let tree = c.args.printer.now.tree.now in
     let first = c.stands-tag_not.result in
     let second = c.stands-tag_neg.result in
     let some : (first || second) ≡ true =
     ⊎_elim (λ (one : first ≡ true). simp one) (λ (other : (first ≡ false) × (second ≡ true)). simp (other.0, other.1)) c.if-not-tag_neg.either in
-    let signs = rw (c.stands-tag_not.ensures, c.stands-tag_neg.ensures) at some in
-    let tags = c.format_tags-tags.ensures.from _ refl in
-    let done = c.in-Done-tags.is in
-    let back = (c.moved_to.ensures _).from _ refl in
-    let factor = c.format_expression_factor-printed.ensures.from _ back.next in
-    let onward = (c.moved_to-2.ensures _).from _ factor.next in
-    done_before c.in-Done.is
-    (signed_shown _ _ _ _ _ (place_behind tags done) signs (ran_printer tags done then back thence factor thence onward))
+    let behind = (read levels tree LocatedFactor c.args.printer.now.at).end in
+    let next = cond first (read levels tree Char behind).end behind in
+    let not = c.stands-tag_not.ensures in
+    let neg = c.stands-tag_neg.ensures in
+    ends_alike (c.format_tags.ensures onward aside c.move_to.ensures c.format_expression_factor-2.ensures c.move_to-2.ensures)
+    (λ x. rw (← not, ← neg, field_stands first levels tree Char behind, field_stands second levels tree Char next, some) refl)
+    (rw (← not, ← neg) refl)
 
 -- ---- format_parens: the fields are printed in their order
 
-pub format_parens-format_expression-inner-requires : goal.format_parens-format_expression-inner-requires
-format_parens-format_expression-inner-requires t c =
-    (omega arith, tt)
+pub format_parens-format_expression-requires : goal.format_parens-format_expression-requires
+format_parens-format_expression-requires t c = (omega arith, tt)
 
 pub format_parens-returns : goal.format_parens-returns
-unfolding built field_trees fields_end events_in bit_at
-format_parens-returns t c =
-    record {
-      from = λ at here.
-          let lparen = c.character-lparen.ensures.from at here in
-          let inner = c.format_expression-inner.ensures.from _ lparen.next in
-          let rparen = c.character.ensures.from _ inner.next in
-          lparen thence inner thence rparen;
-    }
+unfolding built field_trees fields_end events_in
+format_parens-returns t c = c.format_leaf.ensures.leaf char_leaf onward c.format_expression.ensures onward c.format_leaf-2.ensures.leaf char_leaf
 
 -- ---- format_value: each sort of list has its own class of values
 
 pub format_value-format_expression-requires : goal.format_value-format_expression-requires
-format_value-format_expression-requires t c =
-    (omega arith, tt)
+format_value-format_expression-requires t c = (omega arith, tt)
 
 pub format_value-returns-in-Expressions : goal.format_value-returns-in-Expressions
-format_value-returns-in-Expressions t c =
-    rw c.in-Expressions.is c.format_expression.ensures
+format_value-returns-in-Expressions t c = rw c.in-Expressions.is c.format_expression.ensures
 
 pub format_value-returns-in-Identifiers : goal.format_value-returns-in-Identifiers
-format_value-returns-in-Identifiers t c =
-    rw c.in-Identifiers.is c.word.ensures
+format_value-returns-in-Identifiers t c = rw c.in-Identifiers.is (c.format_leaf.ensures.leaf word_leaf)
 
 pub format_value-returns-in-Imports : goal.format_value-returns-in-Imports
-format_value-returns-in-Imports t c =
-    rw c.in-Imports.is c.format_import_path.ensures
+format_value-returns-in-Imports t c = rw c.in-Imports.is c.format_import_path.ensures

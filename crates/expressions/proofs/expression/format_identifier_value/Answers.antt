@@ -1,32 +1,30 @@
 -- Without a modifier the path is a leaf; with one, the path is skipped on the way to it and printed behind it.
 use mathlib.Core.Path.{refl}
-use Rattle.printing.proofs.Running.{◌thence◌, ◌then◌, ran_printer, handed_on, place_behind, refused_before, done_before}
-use Rattle.expressions.proofs.Operands.{moved_back, path_bare, path_modified}
+use Rattle.tree.specs.Tree.{built}
+use Rattle.tree.specs.declared.grammar.Class.TheVariants.{Word, AddressModifier}
+use Rattle.tree.specs.Reading.{read}
+use Rattle.printing.specs.Running.{run}
+use Rattle.events.specs.Views.{view, bit_at}
+use Rattle.events.specs.Trees.{events_in}
+use Rattle.events.proofs.Heads.{read_stands}
+use Rattle.leaves.specs.Records.{field_trees, fields_end}
+use Rattle.leaves.proofs.Classes.{word_leaf, address_modifier_leaf}
+use Rattle.printers.proofs.Going.{◌onward◌, ends_alike, aside}
 use Rattle.expressions.proofs.expression.format_identifier_value.Goals as goal
 
-pub returns-in_default : goal.returns-in_default
-returns-in_default c = refused_before c.in_default.is
-
 pub returns-then-not-stands : goal.returns-then-not-stands
+unfolding built field_trees fields_end events_in bit_at run view
 returns-then-not-stands c =
-    done_before c.in-Done.is
-    (path_bare _ _ _ _ _ c.stands.ensures c.if-not-stands.true (c.word.ensures.from _ refl))
-
-pub returns-in_default-modifier : goal.returns-in_default-modifier
-returns-in_default-modifier c =
-    let skipped = (c.skip-skipped.ensures.from _).from _ refl in
-    let printed = c.modifier-modifier.ensures.from _ skipped.next in
-    done_before c.in-Done.is
-    (path_modified _ _ _ _ _ c.stands.ensures c.if-not-stands.false refl (skipped thence handed_on printed c.in_default-modifier.is))
+    ends_alike (c.format_leaf.ensures.leaf word_leaf)
+    (λ x. rw (← c.stands.ensures, c.if-not-stands.true) refl) (rw (← c.stands.ensures, c.if-not-stands.true) refl)
 
 pub returns : goal.returns
+unfolding built field_trees fields_end events_in bit_at run
 returns c =
-    let skipped = (c.skip-skipped.ensures.from _).from _ refl in
-    let printed = c.modifier-modifier.ensures.from _ skipped.next in
-    let back = (c.moved_to.ensures _).from _ refl in
-    let path = c.word-value.ensures.from _ back.next in
-    let behind = (c.moved_to-2.ensures _).from _ path.next in
-    let is = c.in-Done-modifier.is in
-    let some = c.if-not-stands.false in
-    done_before c.in-Done.is
-    (path_modified _ _ _ _ _ c.stands.ensures some (place_behind printed is) (moved_back (skipped thence ran_printer printed is then back thence path thence behind)))
+    let levels = c.args.levels in
+    let tree = c.args.printer.now.tree.now in
+    let path = read levels tree Word c.args.printer.now.at in
+    ends_alike (c.skip.ensures onward c.format_leaf-2.ensures.leaf address_modifier_leaf
+    onward aside c.move_to.ensures (c.format_leaf-3.ensures.leaf word_leaf) c.move_to-2.ensures)
+    (λ x. rw (← c.stands.ensures, c.if-not-stands.false, read_stands levels tree AddressModifier path.end) refl)
+    (rw (← c.stands.ensures, c.if-not-stands.false) refl)

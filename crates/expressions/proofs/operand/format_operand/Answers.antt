@@ -1,36 +1,38 @@
 -- An operand that was opened is printed in two parts, its front and its tail.
 use mathlib.Core.Path.{refl}
+use Prim.Native.Nat.{◌-◌}
+use Rattle.tree.specs.Reading.{read}
 use Rattle.tree.specs.Tree.{built}
-use Rattle.tree.specs.Stored.{stored_with}
+use Rattle.tree.specs.declared.grammar.Class.TheVariants.{Char, LocatedExpression}
 use Rattle.tree.specs.declared.grammar.Kind.TheVariants as variant
-use Rattle.tree.proofs.KindLayout.{kind_number}
-use Rattle.printing.proofs.Running.{◌thence◌}
+use Rattle.printing.specs.Running.{run}
 use Rattle.events.specs.Printed.{plain}
-use Rattle.events.specs.Trees.{leaf}
-use Rattle.leaves.proofs.Fielded.{opened_levels, opened_one, opened_kind, shown_closed}
-use Rattle.expressions.proofs.Operands.{operand_shown}
+use Rattle.events.specs.Views.{bit_at}
+use Rattle.events.specs.Trees.{leaf, events_in}
+use Rattle.leaves.specs.Records.{field_trees, fields_end}
+use Rattle.printers.proofs.Going.{◌onward◌, ends_alike}
+use Rattle.printers.proofs.Opening.{closed, opened_levels, opened_one, opened_kind}
+use Rattle.expressions.proofs.Stands.{field_stands}
 use Rattle.expressions.proofs.operand.format_operand.Goals as goal
 
 pub returns-in_default : goal.returns-in_default
-returns-in_default c =
-    shown_closed c.open-opened.ensures.opens (leaf plain) c.in_default.is c.closed.ensures.answer
+returns-in_default c = closed c.open.ensures (leaf plain) c.in_default.is
 
 pub overflow_sub-levels : goal.overflow_sub-levels
-overflow_sub-levels c =
-    opened_levels c.open-opened.ensures.opens c.in-Record.is
+overflow_sub-levels c = opened_levels c.open.ensures c.in-Some.is
 
 pub overflow_sub-levels-2 : goal.overflow_sub-levels-2
-overflow_sub-levels-2 c =
-    opened_levels c.open-opened.ensures.opens c.in-Record.is
+overflow_sub-levels-2 c = opened_levels c.open.ensures c.in-Some.is
 
 pub returns : goal.returns
-unfolding built kind_number stored_with
+unfolding built field_trees fields_end events_in bit_at run
 returns c =
-    let opens = c.open-opened.ensures.opens in
-    let is = c.in-Record.is in
-    opened_kind opens is (leaf plain) variant.Operand (opened_one opens is 37 variant.Operand refl refl refl refl) refl (record {
-      from = λ at here.
-          let front = c.format_front-front.ensures.from at here in
-          let tail = c.format_tail.ensures.from _ front.next in
-          operand_shown _ _ _ _ _ c.stands-lchar.ensures c.stands-rchar.ensures c.stands-suffix.ensures (front thence tail);
-    })
+    let opens = c.open.ensures in
+    let is = c.in-Some.is in
+    let levels = c.args.levels - 1 in
+    let from = c.open.new.printer in
+    let lchar = field_stands c.stands.result levels from.tree.now Char (read levels from.tree.now LocatedExpression from.at).end in
+    opened_kind opens is (leaf plain) variant.Operand (opened_one opens is 37 variant.Operand refl refl refl refl) refl
+    (ends_alike (c.format_front.ensures onward c.format_tail.ensures)
+    (λ x. rw (← c.stands.ensures, ← c.stands-2.ensures, ← c.stands-3.ensures, lchar) refl)
+    (rw (← c.stands.ensures, ← c.stands-2.ensures, ← c.stands-3.ensures) refl))

@@ -1,37 +1,23 @@
--- The loop's invariant: whoever shows what is left from here has shown all the items. The measure is how many are left.
-use mathlib.Core.Path.{refl, ◌∙◌}
-use Rattle.printing.proofs.Running.{◌thence◌, stays_refused}
-use Rattle.expressions.proofs.StringItems.{items_none, items_next}
+-- One item is printed, and those behind it go on; where none is left, or the walk has ended, nothing goes on.
+use mathlib.Core.Path.{◌≡◌, sym, ◌∙◌}
+use Prim.Native.Nat.{◌+◌, ◌-◌}
+use native.Mathlib.Omega.{arith}
+use Rattle.printers.proofs.Going.{has_ended}
+use Rattle.expressions.proofs.StringItems.{no_item, one_item}
 use Rattle.expressions.proofs.strings.format_each_item.Goals as goal
 
-pub loop-left-init : goal.loop-left-init
-loop-left-init c = (refl, λ start here. (start, here, λ r w s. s))
+pub loop-init : goal.loop-init
+loop-init c after rest =
+    let all : c.args.count - 0 ≡ c.args.count = omega arith in
+    rw all at rest
 
-pub shape_of-room-in_default : goal.shape_of-room-in_default
-shape_of-room-in_default c = c.loop-left.invariant.0
+pub returns-then-is_some : goal.returns-then-is_some
+returns-then-is_some c = c.loop.invariant _ (has_ended (sym c.is_some.ensures ∙ c.if-is_some.true))
 
-pub returns-in_default : goal.returns-in_default
-returns-in_default c = record {
-  from = λ start here. (c.loop-left.invariant.1 start here).2 _ _ (stays_refused c.in_default.is);
-}
-
-pub loop-left-preserved : goal.loop-left-preserved
-loop-left-preserved c =
-    let inv = c.loop-left.invariant in (
-      c.format_string_item-answer.auto.room ∙ inv.0,
-      λ start here.
-          let held = inv.1 start here in
-          let shown = c.format_string_item-answer.ensures.from held.0 held.1 in
-          (_, shown.next, λ r w rest. held.2 r w (items_next _ _ _ _ _ c.loop-left-test.true (shown thence rest))),
-    )
-
-pub shape_of-room : goal.shape_of-room
-shape_of-room c = c.loop-left.invariant.0
+pub loop-preserved : goal.loop-preserved
+loop-preserved c after rest =
+    let left : c.args.count - (c.loop.counter + 1) ≡ c.args.count - c.loop.counter - 1 = omega arith in
+    c.loop.invariant after (one_item _ _ (omega arith) c.format_string_item.ensures (rw left at rest))
 
 pub returns : goal.returns
-returns c =
-    record {
-      from = λ start here.
-          let held = c.loop-left.invariant.1 start here in
-          held.2 _ _ (items_none _ _ _ _ _ c.loop-left-test.false ((c.settled.ensures _).from held.0 held.1));
-    }
+returns c = c.loop.invariant _ (no_item _ _ (omega arith))

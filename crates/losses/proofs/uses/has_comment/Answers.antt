@@ -1,19 +1,19 @@
--- An item that breaks the layout; a comment; any other item; none is left.
-use Rattle.std.proofs.Common.{◌≡◌, ◌+◌, ◌-◌, sym, ◌∙◌, arith}
-use Rattle.losses.proofs.Comments.{comment_none, comment_broken, comment_here, comment_later}
+-- Some item that the iterator has is a comment.
+use mathlib.Core.Path.{refl, sym, ap, ◌∙◌}
+use Rattle.std.proofs.Common.{rules, tests}
+use Rattle.std.specs.List.{list_any}
+use Rattle.std.proofs.lemmas.Iterator.Consumers.{YieldsList-from_first}
+use Rattle.std.proofs.lemmas.Iterator.Search.{any_from_yields_List}
+use Rattle.tree.specs.Parts.{trivia_left}
+use Rattle.tree.specs.declared.parts.TriviumSpan.{TriviumSpan}
+use Rattle.reading.specs.Places.{has_comment}
+use Rattle.leaves.proofs.Spans.{items_read}
+use Rattle.losses.proofs.Comments.{is_comment, any_comment}
 use Rattle.losses.proofs.uses.has_comment.Goals as goal
 
-pub returns-in_default : goal.returns-in_default
-returns-in_default c = sym (c.loop.invariant ∙ comment_broken _ _ _ (omega arith) c.trivium_at.ensures c.in_default.is)
-
-pub returns-then-item-ge-C_STYLE : goal.returns-then-item-ge-C_STYLE
-returns-then-item-ge-C_STYLE c =
-    sym (c.loop.invariant ∙ comment_here _ _ _ (omega arith) c.trivium_at.ensures _ c.in-Some.is c.if-item-ge-C_STYLE.true)
-
-pub loop-preserved : goal.loop-preserved
-loop-preserved c =
-    let left : c.args.count - c.loop.counter - 1 ≡ c.args.count - (c.loop.counter + 1) = omega arith in
-    rw left at (c.loop.invariant ∙ comment_later _ _ _ (omega arith) c.trivium_at.ensures _ c.in-Some.is c.if-item-ge-C_STYLE.false)
-
 pub returns : goal.returns
-returns c = sym (c.loop.invariant ∙ comment_none _ _ _ (omega arith))
+returns c =
+    let tree = c.args.tree.now in
+    any_from_yields_List is_comment c.any.new.self _ c.any.result c.any.ensures.ran
+    (YieldsList-from_first (λ (item : TriviumSpan). item) trivia_left {s = c.new.result} _ refl) (λ x b q k. search (rules, tests))
+    ∙ ap (list_any is_comment) c.new.ensures ∙ any_comment tree _ ∙ ap has_comment (sym (items_read tree c.args.at c.args.count).texts)

@@ -1,9 +1,8 @@
 -- The chunk that is appended is the one of the definition, and whether it is a newline was asked of the same text.
 use mathlib.Core.Path.{◌≡◌, refl, sym, ◌∙◌}
-use Rattle.std.specs.Prelude.{Ok}
+use Rattle.std.specs.Prelude.{false, Ok}
 use Rattle.chunks.specs.Appending.{with_colon}
-use Rattle.printing.specs.Running.{behind}
-use Rattle.printing.specs.declared.CodeFormatter.{CodeFormatter}
+use Rattle.printing.specs.Running.{State, behind}
 use Rattle.printing.proofs.Pushing.{empty_not_pushed}
 use Rattle.printing.proofs.Running.{ran_push}
 use Rattle.printers.specs.Going.{state_of}
@@ -25,7 +24,7 @@ returns-then-no_text c =
 pub returns-after-newline : goal.returns-after-newline
 returns-after-newline c =
     let self = c.args.self.now in
-    let next : CodeFormatter = record { used = c.in-Ok.end; solid = c.if-newline.self; spc_if_next = 0; full = 0 } in
+    let next : State = record { used = c.in-Ok.end; solid = c.if-newline.self; spaced = false; full = 0 } in
     let moved : next ≡ behind (state_of self) c.lone_newline-newline.result (Ok c.in-Ok.end) =
     elim c.if-newline.branch [ then-newline w ↦ rw (w.self-is, w.if-newline.true) refl | else-newline w ↦ rw (w.self-is, w.if-newline.false) refl ] in
     goes_on next (sym c.is_some.ensures ∙ c.if-is_some.false) refl refl

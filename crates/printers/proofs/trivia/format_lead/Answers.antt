@@ -1,23 +1,48 @@
--- A newline is dropped, and those behind it go on; from any other item on all are printed; where none is left, or the layout is broken, nothing goes on.
-use Rattle.leaves.proofs.Items.{item_lies}
-use Rattle.printers.proofs.Items.{no_lead, broken_lead, dropped_lead, other_lead}
+-- A newline first is dropped; from any other item on all are printed.
+use mathlib.Core.Path.{◌≡◌, sym, ◌∙◌}
+use Rattle.tree.specs.Parts.{spans_at, trivia_left}
+use Rattle.leaves.proofs.Spans.{items_read}
+use Rattle.printers.proofs.Going.{tree_stays}
+use Rattle.printers.proofs.Items.{no_span, one_span, first_span, dropped_span, all_leads}
 use Rattle.printers.proofs.trivia.format_lead.Goals as goal
+use Rattle.printers.proofs.trivia.format_lead.Goals.{else-first-via-then-first+else-only_newline, else-first-via-else-first}
 
-pub returns-in_default : goal.returns-in_default
-returns-in_default c = c.loop-left.invariant _ (broken_lead _ _ _ c.loop-left-test.true c.trivium_at.ensures c.in_default.is)
+pub loop-item-init : goal.loop-item-init
+loop-item-init c =
+    let tree = c.args.printer.now.tree.now in
+    let start : trivia_left c.into_iter-item-iterator.result ≡ spans_at tree c.args.at c.args.count =
+    rw c.into_iter-item-iterator.ensures.into_iter_gives c.new-item-items.ensures in
+    (rw start (items_read tree c.args.at c.args.count).lie, λ after goes. goes)
 
 pub only_newline-requires : goal.only_newline-requires
-only_newline-requires c = item_lies _ _ _ c.trivium_at.ensures c.in-Some.is
+only_newline-requires c = (rw c.in-Some.ensures.steps at c.loop-item.invariant).0.0
 
-pub returns-then-not-only_newline : goal.returns-then-not-only_newline
-returns-then-not-only_newline c =
-    c.loop-left.invariant _
-    (other_lead _ _ _ c.loop-left-test.true c.trivium_at.ensures _ c.in-Some.is c.only_newline.ensures c.if-not-only_newline.true c.format_trivia.ensures)
+pub format_trivium-requires : goal.format_trivium-requires
+format_trivium-requires c = (rw c.in-Some.ensures.steps at c.loop-item.invariant).0.0
 
-pub loop-left-preserved : goal.loop-left-preserved
-loop-left-preserved c after rest =
-    c.loop-left.invariant after
-    (dropped_lead _ _ _ c.loop-left-test.true c.trivium_at.ensures _ c.in-Some.is c.only_newline.ensures c.if-not-only_newline.false rest)
+pub loop-item-preserved : goal.loop-item-preserved
+loop-item-preserved c =
+    let left = rw c.in-Some.ensures.steps at c.loop-item.invariant in
+    let one = c.format_trivium.ensures in (
+      rw (tree_stays one) left.0.1,
+      λ after rest. left.1 after
+          (elim c.else-first.branch [
+            | else-first-via-then-first+else-only_newline w ↦ rw w.if-first.true (first_span c.in-Some.item _ (sym w.only_newline.ensures ∙ w.if-only_newline.false) one rest)
+            | else-first-via-else-first w ↦ rw w.if-first.false (one_span c.in-Some.item _ one rest)
+          ]),
+    )
+
+pub loop-item-preserved-then-only_newline : goal.loop-item-preserved-then-only_newline
+loop-item-preserved-then-only_newline c =
+    let left = rw c.in-Some.ensures.steps at c.loop-item.invariant in (
+      left.0.1,
+      λ after rest. left.1 after
+          (rw c.if-first.true (dropped_span c.in-Some.item _ (sym c.only_newline.ensures ∙ c.if-only_newline.true) (rw c.if-first.true at rest))),
+    )
 
 pub returns : goal.returns
-returns c = c.loop-left.invariant _ (no_lead _ _ _ c.loop-left-test.false)
+returns c =
+    let start : trivia_left c.into_iter-item-iterator.result ≡ spans_at c.args.printer.now.tree.now c.args.at c.args.count =
+    rw c.into_iter-item-iterator.ensures.into_iter_gives c.new-item-items.ensures in
+    let left = rw (c.in-None.ensures.steps.0, start) at c.loop-item.invariant.1 in
+    all_leads c.args.at c.args.count (left _ (no_span c.loop-item.first))

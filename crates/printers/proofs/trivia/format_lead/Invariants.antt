@@ -1,10 +1,13 @@
--- What goes on with the items that are left goes on with all of them. The measure is how many are left.
+-- The items that are left lie in the tree, and what goes on with them goes on with all; newlines are dropped as long as only such were met.
+use mathlib.Core.Bool.{true}
+use Rattle.tree.specs.Parts.{trivia_left}
+use Rattle.leaves.proofs.Spans.{Lie}
 use Rattle.printers.specs.declared.Printer.{Printer}
-use Rattle.printers.proofs.Items.{GoesLead}
+use Rattle.printers.proofs.Items.{GoesSpans}
 use Rattle.printers.proofs.trivia.format_lead.Given as goal
 
-abbrev pub invariant-loop-left : goal.invariant-loop-left
-invariant-loop-left l = (after : Printer) → GoesLead l.printer after l.place l.left → GoesLead l.initial.printer after l.at l.count
-
-abbrev pub decreases-loop-left : goal.decreases-loop-left
-decreases-loop-left l = l.left
+abbrev pub invariant-loop-item : goal.invariant-loop-item
+invariant-loop-item l =
+    let spans = trivia_left l.item-iterator in
+    Lie l.printer.tree.now spans
+    × ((after : Printer) → GoesSpans l.first l.printer after spans → GoesSpans true l.initial.printer after (trivia_left l.initial.item-iterator))

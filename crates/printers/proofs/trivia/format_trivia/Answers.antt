@@ -1,17 +1,31 @@
--- One item is printed, and those behind it go on; before an item that breaks the layout, and where none is left, nothing goes on.
-use Rattle.leaves.proofs.Items.{item_lies}
-use Rattle.printers.proofs.Items.{no_item, broken_item, one_item}
+-- One item is printed, and those behind it go on.
+use mathlib.Core.Bool.{false}
+use mathlib.Core.Path.{◌≡◌}
+use Rattle.tree.specs.Parts.{spans_at, trivia_left}
+use Rattle.leaves.proofs.Spans.{items_read}
+use Rattle.printers.proofs.Going.{tree_stays}
+use Rattle.printers.proofs.Items.{no_span, one_span, all_spans}
 use Rattle.printers.proofs.trivia.format_trivia.Goals as goal
 
+pub loop-item-init : goal.loop-item-init
+loop-item-init c =
+    let tree = c.args.printer.now.tree.now in
+    let start : trivia_left c.into_iter-item-iterator.result ≡ spans_at tree c.args.at c.args.count =
+    rw c.into_iter-item-iterator.ensures.into_iter_gives c.new-item-items.ensures in
+    (rw start (items_read tree c.args.at c.args.count).lie, λ after goes. goes)
+
 pub format_trivium-requires : goal.format_trivium-requires
-format_trivium-requires c = item_lies _ _ _ c.trivium_at.ensures c.in-Some.is
+format_trivium-requires c = (rw c.in-Some.ensures.steps at c.loop-item.invariant).0.0
 
-pub returns-in_default : goal.returns-in_default
-returns-in_default c = c.loop-left.invariant _ (broken_item _ _ _ c.loop-left-test.true c.trivium_at.ensures c.in_default.is)
-
-pub loop-left-preserved : goal.loop-left-preserved
-loop-left-preserved c after rest =
-    c.loop-left.invariant after (one_item _ _ _ c.loop-left-test.true c.trivium_at.ensures _ c.in-Some.is c.format_trivium.ensures rest)
+pub loop-item-preserved : goal.loop-item-preserved
+loop-item-preserved c =
+    let left = rw c.in-Some.ensures.steps at c.loop-item.invariant in
+    let one = c.format_trivium.ensures in
+    (rw (tree_stays one) left.0.1, λ after rest. left.1 after (one_span c.in-Some.item _ one rest))
 
 pub returns : goal.returns
-returns c = c.loop-left.invariant _ (no_item _ _ _ c.loop-left-test.false)
+returns c =
+    let start : trivia_left c.into_iter-item-iterator.result ≡ spans_at c.args.printer.now.tree.now c.args.at c.args.count =
+    rw c.into_iter-item-iterator.ensures.into_iter_gives c.new-item-items.ensures in
+    let left = rw (c.in-None.ensures.steps.0, start) at c.loop-item.invariant.1 in
+    all_spans c.args.at c.args.count (left _ (no_span false))

@@ -1,12 +1,14 @@
 -- By the code: whitespace is no chunk, a newline a chunk of code, and anything else a comment.
+use mathlib.Core.Logic.{⊎_elim}
 use mathlib.Core.Path.{refl}
-use borrow.Author.Tests.{eq-eqb, ne_eqb}
 use Rattle.text.proofs.Parts.{part_slice}
 use Rattle.printers.proofs.Going.{stays, there}
 use Rattle.printers.proofs.trivia.format_trivium.Goals as goal
 
-pub returns-then-item-eq-WHITESPACE : goal.returns-then-item-eq-WHITESPACE
-returns-then-item-eq-WHITESPACE c = there stays (rw (eq-eqb _ _ c.if-item-eq-WHITESPACE.true)) refl
+pub returns-in-Whitespace : goal.returns-in-Whitespace
+returns-in-Whitespace c = there stays (rw c.in-Whitespace.is refl) refl
 
-pub returns : goal.returns
-returns c = there (rw part_slice at c.push_type.ensures) (rw (ne_eqb _ _ c.if-item-eq-WHITESPACE.false, ne_eqb _ _ c.if-item-eq-NEWLINE.false)) refl
+pub returns-in-CStyle : goal.returns-in-CStyle
+returns-in-CStyle c =
+    let pushed = rw part_slice at c.push_type.ensures in
+    ⊎_elim (λ is. there pushed (rw is refl) refl) (λ is. there pushed (rw is refl) refl) c.in-CStyle.is

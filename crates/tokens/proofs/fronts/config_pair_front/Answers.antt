@@ -1,14 +1,7 @@
--- The key, a space, the sign and a space are what stands before the value, each going on from the one before.
-use Rattle.printing.proofs.Running.{◌thence◌}
+-- The key, a space, the sign and a space, one behind the other.
+use Rattle.leaves.proofs.Classes.{word_leaf, char_leaf}
+use Rattle.printers.proofs.Going.{◌onward◌}
 use Rattle.tokens.proofs.fronts.config_pair_front.Goals as goal
 
 pub returns : goal.returns
-returns c =
-    record {
-      from = λ at here.
-          let key = c.bare_word-key.ensures.from at here in
-          let gap = c.push-gap.ensures.from _ key.next in
-          let eq = c.character-eq.ensures.from _ gap.next in
-          let space = c.push.ensures.from _ eq.next in
-          key thence gap thence eq thence space;
-    }
+returns c = c.format_leaf.ensures.leaf word_leaf onward c.push.ensures onward c.format_leaf-2.ensures.leaf char_leaf onward c.push-2.ensures

@@ -1,29 +1,9 @@
--- The tag, the arguments, the source and the filename are printed with spaces between them, each going on from the one before.
-use mathlib.Core.Path.{◌∙◌}
-use Rattle.printing.proofs.Running.{◌thence◌}
+-- The tag, the arguments, the source and the filename, with spaces between and one to come.
+use Rattle.leaves.proofs.Classes.{word_leaf}
+use Rattle.printers.proofs.Going.{◌onward◌}
 use Rattle.tokens.proofs.fronts.import_front.Goals as goal
-
-pub shape_of-room : goal.shape_of-room
-shape_of-room c =
-    c.format_string-filename.auto.room
-    ∙ c.push-space.auto.room
-    ∙ c.word-source.auto.room
-    ∙ c.push-gap.auto.room
-    ∙ c.format_arguments-args.auto.room
-    ∙ c.push-behind.auto.room
-    ∙ c.bare_word-tag.auto.room
 
 pub returns : goal.returns
 returns c =
-    record {
-      from = λ at here.
-          let tag = c.bare_word-tag.ensures.from at here in
-          let gap = c.push-behind.ensures.from _ tag.next in
-          let imported = c.format_arguments-args.ensures.from _ gap.next in
-          let imported_gap = c.push-gap.ensures.from _ imported.next in
-          let source = c.word-source.ensures.from _ imported_gap.next in
-          let source_gap = c.push-space.ensures.from _ source.next in
-          let filename = c.format_string-filename.ensures.from _ source_gap.next in
-          let pending = (c.spc_if_next.ensures _).from _ filename.next in
-          tag thence gap thence imported thence imported_gap thence source thence source_gap thence filename thence pending;
-    }
+    c.format_leaf.ensures.leaf word_leaf onward c.push.ensures onward c.format_arguments.ensures onward c.push-2.ensures
+    onward c.format_leaf-2.ensures.leaf word_leaf onward c.push-3.ensures onward c.format_string.ensures onward c.spc_if_next.ensures

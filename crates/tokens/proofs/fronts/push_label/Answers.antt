@@ -1,11 +1,16 @@
 -- The text of the id, whose own bytes were read, is pushed with a colon behind it in one chunk.
-use mathlib.Core.Path.{refl}
+use mathlib.Core.Path.{refl, sym}
 use Rattle.text.proofs.Parts.{part_slice}
-use Rattle.printing.proofs.Running.{ran_push, finish, done_before}
-use Rattle.tokens.proofs.FrontParts.{id_shown}
+use Rattle.tree.specs.declared.grammar.Class.TheVariants.{Word}
+use Rattle.printing.specs.Running.{run}
+use Rattle.events.specs.Trees.{events_in}
+use Rattle.leaves.proofs.Classes.{word_leaf}
+use Rattle.printers.proofs.Going.{◌onward◌, ends_alike}
+use Rattle.tokens.proofs.PlainTokens.{text_read}
 use Rattle.tokens.proofs.fronts.push_label.Goals as goal
 
 pub returns : goal.returns
-returns c levels at is =
-    let pushed = finish (ran_push (rw part_slice at c.push_type-pushed.ensures.answer, rw part_slice at c.push_type-pushed.ensures.room)) c.finish.ensures.answer refl in
-    done_before refl (id_shown _ levels _ _ at is pushed)
+unfolding events_in run
+returns c levels place is =
+    let id = text_read _ Word _ levels _ word_leaf is in
+    ends_alike (rw part_slice at c.push_type.ensures onward c.move_to.ensures) (λ x. rw id.0 refl) (sym id.1)

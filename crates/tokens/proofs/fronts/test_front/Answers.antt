@@ -1,14 +1,7 @@
--- The tag and the name are printed, each with a space to come, each going on from the one before.
-use Rattle.printing.proofs.Running.{◌thence◌}
+-- The tag and the name, each with a space to come.
+use Rattle.leaves.proofs.Classes.{word_leaf}
+use Rattle.printers.proofs.Going.{◌onward◌}
 use Rattle.tokens.proofs.fronts.test_front.Goals as goal
 
 pub returns : goal.returns
-returns c =
-    record {
-      from = λ at here.
-          let tag = c.bare_word-tag.ensures.from at here in
-          let gap = (c.spc_if_next-gap.ensures _).from _ tag.next in
-          let name = c.format_expression-id.ensures.from _ gap.next in
-          let pending = (c.spc_if_next.ensures _).from _ name.next in
-          tag thence gap thence name thence pending;
-    }
+returns c = c.format_leaf.ensures.leaf word_leaf onward c.spc_if_next.ensures onward c.format_expression.ensures onward c.spc_if_next-2.ensures

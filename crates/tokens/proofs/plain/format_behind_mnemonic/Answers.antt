@@ -1,21 +1,15 @@
--- A space to come and the operand, behind which no space is to come: each goes on from the one before. Where no operand stands this leaves no space to come.
-use mathlib.Core.Path.{sym, ◌∙◌}
-use Rattle.printing.proofs.Running.{◌thence◌}
-use Rattle.tokens.proofs.PlainTokens.{no_operand}
+-- A space to come and the operand, behind which no space is to come. Where no operand stands it need not be asked for, since it would be taken back at once.
+use Rattle.events.specs.Trees.{events_in}
+use Rattle.printers.proofs.Going.{◌onward◌, runs_alike}
+use Rattle.tokens.proofs.PlainTokens.{taken_back}
 use Rattle.tokens.proofs.plain.format_behind_mnemonic.Goals as goal
-
-pub returns-then-not-stands : goal.returns-then-not-stands
-returns-then-not-stands c =
-    let none = sym c.stands.ensures ∙ c.if-not-stands.true in
-    record { from = λ at here. no_operand _ _ _ _ at none ((c.clear_spc_if_next.ensures _).from at here) }
+use Rattle.tokens.proofs.plain.format_behind_mnemonic.Goals.{then-stands, else-stands}
 
 pub returns : goal.returns
-returns c =
-    let one = sym c.stands.ensures ∙ c.if-not-stands.false in
-    record {
-      from = λ at here.
-          let gap = (c.spc_if_next-gap.ensures _).from at here in
-          let operand = c.format_operand-operand.ensures.from _ gap.next in
-          let clear = (c.clear_spc_if_next-2.ensures _).from _ operand.next in
-          rw one (gap thence operand thence clear);
-    }
+unfolding events_in
+returns c = elim c.if-stands.branch [
+  | then-stands w ↦
+      rw (← c.stands.ensures, w.if-stands.true)
+      (w.spc_if_next.ensures onward w.format_operand.ensures onward (rw w.printer-is at c.clear_spc_if_next.ensures))
+  | else-stands w ↦ rw (← c.stands.ensures, w.if-stands.false) (runs_alike (rw w.printer-is at c.clear_spc_if_next.ensures) taken_back)
+]

@@ -1,18 +1,19 @@
--- The values are skipped on the way to their size, which is shown, and what is printed behind it.
+-- The values are skipped on the way to their size, and printed behind it; the walk goes on behind the size.
 use mathlib.Core.Path.{refl}
 use Rattle.tree.specs.Tree.{built}
-use Rattle.printing.proofs.Running.{◌thence◌, refused_before, done_before}
+use Rattle.tree.specs.Reading.{read}
+use Rattle.printing.specs.Running.{run}
 use Rattle.events.specs.Trees.{events_in}
 use Rattle.leaves.specs.Records.{field_trees, fields_end}
+use Rattle.leaves.proofs.Classes.{data_size_leaf}
+use Rattle.printers.proofs.Going.{◌onward◌, there, ends_alike}
+use Rattle.tokens.specs.Inner.{value_events}
 use Rattle.tokens.proofs.plain.format_data.Goals as goal
 
-pub returns-in_default : goal.returns-in_default
-returns-in_default c = refused_before c.in_default.is
-
 pub returns : goal.returns
-unfolding built field_trees fields_end events_in
+unfolding built field_trees fields_end events_in run
 returns c =
-    let skipped = (c.skip-skipped.ensures.from _).from _ refl in
-    let size = c.data_size-size.ensures.from _ skipped.next in
-    let behind = c.format_behind_size.ensures.from _ size.next in
-    done_before c.in-Done.is (skipped thence size thence behind)
+    let values = ends_alike {others = λ page at. value_events page.context (read c.args.levels page.tree) c.args.printer.now.at} {behind = λ page at. at}
+    (c.push.ensures onward c.move_to.ensures onward c.format_arguments.ensures onward c.move_to-2.ensures) (λ x. refl) refl
+    in
+    there (c.skip.ensures onward c.format_leaf.ensures.leaf data_size_leaf onward values) refl refl

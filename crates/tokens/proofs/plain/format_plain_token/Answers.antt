@@ -1,74 +1,48 @@
--- In the arm of a number the kind is the one it stands for, which its printer promised; where no other number is left it is an end.
-use mathlib.Core.Path.{refl}
+-- Each kind has its printer; of the kinds that are plain the end alone is left, of which only the unit is skipped.
 use Rattle.tree.specs.Tree.{built}
 use Rattle.events.specs.Trees.{events_in}
 use Rattle.leaves.specs.Records.{field_trees, fields_end}
-use Rattle.tokens.proofs.PlainTokens.{kind_named, end_left}
+use Rattle.leaves.proofs.Classes.{word_leaf}
+use Rattle.tokens.proofs.PlainTokens.{end_left}
 use Rattle.tokens.proofs.plain.format_plain_token.Goals as goal
 
-pub returns-in-0 : goal.returns-in-0
+pub returns-in-Align : goal.returns-in-Align
 unfolding field_trees fields_end
-returns-in-0 c =
-    λ among kind known. rw (kind_named c.in-0.is refl known) c.format_tagged.ensures
+returns-in-Align c among = rw c.in-Align.is c.format_tagged.ensures
 
-pub returns-in-1 : goal.returns-in-1
-returns-in-1 c =
-    λ among kind known. rw (kind_named c.in-1.is refl known) c.format_assert.ensures
-
-pub returns-in-5 : goal.returns-in-5
+pub returns-in-Data : goal.returns-in-Data
 unfolding field_trees fields_end
-returns-in-5 c =
-    λ among kind known. rw (kind_named c.in-5.is refl known) c.format_data.ensures
+returns-in-Data c among = rw c.in-Data.is c.format_data.ensures
 
-pub returns-in-8 : goal.returns-in-8
+pub returns-in-Error : goal.returns-in-Error
 unfolding built field_trees fields_end events_in
-returns-in-8 c =
-    λ among kind known. rw (kind_named c.in-8.is refl known) c.bare_word.ensures
+returns-in-Error c among = rw c.in-Error.is (c.format_leaf.ensures.leaf word_leaf)
 
-pub returns-in-9 : goal.returns-in-9
+pub returns-in-Expression : goal.returns-in-Expression
 unfolding built field_trees fields_end events_in
-returns-in-9 c =
-    λ among kind known. rw (kind_named c.in-9.is refl known) c.format_expression.ensures
+returns-in-Expression c among = rw c.in-Expression.is c.format_expression.ensures
 
-pub returns-in-12 : goal.returns-in-12
+pub returns-in-File : goal.returns-in-File
 unfolding field_trees fields_end
-returns-in-12 c =
-    λ among kind known. rw (kind_named c.in-12.is refl known) c.format_file.ensures
+returns-in-File c among = rw c.in-File.is c.format_file.ensures
 
-pub returns-in-13 : goal.returns-in-13
-returns-in-13 c =
-    λ among kind known. rw (kind_named c.in-13.is refl known) c.format_instruction.ensures
-
-pub returns-in-17 : goal.returns-in-17
+pub returns-in-MacroInvocation : goal.returns-in-MacroInvocation
 unfolding field_trees fields_end
-returns-in-17 c =
-    λ among kind known. rw (kind_named c.in-17.is refl known) c.format_macro_invocation.ensures
+returns-in-MacroInvocation c among = rw c.in-MacroInvocation.is c.format_macro_invocation.ensures
 
-pub returns-in-18 : goal.returns-in-18
+pub returns-in-ProgramCounterDefinition : goal.returns-in-ProgramCounterDefinition
 unfolding field_trees fields_end
-returns-in-18 c =
-    λ among kind known. rw (kind_named c.in-18.is refl known) c.format_program_counter_definition.ensures
+returns-in-ProgramCounterDefinition c among = rw c.in-ProgramCounterDefinition.is c.format_program_counter_definition.ensures
 
-pub returns-in-21 : goal.returns-in-21
-returns-in-21 c =
-    λ among kind known. rw (kind_named c.in-21.is refl known) c.format_text.ensures
-
-pub returns-in-22 : goal.returns-in-22
-returns-in-22 c =
-    λ among kind known. rw (kind_named c.in-22.is refl known) c.format_trace.ensures
-
-pub returns-in-23 : goal.returns-in-23
+pub returns-in-VariableDefinition : goal.returns-in-VariableDefinition
 unfolding field_trees fields_end
-returns-in-23 c =
-    λ among kind known. rw (kind_named c.in-23.is refl known) c.format_variable_definition.ensures
+returns-in-VariableDefinition c among = rw c.in-VariableDefinition.is c.format_variable_definition.ensures
 
 pub returns-in_default : goal.returns-in_default
 unfolding built field_trees fields_end events_in
-returns-in_default c =
-    let others = c.in_default.in_default-own.rest in
-    λ among kind known.
-    let is =
-    end_left among others.0.0.0.0.0.0.0.0.0.0.0.1 others.0.0.0.0.0.0.0.0.0.0.1 others.0.0.0.0.0.0.0.0.0.1
-    others.0.0.0.0.0.0.0.0.1 others.0.0.0.0.0.0.0.1 others.0.0.0.0.0.0.1 others.0.0.0.0.0.1
-    others.0.0.0.0.1 others.0.0.0.1 others.0.0.1 others.0.1 others.1 in
-    rw (kind_named is refl known) (c.skip.ensures.from _)
+returns-in_default c among =
+    let other = c.in_default in
+    rw
+    (end_left _ among other.not-Align other.not-Assert other.not-Data other.not-Error other.not-Expression other.not-File other.not-Instruction
+    other.not-MacroInvocation other.not-ProgramCounterDefinition other.not-Text other.not-Trace other.not-VariableDefinition)
+    c.skip.ensures

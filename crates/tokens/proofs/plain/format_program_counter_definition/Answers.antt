@@ -1,19 +1,13 @@
--- The star, the sign and the value, with spaces between: each goes on from the one before.
+-- The star, the sign and the value, with spaces between, one behind the other.
 use Rattle.tree.specs.Tree.{built}
-use Rattle.printing.proofs.Running.{◌thence◌}
 use Rattle.events.specs.Trees.{events_in}
 use Rattle.leaves.specs.Records.{field_trees, fields_end}
+use Rattle.leaves.proofs.Classes.{char_leaf}
+use Rattle.printers.proofs.Going.{◌onward◌}
 use Rattle.tokens.proofs.plain.format_program_counter_definition.Goals as goal
 
 pub returns : goal.returns
 unfolding built field_trees fields_end events_in
 returns c =
-    record {
-      from = λ at here.
-          let star = c.bare_character-star.ensures.from at here in
-          let gap = c.push-gap.ensures.from _ star.next in
-          let sign = c.character-eq.ensures.from _ gap.next in
-          let space = c.push-space.ensures.from _ sign.next in
-          let value = c.format_expression.ensures.from _ space.next in
-          star thence gap thence sign thence space thence value;
-    }
+    c.format_leaf.ensures.leaf char_leaf onward c.push.ensures onward c.format_leaf-2.ensures.leaf char_leaf
+    onward c.push-2.ensures onward c.format_expression.ensures

@@ -1,14 +1,17 @@
--- The text of the size, whose own bytes were read, is the size without its trivia; then what is printed behind it.
-use mathlib.Core.Path.{refl}
+-- The text of the size, whose own bytes were read, is the size without its trivia; then a space and the values.
+use mathlib.Core.Path.{refl, sym}
 use Rattle.text.proofs.Parts.{part_slice}
-use Rattle.printing.proofs.Running.{◌thence◌, finish, done_before}
-use Rattle.events.specs.Printed.{data_size}
+use Rattle.tree.specs.declared.grammar.Class.TheVariants.{DataSize}
+use Rattle.printing.specs.Running.{run}
+use Rattle.events.specs.Trees.{events_in}
 use Rattle.leaves.proofs.Classes.{data_size_leaf}
-use Rattle.leaves.proofs.Leaves.{text_shown}
+use Rattle.printers.proofs.Going.{◌onward◌, ends_alike}
+use Rattle.tokens.proofs.PlainTokens.{text_read}
 use Rattle.tokens.proofs.plain.format_sized.Goals as goal
 
 pub returns : goal.returns
-returns c at is =
-    let pushed = rw part_slice at c.push_data_size-pushed.ensures in
-    let size = text_shown _ _ data_size_leaf at _ data_size _ _ is (finish (record { ran = pushed }) c.finish.ensures.answer refl) in
-    done_before refl (size thence c.format_behind_size.ensures.from _ size.next)
+unfolding events_in run
+returns c place is =
+    let size = text_read _ DataSize _ _ _ data_size_leaf is in
+    ends_alike (rw part_slice at c.push_text.ensures onward c.push.ensures onward c.format_arguments.ensures onward c.move_to.ensures)
+    (λ x. rw size.0 refl) (sym size.1)

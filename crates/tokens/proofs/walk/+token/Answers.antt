@@ -1,364 +1,240 @@
--- Every printer goes on from the last answer, so what one shows is what its calls show one behind the other; each call is of fewer levels, or of the same levels
--- from a printer of fields to one of records, or from a list to its items.
+-- What a printer goes on with is what its calls go on with one behind the other; each call is of fewer levels, or of the same levels from a printer of fields
+-- to one of records, or from a list to its items.
 use mathlib.Core.Path.{◌≡◌, refl, sym, ap, ◌∙◌}
-use mathlib.Core.Bool.{false, ◌&&◌}
+use Prim.Native.Nat.{◌+◌, ◌-◌}
 use native.Mathlib.Omega.{arith}
 use Rattle.tree.specs.Tree.{built}
-use Rattle.tree.specs.Stored.{stored_with}
 use Rattle.tree.specs.declared.grammar.Kind.TheVariants as variant
-use Rattle.tree.proofs.KindLayout.{kind_number}
-use Rattle.printing.proofs.Running.{◌thence◌, refused_before, done_before, stays_refused}
+use Rattle.printing.specs.Running.{run}
 use Rattle.events.specs.Printed.{plain}
 use Rattle.events.specs.Views.{bit_at}
-use Rattle.events.specs.Trees.{leaf, events_in}
+use Rattle.events.specs.Trees.{leaf, deeper, events_in}
 use Rattle.leaves.specs.Records.{field_trees, fields_end}
-use Rattle.leaves.proofs.Fielded.{opened_levels, opened_one, opened_kind, shown_closed}
-use Rattle.tokens.proofs.Cycle.{inside_shown, label_alone, label_block, plain_number, one_branch, both_branches, token_rule, token_opened, tokens_shown}
-use Rattle.tokens.proofs.Cycle.{only_in, not_in, all_left, block_left, file_left, one_left, rest_from}
-use Rattle.tokens.proofs.Listed.{listed_number, listed_over, listed_opens, head_text, listed_shown, listed_instruction, listed_label, listed_data}
-use Rattle.leads.specs.Leads.{over_by}
+use Rattle.leaves.proofs.Classes.{close_brace_leaf}
+use Rattle.printers.proofs.Going.{◌onward◌, there, runs_alike, on_page, context_stays}
+use Rattle.printers.proofs.Opening.{closed, opened_own, opened_levels, opened_one, opened_kind}
+use Rattle.tokens.proofs.Cycle.{inside_goes, plain_kind, token_rule, token_read_lem, tokens_go}
+use Rattle.tokens.proofs.Cycle.{block_left, file_left, over_left, one_left, narrow_still, narrow_below, narrow_deeper}
+use Rattle.tokens.proofs.Listed.{lead_goes, listed_over, listed_ended, listed_number, listed_read, listed_levels, head_text, listed_goes}
+use Rattle.tokens.proofs.Listed.{mnemonic_read, id_read, listed_data}
 use Rattle.tokens.proofs.walk.+token.Goals as goal
-use Rattle.tokens.proofs.walk.+token.Goals.{format_each_token-then-block, format_each_token-else-block}
 
 -- ---- format_block: the opening, the list further in, one newline and the brace are the events of the record that was opened
 
 pub format_block-returns-in_default : goal.format_block-returns-in_default
-format_block-returns-in_default t c =
-    shown_closed c.open-opened.ensures.opens (leaf plain) c.in_default.is c.closed.ensures.answer
+format_block-returns-in_default t c = closed c.open.ensures (leaf plain) c.in_default.is
 
 pub format_block-overflow_sub-levels : goal.format_block-overflow_sub-levels
-format_block-overflow_sub-levels t c =
-    opened_levels c.open-opened.ensures.opens c.in-Record.is
-
-pub format_block-deeper-requires : goal.format_block-deeper-requires
-format_block-deeper-requires t c =
-    let levels_left = opened_levels c.open-opened.ensures.opens c.in-Record.is in
-    let narrow = c.requires in
-    (narrow.0, omega (arith, levels_left, narrow.1))
+format_block-overflow_sub-levels t c = opened_levels c.open.ensures c.in-Some.is
 
 pub format_block-overflow_sub-levels-2 : goal.format_block-overflow_sub-levels-2
-format_block-overflow_sub-levels-2 t c =
-    opened_levels c.open-opened.ensures.opens c.in-Record.is
+format_block-overflow_sub-levels-2 t c = opened_levels c.open.ensures c.in-Some.is
 
-pub format_block-format_tokens-inner-requires : goal.format_block-format_tokens-inner-requires
-format_block-format_tokens-inner-requires t c =
-    let levels_left = opened_levels c.open-opened.ensures.opens c.in-Record.is in
-    let narrow = c.requires in
-    (omega (arith, levels_left), (rw c.deeper.ensures (narrow.0, omega (arith, levels_left, narrow.0, narrow.1))))
+pub format_block-format_tokens-requires : goal.format_block-format_tokens-requires
+format_block-format_tokens-requires t c =
+    let some = opened_levels c.open.ensures c.in-Some.is in
+    let opened = (opened_own c.open.ensures c.in-Some.is).3 onward c.open_block.ensures in
+    (omega (arith, some), rw c.deeper-printer.ensures (narrow_deeper opened c.args.levels c.requires some))
 
 pub format_block-overflow_sub-levels-3 : goal.format_block-overflow_sub-levels-3
-format_block-overflow_sub-levels-3 t c =
-    opened_levels c.open-opened.ensures.opens c.in-Record.is
-
-pub format_block-shape_of-room : goal.format_block-shape_of-room
-format_block-shape_of-room t c =
-    c.close_brace.auto.room ∙ c.push-line.auto.room ∙ c.format_tokens-inner.auto.room ∙ c.open_block-lparen.auto.room
-    ∙ c.open-opened.auto.room
+format_block-overflow_sub-levels-3 t c = opened_levels c.open.ensures c.in-Some.is
 
 pub format_block-returns : goal.format_block-returns
-unfolding built field_trees fields_end events_in bit_at kind_number stored_with
+unfolding built field_trees fields_end events_in bit_at
 format_block-returns t c =
-    let opens = c.open-opened.ensures.opens in
-    let is = c.in-Record.is in
-    let listed = rw c.deeper.ensures at c.format_tokens-inner.ensures in
-    opened_kind opens is (leaf plain) variant.Block (opened_one opens is 27 variant.Block refl refl refl refl) refl
-    (record {
-      from = λ at here.
-          let lparen = c.open_block-lparen.ensures.from at here in
-          let inner = listed.from _ lparen.next in
-          let trimmed = (c.trim_newlines-trimmed.ensures _).from _ inner.next in
-          let line = c.push-line.ensures.from _ trimmed.next in
-          let rparen = c.close_brace.ensures.from _ line.next in
-          lparen thence inner thence trimmed thence line thence rparen;
-    })
+    let is = c.in-Some.is in
+    let further_in = c.deeper-printer.ensures ∙ ap deeper (context_stays c.open_block.ensures) in
+    let listed = on_page _ (rw further_in at c.format_tokens.ensures) in
+    let closing = c.trim_newlines.ensures onward c.push.ensures onward c.format_leaf.ensures.leaf close_brace_leaf in
+    opened_kind c.open.ensures is (leaf plain) variant.Block (opened_one c.open.ensures is 27 variant.Block refl refl refl refl) refl
+    (there (c.open_block.ensures onward listed onward closing) refl refl)
 
 -- ---- format_branches: the first branch, and where there is another what stands between them and that
 
-pub format_branches-format_block-then-requires : goal.format_branches-format_block-then-requires
-format_branches-format_block-then-requires t c =
-    (omega arith, c.requires)
-
-pub format_branches-returns-then-not-other : goal.format_branches-returns-then-not-other
-format_branches-returns-then-not-other t c =
-    let other = c.args.other in
-    rw c.if-not-other.true (record { from = λ at here. one_branch _ _ _ at (c.format_block-then.ensures.from at here) })
-
 pub format_branches-format_block-requires : goal.format_branches-format_block-requires
-format_branches-format_block-requires t c =
-    (omega arith, c.requires)
+format_branches-format_block-requires t c = (omega arith, c.requires)
 
-pub format_branches-returns : goal.format_branches-returns
-format_branches-returns t c =
-    let other = c.args.other in
-    rw c.if-not-other.false (record {
-      from = λ at here.
-          let then = c.format_block-then.ensures.from at here in
-          let tag = c.format_else-tag.ensures.from _ then.next in
-          let block = c.format_block.ensures.from _ tag.next in
-          both_branches _ _ _ at (then thence tag thence block);
-    })
+pub format_branches-format_block-requires-then-other : goal.format_branches-format_block-requires-then-other
+format_branches-format_block-requires-then-other t c =
+    (omega arith, narrow_still (c.format_block.ensures onward c.format_else.ensures) c.args.levels c.requires)
 
--- ---- format_each_token: at the head of the loop, whoever shows the tokens that are left has shown them all
+pub format_branches-returns-then-other : goal.format_branches-returns-then-other
+format_branches-returns-then-other t c =
+    rw c.if-other.true (c.format_block.ensures onward c.format_else.ensures onward c.format_block-then-other.ensures)
 
-pub format_each_token-loop-left-init : goal.format_each_token-loop-left-init
-format_each_token-loop-left-init t c = (refl, λ start here. (start, here, λ said after rest. all_left _ _ _ _ _ start rest))
+pub format_branches-returns-else-other : goal.format_branches-returns-else-other
+unfolding run
+format_branches-returns-else-other t c = rw c.if-other.false (runs_alike c.format_block.ensures (λ x. refl))
 
-pub format_each_token-shape_of-room-in_default : goal.format_each_token-shape_of-room-in_default
-format_each_token-shape_of-room-in_default t c =
-    c.loop-left.invariant.0
+-- ---- format_each_token: what goes on with the tokens that are left goes on with all of them
 
-pub format_each_token-returns-in_default : goal.format_each_token-returns-in_default
-format_each_token-returns-in_default t c =
-    record {
-      from = λ start here.
-          let now = c.loop-left.invariant.1 start here in
-          now.2 _ _ (stays_refused c.in_default.is);
-    }
+pub format_each_token-loop-init : goal.format_each_token-loop-init
+format_each_token-loop-init t c =
+    let all : c.args.count - 0 ≡ c.args.count = omega arith in
+    (refl, λ after rest. rw all at rest)
 
-pub format_each_token-overflow_sub-levels : goal.format_each_token-overflow_sub-levels
-format_each_token-overflow_sub-levels t c =
-    c.requires.levels_nonzero
-
-pub format_each_token-format_listed_token-answer-requires : goal.format_each_token-format_listed_token-answer-requires
-format_each_token-format_listed_token-answer-requires t c =
+pub format_each_token-format_listed_token-before-requires : goal.format_each_token-format_listed_token-before-requires
+format_each_token-format_listed_token-before-requires t c =
+    let some = c.requires.levels_nonzero in
     let narrow = c.requires.narrow in
-    let levels_left = c.requires.levels_nonzero in
-    (omega (arith, levels_left), (narrow.0, omega (arith, narrow.1)))
+    (omega (arith, some), rw c.loop.invariant.0 (narrow.0, omega (arith, narrow.1)))
 
-pub format_each_token-overflow_sub-left : goal.format_each_token-overflow_sub-left
-format_each_token-overflow_sub-left t c =
-    c.loop-left-test.true
+pub format_each_token-returns-then-is_none : goal.format_each_token-returns-then-is_none
+format_each_token-returns-then-is_none t c =
+    let listed = c.format_listed_token-before.ensures in
+    c.loop.invariant.1 _
+    (over_left _ _ c.loop.before _ _ (omega (arith, c.loop-test.true)) (rw c.drops_newlines.ensures at listed.goes) listed.kind
+    (rw c.if-is_none.true at c.is_none.ensures))
 
-pub format_each_token-loop-left-smaller : goal.format_each_token-loop-left-smaller
-format_each_token-loop-left-smaller t c =
-    omega (arith, c.loop-left-test.true)
-
-pub format_each_token-loop-left-preserved : goal.format_each_token-loop-left-preserved
-format_each_token-loop-left-preserved t c =
-    let args = c.args in
-    let stood = c.loop-left.before in
-    let count = c.loop-left.left in
-    let drops : c.if-block.drops ≡ (args.block && stood.first) = elim c.if-block.branch [
-      | format_each_token-then-block w ↦ only_in args.block _ _ (w.if-block.true, w.drops-is)
-      | format_each_token-else-block w ↦ not_in args.block _ _ (w.if-block.false, w.drops-is)
-    ] in
-    let listed = (rw drops at c.format_listed_token-answer.ensures).from _ refl in (
-      c.format_listed_token-answer.auto.room ∙ c.loop-left.invariant.0,
-      λ start here.
-          let now = c.loop-left.invariant.1 start here in (
-            _,
-            listed.next,
-            λ said after rest. now.2 said after (rest_from _ args.block _ _ stood count now.0 c.in-Done.is
-                now.1 refl (one_left _ args.block _ _ _ _ stood count _ _ c.loop-left-test.true
-                (λ state place done. listed_number _ _ _ args.context (args.block && stood.first) stood _ _ listed done ∙ sym c.byte_at.ensures) listed rest)),
-          ),
+pub format_each_token-loop-preserved : goal.format_each_token-loop-preserved
+format_each_token-loop-preserved t c =
+    let listed = c.format_listed_token-before.ensures in
+    let fewer : c.args.count - (c.loop.counter + 1) ≡ c.args.count - c.loop.counter - 1 = omega arith in (
+      context_stays listed.goes ∙ c.loop.invariant.0,
+      λ after rest. c.loop.invariant.1 after
+          (one_left _ _ c.loop.before _ _ (omega (arith, c.loop-test.true)) (rw c.drops_newlines.ensures at listed.goes) listed.kind
+          (rw c.if-is_none.false at c.is_none.ensures) (rw fewer at rest)),
     )
 
-pub format_each_token-shape_of-room-then-block-2 : goal.format_each_token-shape_of-room-then-block-2
-format_each_token-shape_of-room-then-block-2 t c =
-    c.format_lead_out.auto.room ∙ c.loop-left.invariant.0
+pub format_each_token-returns-then-block : goal.format_each_token-returns-then-block
+format_each_token-returns-then-block t c =
+    c.loop.invariant.1 _
+    (block_left _ _ c.loop.before _ (omega (arith, c.loop-test.false)) c.if-block.true (rw c.drops_newlines-then-block.ensures at c.format_lead_out.ensures))
 
-pub format_each_token-returns-then-block-2 : goal.format_each_token-returns-then-block-2
-format_each_token-returns-then-block-2 t c =
-    record {
-      from = λ start here.
-          let now = c.loop-left.invariant.1 start here in
-          let out = c.format_lead_out.ensures.from now.0 now.1 in
-          now.2 _ _ (block_left _ _ _ _ _ c.loop-left.left now.0 c.loop-left-test.false c.if-block-2.true out);
-    }
-
-pub format_each_token-shape_of-room : goal.format_each_token-shape_of-room
-format_each_token-shape_of-room t c =
-    c.loop-left.invariant.0
-
-pub format_each_token-returns : goal.format_each_token-returns
-format_each_token-returns t c =
-    record {
-      from = λ start here.
-          let now = c.loop-left.invariant.1 start here in
-          let over = (c.settled.ensures _).from now.0 now.1 in
-          now.2 _ _ (file_left _ _ _ _ _ c.loop-left.left now.0 c.loop-left-test.false c.if-block-2.false over);
-    }
+pub format_each_token-returns-else-block : goal.format_each_token-returns-else-block
+format_each_token-returns-else-block t c = c.loop.invariant.1 _ (file_left _ _ c.loop.before _ (omega (arith, c.loop-test.false)) c.if-block.false)
 
 -- ---- format_inner: what stands before the part inside a token and that part are all its fields
 
 pub format_inner-returns-in-Nothing : goal.format_inner-returns-in-Nothing
-format_inner-returns-in-Nothing t c =
-    let nothing_in = sym c.inner_of-inner.ensures ∙ c.in-Nothing.is in
-    λ small kind known. c.format_plain_token.ensures (plain_number _ _ small nothing_in) kind known
+format_inner-returns-in-Nothing t c = λ small. c.format_plain_token.ensures (plain_kind _ _ small (sym c.inner_of-inner.ensures ∙ c.in-Nothing.is))
 
 pub format_inner-format_block-requires : goal.format_inner-format_block-requires
-format_inner-format_block-requires t c =
-    (omega arith, c.requires.narrow)
+format_inner-format_block-requires t c = (omega arith, narrow_still c.format_token_front.ensures c.args.levels c.requires.narrow)
 
 pub format_inner-format_token-requires : goal.format_inner-format_token-requires
-format_inner-format_token-requires t c =
-    (omega arith, c.requires.narrow)
+format_inner-format_token-requires t c = (omega arith, narrow_still c.format_token_front.ensures c.args.levels c.requires.narrow)
 
 pub format_inner-format_branches-requires : goal.format_inner-format_branches-requires
-format_inner-format_branches-requires t c =
-    (omega arith, c.requires.narrow)
+format_inner-format_branches-requires t c = (omega arith, narrow_still c.format_token_front.ensures c.args.levels c.requires.narrow)
 
 pub format_inner-returns-in-Block : goal.format_inner-returns-in-Block
 format_inner-returns-in-Block t c =
-    let block_in = sym c.inner_of-inner.ensures ∙ c.in-Block.is in
-    λ small kind known. record {
-      from = λ at here.
-          let front = c.format_token_front-front.ensures.from at here in
-          let block = c.format_block.ensures.from _ front.next in
-          inside_shown _ _ _ _ _ _ _ _ _ kind known c.requires.ends block_in (front thence block);
-    }
+    λ small. inside_goes _ _ _ c.requires.ends c.format_token_front.ensures (sym c.inner_of-inner.ensures ∙ c.in-Block.is) c.format_block.ensures
 
 pub format_inner-returns-in-Token : goal.format_inner-returns-in-Token
 format_inner-returns-in-Token t c =
-    let token_in = sym c.inner_of-inner.ensures ∙ c.in-Token.is in
-    λ small kind known. record {
-      from = λ at here.
-          let front = c.format_token_front-front.ensures.from at here in
-          let token = c.format_token.ensures.from _ front.next in
-          inside_shown _ _ _ _ _ _ _ _ _ kind known c.requires.ends token_in (front thence token);
-    }
+    λ small. inside_goes _ _ _ c.requires.ends c.format_token_front.ensures (sym c.inner_of-inner.ensures ∙ c.in-Token.is) c.format_token.ensures
 
 pub format_inner-returns-in-Branches : goal.format_inner-returns-in-Branches
 format_inner-returns-in-Branches t c =
-    let branches_in = sym c.inner_of-inner.ensures ∙ c.in-Branches.is in
-    let both = rw c.stands.ensures at c.format_branches.ensures in
-    λ small kind known. record {
-      from = λ at here.
-          let front = c.format_token_front-front.ensures.from at here in
-          let branches = both.from _ front.next in
-          inside_shown _ _ _ _ _ _ _ _ _ kind known c.requires.ends branches_in (front thence branches);
-    }
+    λ small. inside_goes _ _ _ c.requires.ends c.format_token_front.ensures (sym c.inner_of-inner.ensures ∙ c.in-Branches.is) c.format_branches.ensures
 
-pub format_inner-returns-in-Nothing-inner : goal.format_inner-returns-in-Nothing-inner
-format_inner-returns-in-Nothing-inner t c =
-    absurd (c.in_default.not-Nothing c.in-Nothing-inner.is)
+-- ---- format_listed_token: the lead-in has read the token, and the walk goes on behind its own bytes, or from its head on where that was read for it
 
--- ---- format_listed_token: the lead-in has opened the record, and the walk goes on behind its own bytes, or from its head on where that was read for it
+pub format_listed_token-returns-in_err-lead-clause-goes : goal.format_listed_token-returns-in_err-lead-clause-goes
+format_listed_token-returns-in_err-lead-clause-goes t c = listed_over c.format_lead_in.ensures c.in_err-lead.was
 
-pub format_listed_token-returns-in_default : goal.format_listed_token-returns-in_default
-format_listed_token-returns-in_default t c = refused_before c.in_default.is
-
-pub format_listed_token-returns-in_default-lead : goal.format_listed_token-returns-in_default-lead
-format_listed_token-returns-in_default-lead t c =
-    let told = c.in_default-lead.is in
-    rw (c.over.ensures.answer ∙ ap over_by told)
-    (done_before c.in-Done.is ((listed_over c.format_lead_in-lead.ensures.leads told).from _ refl))
+pub format_listed_token-returns-in_err-lead-clause-kind : goal.format_listed_token-returns-in_err-lead-clause-kind
+format_listed_token-returns-in_err-lead-clause-kind t c = rw c.from_residual.ensures (listed_ended c.format_lead_in.ensures c.in_err-lead.was)
 
 pub format_listed_token-overflow_sub-below : goal.format_listed_token-overflow_sub-below
-format_listed_token-overflow_sub-below t c =
-    opened_levels (listed_opens c.format_lead_in-lead.ensures.leads c.in-Ready.is _ refl) refl
+format_listed_token-overflow_sub-below t c = listed_levels c.format_lead_in.ensures c.in_ok-lead.was
 
 pub format_listed_token-format_listed_instruction-requires : goal.format_listed_token-format_listed_instruction-requires
-format_listed_token-format_listed_instruction-requires t c =
-    head_text c.format_lead_in-lead.ensures.leads c.in-Ready.is _ refl
-
-pub format_listed_token-returns-then-number-eq-INSTRUCTION : goal.format_listed_token-returns-then-number-eq-INSTRUCTION
-format_listed_token-returns-then-number-eq-INSTRUCTION t c =
-    let number = sym c.byte_at-number.ensures ∙ c.if-number-eq-INSTRUCTION.true in
-    done_before c.in-Done.is
-    (listed_instruction c.format_lead_in-lead.ensures.leads c.in-Ready.is _ refl number c.format_listed_instruction.ensures)
+format_listed_token-format_listed_instruction-requires t c = head_text c.format_lead_in.ensures c.in_ok-lead.was
 
 pub format_listed_token-format_sized-requires : goal.format_listed_token-format_sized-requires
-format_listed_token-format_sized-requires t c =
-    head_text c.format_lead_in-lead.ensures.leads c.in-Ready.is _ refl
+format_listed_token-format_sized-requires t c = head_text c.format_lead_in.ensures c.in_ok-lead.was
 
-pub format_listed_token-returns-then-number-eq-DATA : goal.format_listed_token-returns-then-number-eq-DATA
-format_listed_token-returns-then-number-eq-DATA t c =
-    let number = sym c.byte_at-number.ensures ∙ c.if-number-eq-DATA.true in
-    done_before c.in-Done.is
-    (listed_data c.format_lead_in-lead.ensures.leads c.in-Ready.is _ refl number c.format_sized.ensures)
-
-pub format_listed_token-format_listed_label-front-requires : goal.format_listed_token-format_listed_label-front-requires
-format_listed_token-format_listed_label-front-requires t c =
-    head_text c.format_lead_in-lead.ensures.leads c.in-Ready.is _ refl
-
-pub format_listed_token-returns-then-not-stands : goal.format_listed_token-returns-then-not-stands
-format_listed_token-returns-then-not-stands t c =
-    let number = sym c.byte_at-number.ensures ∙ c.if-number-eq-LABEL.true in
-    let none = sym c.stands.ensures ∙ c.if-not-stands.true in
-    done_before c.in-Done.is
-    (listed_label c.format_lead_in-lead.ensures.leads c.in-Ready.is _ refl number (λ place read. label_alone _ _ _ _ (c.format_listed_label-front.ensures place read) none))
+pub format_listed_token-format_listed_label-requires : goal.format_listed_token-format_listed_label-requires
+format_listed_token-format_listed_label-requires t c = head_text c.format_lead_in.ensures c.in_ok-lead.was
 
 pub format_listed_token-format_block-requires : goal.format_listed_token-format_block-requires
 format_listed_token-format_block-requires t c =
-    let opens = listed_opens c.format_lead_in-lead.ensures.leads c.in-Ready.is _ refl in
-    let levels_left = opened_levels opens refl in
-    let narrow = c.requires in
-    (omega (arith, levels_left), (narrow.0, omega (arith, narrow.1)))
-
-pub format_listed_token-returns-then-number-eq-LABEL : goal.format_listed_token-returns-then-number-eq-LABEL
-format_listed_token-returns-then-number-eq-LABEL t c =
-    let number = sym c.byte_at-number.ensures ∙ c.if-number-eq-LABEL.true in
-    let one = sym c.stands.ensures ∙ c.if-not-stands.false in
-    done_before c.in-Done.is
-    (listed_label c.format_lead_in-lead.ensures.leads c.in-Ready.is _ refl number (λ place read.
-    label_block _ _ _ _ (c.format_listed_label-front.ensures place read) one c.format_block.ensures))
+    let leads = c.format_lead_in.ensures in
+    let is = c.in_ok-lead.was in
+    let some = listed_levels leads is in
+    let front = c.format_listed_label.ensures _ (id_read leads is c.in-Label.is) in
+    (omega (arith, some), narrow_below (lead_goes leads is onward front) c.args.levels c.requires)
 
 pub format_listed_token-format_inner-requires : goal.format_listed_token-format_inner-requires
 format_listed_token-format_inner-requires t c =
-    let opens = listed_opens c.format_lead_in-lead.ensures.leads c.in-Ready.is _ refl in
-    let levels_left = opened_levels opens refl in
-    let token = token_opened false _ opens refl refl in
-    let narrow = c.requires in
-    (omega (arith, levels_left), ((narrow.0, omega (arith, narrow.1)), rw c.byte_at-number.ensures token.ends))
+    let leads = c.format_lead_in.ensures in
+    let is = c.in_ok-lead.was in
+    let some = listed_levels leads is in
+    (omega (arith, some), (narrow_below (lead_goes leads is) c.args.levels c.requires, (listed_read leads is).ends))
 
-pub format_listed_token-returns : goal.format_listed_token-returns
-format_listed_token-returns t c =
-    let leads = c.format_lead_in-lead.ensures.leads in
-    let is = c.in-Ready.is in
-    let opens = listed_opens leads is _ refl in
-    let token = token_opened false _ opens refl refl in
-    let inner = rw c.byte_at-number.ensures at c.format_inner.ensures in
-    done_before c.in-Done.is
-    (listed_shown leads is _ refl (opened_kind opens refl (leaf plain) _ refl token.fielded (inner token.small _ token.known)))
+pub format_listed_token-returns-in-Instruction-clause-goes : goal.format_listed_token-returns-in-Instruction-clause-goes
+unfolding built field_trees fields_end events_in bit_at run
+format_listed_token-returns-in-Instruction-clause-goes t c =
+    let leads = c.format_lead_in.ensures in
+    let is = c.in_ok-lead.was in
+    let kind = c.in-Instruction.is in
+    listed_goes leads is variant.Instruction kind refl (c.format_listed_instruction.ensures _ (mnemonic_read leads is kind)) (λ x. refl) refl
 
--- ---- format_token: the number of the record that was opened is one of a token, and the walk goes on behind its own bytes
+pub format_listed_token-returns-in-Instruction-clause-kind : goal.format_listed_token-returns-in-Instruction-clause-kind
+format_listed_token-returns-in-Instruction-clause-kind t c = listed_number c.format_lead_in.ensures c.in_ok-lead.was
+
+pub format_listed_token-returns-in-Data-clause-goes : goal.format_listed_token-returns-in-Data-clause-goes
+format_listed_token-returns-in-Data-clause-goes t c = listed_data c.format_lead_in.ensures c.in_ok-lead.was c.in-Data.is c.format_sized.ensures
+
+pub format_listed_token-returns-in-Data-clause-kind : goal.format_listed_token-returns-in-Data-clause-kind
+format_listed_token-returns-in-Data-clause-kind t c = listed_number c.format_lead_in.ensures c.in_ok-lead.was
+
+pub format_listed_token-returns-in-Label-clause-goes : goal.format_listed_token-returns-in-Label-clause-goes
+unfolding built field_trees fields_end events_in bit_at run
+format_listed_token-returns-in-Label-clause-goes t c =
+    let leads = c.format_lead_in.ensures in
+    let is = c.in_ok-lead.was in
+    let kind = c.in-Label.is in
+    let block = rw c.stands.ensures at c.format_block.ensures in
+    listed_goes leads is variant.Label kind refl (c.format_listed_label.ensures _ (id_read leads is kind) onward block) (λ x. refl) refl
+
+pub format_listed_token-returns-in-Label-clause-kind : goal.format_listed_token-returns-in-Label-clause-kind
+format_listed_token-returns-in-Label-clause-kind t c = listed_number c.format_lead_in.ensures c.in_ok-lead.was
+
+pub format_listed_token-returns-in_default : goal.format_listed_token-returns-in_default
+format_listed_token-returns-in_default t c =
+    let leads = c.format_lead_in.ensures in
+    let is = c.in_ok-lead.was in
+    let token = listed_read leads is in
+    record { goes = listed_goes leads is _ refl token.fielded (c.format_inner.ensures token.small) (λ x. refl) refl; kind = listed_number leads is }
+
+-- ---- format_token: the walk goes on behind the own bytes of the token that was opened
 
 pub format_token-returns-in_default : goal.format_token-returns-in_default
-format_token-returns-in_default t c = refused_before c.in_default.is
-
-pub format_token-returns-in_default-opened : goal.format_token-returns-in_default-opened
-format_token-returns-in_default-opened t c =
-    rw (← c.token_class-class.ensures) (done_before c.in-Done.is
-    ((shown_closed c.open-opened.ensures.opens (leaf plain) c.in_default-opened.is c.closed.ensures.answer).from _ refl))
+format_token-returns-in_default t c = rw c.token_class-class.ensures at (closed c.open.ensures (leaf plain) c.in_default.is)
 
 pub format_token-overflow_sub-levels : goal.format_token-overflow_sub-levels
-format_token-overflow_sub-levels t c =
-    opened_levels c.open-opened.ensures.opens c.in-Record.is
+format_token-overflow_sub-levels t c = opened_levels c.open.ensures c.in-Some.is
 
 pub format_token-format_inner-requires : goal.format_token-format_inner-requires
 format_token-format_inner-requires t c =
-    let located = c.args.located in
-    let opens = rw c.token_class-class.ensures at c.open-opened.ensures.opens in
-    let is = c.in-Record.is in
-    let levels_left = opened_levels opens is in
-    let token = token_opened located _ opens is refl in
-    let narrow = c.requires in
-    (omega (arith, levels_left), ((narrow.0, omega (arith, narrow.1)), rw c.byte_at-number.ensures token.ends))
+    let opens = rw c.token_class-class.ensures at c.open.ensures in
+    let is = c.in-Some.is in
+    let some = opened_levels opens is in
+    let opened = opened_own opens is in
+    let narrow = narrow_below opened.3 c.args.levels c.requires in
+    (omega (arith, some), (narrow, (token_read_lem c.args.located _ _ _ _ opened.1).ends))
 
 pub format_token-returns : goal.format_token-returns
 format_token-returns t c =
     let located = c.args.located in
-    let opens = rw c.token_class-class.ensures at c.open-opened.ensures.opens in
-    let is = c.in-Record.is in
-    let token = token_opened located _ opens is refl in
-    let inner = rw c.byte_at-number.ensures at c.format_inner.ensures in
-    done_before c.in-Done.is
-    ((opened_kind opens is (leaf plain) _ refl token.fielded (rw (token_rule located).2 (inner token.small _ token.known))).from _ refl)
+    let opens = rw c.token_class-class.ensures at c.open.ensures in
+    let is = c.in-Some.is in
+    let token = token_read_lem located _ _ _ _ (opened_own opens is).1 in
+    opened_kind opens is (leaf plain) _ refl token.fielded (rw (token_rule located).2 (c.format_inner.ensures token.small))
 
 -- ---- format_tokens: the tokens of the list that was opened are its events
 
 pub format_tokens-returns-in_default : goal.format_tokens-returns-in_default
-format_tokens-returns-in_default t c =
-    record { from = λ at here. (shown_closed c.open-opened.ensures.opens _ c.in_default.is c.closed.ensures.answer).from at here }
+format_tokens-returns-in_default t c = there (closed c.open.ensures _ c.in_default.is) refl refl
 
 pub format_tokens-format_each_token-requires : goal.format_tokens-format_each_token-requires
 format_tokens-format_each_token-requires t c =
-    let levels_left = opened_levels c.open-opened.ensures.opens c.in-Record.is in
-    (omega (arith, levels_left), (c.requires, levels_left))
+    let some = opened_levels c.open.ensures c.in-Some.is in
+    (omega (arith, some), (narrow_still (opened_own c.open.ensures c.in-Some.is).3 c.args.levels c.requires, some))
 
 pub format_tokens-returns : goal.format_tokens-returns
-format_tokens-returns t c =
-    let block = c.args.block in
-    tokens_shown block c.open-opened.ensures.opens c.in-Record.is c.format_each_token.ensures
+format_tokens-returns t c = tokens_go c.open.ensures c.in-Some.is c.args.block c.format_each_token.ensures

@@ -1,23 +1,15 @@
 -- The position of braces says whether a newline stands before the brace; behind it there is one.
-use Rattle.printing.proofs.Running.{◌thence◌}
-use Rattle.tokens.proofs.FrontParts.{opens_same, opens_new}
+use Rattle.events.specs.Trees.{opening}
+use Rattle.leaves.proofs.Classes.{open_brace_leaf}
+use Rattle.printers.proofs.Going.{◌onward◌}
+use Rattle.tokens.proofs.Cycle.{same_line, at_position}
 use Rattle.tokens.proofs.walk.open_block.Goals as goal
+use Rattle.tokens.proofs.walk.open_block.Goals.{in-NewLine, in_default}
 
-pub returns-in-SameLine : goal.returns-in-SameLine
-returns-in-SameLine c =
-    record {
-      from = λ at here.
-          let brace = c.open_brace-lparen.ensures.from at here in
-          let line = c.push.ensures.from _ brace.next in
-          opens_same c.in-SameLine.is (brace thence line);
-    }
-
-pub returns-in-NewLine : goal.returns-in-NewLine
-returns-in-NewLine c =
-    record {
-      from = λ at here.
-          let break = c.push-line.ensures.from at here in
-          let brace = c.open_brace-lparen-in-NewLine.ensures.from _ break.next in
-          let line = c.push-in-NewLine.ensures.from _ brace.next in
-          opens_new c.in-NewLine.is (break thence brace thence line);
-    }
+pub returns : goal.returns
+returns c =
+    let brace = c.format_leaf.ensures.leaf open_brace_leaf onward c.push-2.ensures in
+    elim c.match-printer.branch [
+      | in-NewLine w ↦ at_position opening w.in-NewLine.is (w.push.ensures onward (rw w.printer-is at brace))
+      | in_default w ↦ at_position opening (same_line _ w.in_default.not-NewLine) (rw w.printer-is at brace)
+    ]

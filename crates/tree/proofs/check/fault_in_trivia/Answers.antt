@@ -53,8 +53,8 @@ loop-preserved c =
       | then-tree-place-eq-NEWLINE w ↦
           rw (w.place-is, w.found-is) (newline_on _ _ _ _ _ _ _ head.invariant taken w.if-tree-place-eq-NEWLINE.true)
       | else-tree-place-eq-NEWLINE w ↦
-          let sized : w.wide.result + 256 * w.wide-else-tree-place-eq-NEWLINE.result ≡ get_or bytes (head.place + 1) 0 + 256 * get_or bytes (head.place + 2) 0 =
-          omega (arith, w.wide.ensures.0, w.wide-else-tree-place-eq-NEWLINE.ensures.0) in
+          let sized : w.from.result + 256 * w.from-else-tree-place-eq-NEWLINE.result ≡ get_or bytes (head.place + 1) 0 + 256 * get_or bytes (head.place + 2) 0 =
+          omega (arith, w.from.ensures, w.from-else-tree-place-eq-NEWLINE.ensures) in
           rw (w.place-is, w.found-is) (text_on_lem _ _ _ _ _ _ _ head.invariant taken w.if-tree-place-eq-NEWLINE.false _ sized _ w.fault_in-found.ensures)
     ])
 

@@ -20,5 +20,5 @@ returns-then-tree-at-lt2-clause-judged c =
 pub returns-clause-judged : goal.returns-clause-judged
 returns-clause-judged c =
     let known = sym c.of_byte.ensures ∙ c.in_ok-kind.was in
-    rw (c.then_some.ensures, c.map_fits.ensures (get_or c.args.tree.now c.args.at 0) known, c.wide-map.ensures.0)
+    rw (c.then_some.ensures, c.map_fits.ensures (get_or c.args.tree.now c.args.at 0) known, c.from-map.ensures)
     (first_fits _ _ _ _ _ known (sym (c.may_stand.ensures _ known) ∙ c.if-not-may_stand.false) (omega arith))

@@ -1,15 +1,16 @@
--- The items that are left lie in the tree, and go on from where all of them have come to.
+-- The items that are left lie in the tree, and go on to where all of them come to.
 use mathlib.Core.List.{map}
-use mathlib.Core.Path.{◌≡◌}
 use Rattle.tree.specs.Parts.{trivia_left}
 use Rattle.leaves.specs.Items.{item_of}
-use Rattle.wording.specs.Lines.{puts}
+use Rattle.wording.specs.Lines.{Gets}
 use Rattle.wording.specs.Records.{trivia}
-use Rattle.wording.proofs.Pieces.{Lie}
+use Rattle.wording.specs.declared.lines.Line.{Line}
+use Rattle.leaves.proofs.Spans.{Lie}
 use Rattle.wording.proofs.records.put_trivia.Given as goal
 
 abbrev pub invariant-loop-item : goal.invariant-loop-item
 invariant-loop-item l =
     let spans = trivia_left l.item-iterator in
+    let start = trivia_left l.initial.item-iterator in
     Lie l.tree spans
-    × (puts (trivia (map (item_of l.tree) (trivia_left l.initial.item-iterator))) l.initial.line ≡ puts (trivia (map (item_of l.tree) spans)) l.line)
+    × ((after : Line) → Gets l.line after (trivia (map (item_of l.tree) spans)) → Gets l.initial.line after (trivia (map (item_of l.tree) start)))

@@ -38,5 +38,5 @@ loop-field-preserved t c =
 pub returns : goal.returns
 returns t c =
     record_searched _ _ _ _ c.args.listed c.read_own.ensures.answer _ c.in_ok-own.was c.record_uses.ensures
-    c.byte_at.ensures c.listed_below-below.ensures
+    c.listed_below-below.ensures
     (search_done _ _ _ _ _ _ _ _ c.loop-field.invariant _ (next_of _ c.next_part.ensures) c.in_default.is _ (plan_due _ _ c.plan_of-plan.ensures))

@@ -1,9 +1,8 @@
 -- No closing character; a reading on the way that was refused, which cannot be where the operand passed; one that the mode
 -- prints, and one that it does not.
-use Rattle.std.specs.Prelude.{ℕ, ◌≡◌, ◌||◌, true, eqb}
-use Rattle.std.proofs.Common.{inl, inr}
-use borrow.Author.Tests.{eq-eqb, ne_eqb}
-use Rattle.losses.proofs.Operands.{takes_no_closing, no_expression, no_opening, no_closing, no_mode, takes_printed, takes_closing}
+use lib.Seq.{slice}
+use Rattle.text.proofs.Parts.{part_slice}
+use Rattle.losses.proofs.Operands.{takes_no_closing, no_expression, no_opening, no_closing, no_mode, mode_prints, mode_omits, takes_printed, takes_closing}
 use Rattle.losses.proofs.firsts.Search.closing_use.Goals as goal
 
 pub returns-then-not-stands : goal.returns-then-not-stands
@@ -27,17 +26,17 @@ returns-in_err-leaf c =
     no_mode _ _ _ c.stands.ensures c.if-not-stands.false c.skip.ensures.answer c.in_ok-lchar.was c.stands-2.ensures
     c.behind.ensures c.in_ok-rchar.was c.skip-2.ensures.answer c.in_ok-mode.was c.read_own.ensures.answer c.in_err-leaf.was
 
-pub returns-then-index-ne-OUTER_INDIRECT : goal.returns-then-index-ne-OUTER_INDIRECT
-returns-then-index-ne-OUTER_INDIRECT c =
+pub returns-in-Indirect : goal.returns-in-Indirect
+returns-in-Indirect c =
+    let leaf = c.in_ok-leaf.leaf in
+    let mode = rw part_slice at c.of_text.ensures in
+    takes_printed _ _ _ c.stands.ensures c.if-not-stands.false c.skip.ensures.answer c.in_ok-lchar.was c.stands-2.ensures
+    c.behind.ensures c.in_ok-rchar.was c.skip-2.ensures.answer c.in_ok-mode.was c.read_own.ensures.answer _ c.in_ok-leaf.was (mode_prints (slice leaf.text leaf.end c.args.tree.now) mode c.in-Indirect.is)
+
+pub returns-in_default : goal.returns-in_default
+returns-in_default c =
+    let leaf = c.in_ok-leaf.leaf in
+    let mode = rw part_slice at c.of_text.ensures in
     takes_closing _ _ _ c.stands.ensures c.if-not-stands.false c.skip.ensures.answer c.in_ok-lchar.was c.stands-2.ensures
     c.behind.ensures c.in_ok-rchar.was c.skip-2.ensures.answer c.in_ok-mode.was c.read_own.ensures.answer _ c.in_ok-leaf.was
-    c.index_of-index.ensures (simp (ne_eqb _ _ c.if-index-ne-INDIRECT.true, ne_eqb _ _ c.if-index-ne-OUTER_INDIRECT.true)) c.take.ensures
-
-pub returns-else-index-ne-INDIRECT : goal.returns-else-index-ne-INDIRECT
-returns-else-index-ne-INDIRECT c =
-    let index : ℕ = c.index_of-index.result in
-    let prints : (eqb index 3 || eqb index 4) ≡ true =
-    elim c.else-index-ne-INDIRECT.either [ inl other ↦ simp (ne_eqb index 3 other.0, eq-eqb index 4 other.1) | inr one ↦ simp (eq-eqb index 3 one) ] in
-    takes_printed _ _ _ c.stands.ensures c.if-not-stands.false c.skip.ensures.answer c.in_ok-lchar.was c.stands-2.ensures
-    c.behind.ensures c.in_ok-rchar.was c.skip-2.ensures.answer c.in_ok-mode.was c.read_own.ensures.answer _ c.in_ok-leaf.was
-    c.index_of-index.ensures prints
+    (mode_omits (slice leaf.text leaf.end c.args.tree.now) mode c.in_default.not-Indirect c.in_default.not-OuterIndirect) c.take.ensures
