@@ -91,8 +91,7 @@ def point_1():
                 yield "enum with a value and reasons for none", crate, path, i, name
         for i, line in enumerate(lines):
             code = without_comment(line)
-            if re.match(r"\s*pub const [A-Z_]+: (?:usize|u8) = \d+;", code) and path.name in (
-                    "kinds.rt", "codes.rt", "places.rt"):
+            if re.match(r"\s*pub const [A-Z_]+: (?:usize|u8) = \d+;", code) and path.name in ("codes.rt", "places.rt"):
                 yield "number for a kind, a code or a place", crate, path, i, code.strip()
             if re.match(r"\s*pub (?:spc_if_next|bit): usize", code):
                 yield "flag as a number", crate, path, i, code.strip()

@@ -20,7 +20,7 @@ from collections import defaultdict
 from pathlib import Path
 
 ROOT = Path(__file__).resolve().parent.parent
-NAMED = {"crates/tree/src/grammar.rt", "crates/tree/src/kinds.rt"}
+NAMED = {"crates/tree/src/grammar.rt"}
 PRINTERS = ["tokens", "expressions"]
 MOST_LINES = 5
 WIDE = re.compile(r"^.{121,}$", re.MULTILINE)

@@ -1,5 +1,5 @@
 -- A token's head as the walk finds it in the bytes is the head of the token's tree; so are the token's number and whether it has a block.
---   head_is : rule class ≡ nodes 0 23 located → head_at levels bytes class at ≡ Found head
+--   head_is : rule class ≡ nodes variant.Align variant.VariableDefinition located → head_at levels bytes class at ≡ Found head
 --     → head_of (read levels bytes class at .tree) ≡ read head.levels bytes head.class head.place .tree
 --   head_missing : head_at levels bytes class at ≡ NoHead why → head_refusal (read levels bytes class at .tree) ≡ Failed why
 --   head_refused : head_at levels bytes class at ≡ Found head → read_own bytes head.place head.class head.levels ≡ Refused why
@@ -322,7 +322,8 @@ expression_nodal number stand =
     (λ other. let is : number ≡ 29 = omega (arith, eqb-false number 28 other) in rw is))
 
 -- and a token that is neither `Braces`, `Config` nor an `Expression`
-token_nodal : (located : Bool) (number : ℕ) → may_stand (nodes 0 23 located) number ≡ true → (eqb number 2 || eqb number 3) ≡ false → eqb number 9 ≡ false → heads number ≡ true
+token_nodal : (located : Bool) (number : ℕ) → may_stand (nodes variant.Align variant.VariableDefinition located) number ≡ true
+    → (eqb number 2 || eqb number 3) ≡ false → eqb number 9 ≡ false → heads number ≡ true
 token_nodal located number stand block expression =
     by_test (eqb number 24)
     (λ q. true_false (sym (rw q at stand)))
@@ -335,7 +336,7 @@ token_nodal located number stand block expression =
 -- ---- a token's head
 
 -- of a class of tokens
-module _ (bytes : List ℕ) (class : Class) (located : Bool) (tokens : rule class ≡ nodes 0 23 located) where
+module _ (bytes : List ℕ) (class : Class) (located : Bool) (tokens : rule class ≡ nodes variant.Align variant.VariableDefinition located) where
   module _ (levels : ℕ) (at : ℕ) (own : Own) (is : read_own bytes at class (suc levels) ≡ Ok own) where
     -- a token of its own bytes
     abbrev token : Tree
@@ -385,7 +386,8 @@ module _ (bytes : List ℕ) (class : Class) (located : Bool) (tokens : rule clas
     -- that of any token is what the bytes say
     record_says : HeadSays bytes (head_refusal token) (head_of token) (head_on (suc levels) bytes class at (Ok own))
     record_says =
-        let stand : may_stand (nodes 0 23 located) (get_or bytes at 0) ≡ true = rw tokens at (record_headed bytes at class (suc levels) own is).1.standing in
+        let stand : may_stand (nodes variant.Align variant.VariableDefinition located) (get_or bytes at 0) ≡ true =
+        rw tokens at (record_headed bytes at class (suc levels) own is).1.standing in
         by_test (eqb (get_or bytes at 0) 2 || eqb (get_or bytes at 0) 3)
         (λ block. simp (block, sub-one) (block_says block))
         (λ block. by_test (eqb (get_or bytes at 0) 9)

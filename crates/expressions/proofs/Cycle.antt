@@ -39,7 +39,8 @@ expression_rule true = refl
 expression_rule false = refl
 
 -- an argument's
-pub item_rule : (of : Arguments) → ((rule (item_class of)).items ≡ None) × ((rule (item_class of)).first ≡ 42) × ((rule (item_class of)).last ≡ 42)
+pub item_rule : (of : Arguments) → ((rule (item_class of)).items ≡ None)
+    × ((rule (item_class of)).first ≡ variant.ArgItem) × ((rule (item_class of)).last ≡ variant.ArgItem)
     × ((rule (item_class of)).value ≡ value_class of)
 item_rule Expressions = (refl, refl, refl, refl)
 item_rule Identifiers = (refl, refl, refl, refl)
@@ -48,13 +49,15 @@ item_rule Imports = (refl, refl, refl, refl)
 -- ---- which kind is left
 
 -- an expression that is not a binary one is a factor, with trivia or without
-factor_left : (located : Bool) (number : ℕ) → ((rule (expression_class located)).first ≤ number) × (number ≤ (rule (expression_class located)).last)
+factor_left : (located : Bool) (number : ℕ)
+    → (kind_number (rule (expression_class located)).first ≤ number) × (number ≤ kind_number (rule (expression_class located)).last)
     → (number ≡ 28 → ⊥) → number ≡ 29
 factor_left true number range other = omega (arith, range.0, range.1, other)
 factor_left false number range other = omega (arith, range.0, range.1, other)
 
 -- where it is not named by its number, that of a list, it would be a star's
-list_other : (of : Arguments) (number : ℕ) → (leb (rule (list_class of)).first number && leb number (rule (list_class of)).last) ≡ true
+list_other : (of : Arguments) (number : ℕ)
+    → (leb (kind_number (rule (list_class of)).first) number && leb number (kind_number (rule (list_class of)).last)) ≡ true
     → (number ≡ 40 → ⊥) → number ≡ 24
 list_other Expressions number within other = no_other 24 number within
 list_other Identifiers number within other = no_other 24 number within
@@ -66,7 +69,8 @@ list_number of number standing other =
     by_test (eqb number 24)
     (λ same. eqb-true number 24 same)
     (λ differs.
-    let within : (leb (rule (list_class of)).first number && leb number (rule (list_class of)).last) ≡ true = rw differs at standing in
+    let within : (leb (kind_number (rule (list_class of)).first) number && leb number (kind_number (rule (list_class of)).last)) ≡ true =
+    rw differs at standing in
     list_other of number within other)
 
 -- what is left where a record was opened

@@ -62,7 +62,7 @@ fn format_front(printer: &mut Printer, levels: usize, lchar: bool)
     printer.move_to(behind);
 }
 
-// The closing character, stored at `rchar`, and the register behind it, in the order of the addressing mode; only an
+// The closing character, stored at `place`, and the register behind it, in the order of the addressing mode; only an
 // indirect one prints the character.
 fn format_end(
     printer: &mut Printer,

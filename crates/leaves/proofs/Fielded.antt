@@ -113,14 +113,15 @@ kind_read bytes class at levels own kind is same other =
     (record_parts bytes at class levels own is)
 
 -- where no list may stand it lies between the first and the last
-pub standing_range : (rule : Rule) (number : ℕ) → rule.items ≡ None → may_stand rule number ≡ true → (rule.first ≤ number) × (number ≤ rule.last)
+pub standing_range : (rule : Rule) (number : ℕ) → rule.items ≡ None → may_stand rule number ≡ true
+    → (kind_number rule.first ≤ number) × (number ≤ kind_number rule.last)
 standing_range rule number none stands =
     by_test (eqb number 24)
     (λ list. true_false (sym (rw (list, none) at stands)))
     (λ other.
-    let within : (leb rule.first number && leb number rule.last) ≡ true = rw other at stands in (
-      leb-true _ _ (and_true_left (leb rule.first number) (leb number rule.last) within),
-      leb-true _ _ (and_true_right (leb rule.first number) (leb number rule.last) within),
+    let within : (leb (kind_number rule.first) number && leb number (kind_number rule.last)) ≡ true = rw other at stands in (
+      leb-true _ _ (and_true_left (leb (kind_number rule.first) number) (leb number (kind_number rule.last)) within),
+      leb-true _ _ (and_true_right (leb (kind_number rule.first) number) (leb number (kind_number rule.last)) within),
     ))
 
 -- ---- items

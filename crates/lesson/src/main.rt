@@ -161,10 +161,8 @@ fn show_record(
     records::put_record(&mut line, tree, at, 65 - levels, class, own);
     out.write_all(line.written())?;
     let mut place = own.end;
-    let mut plan = check::plan_of(class, own);
-    while let Some((field, rest)) = check::next_part(plan) {
+    for field in check::plan_of(class, own) {
         place = show_record(out, tree, place, field, levels - 1, room)?;
-        plan = rest;
     }
     Ok(place)
 }

@@ -11,7 +11,7 @@ use lib.ListN.{get_or}
 use lib.Dec.{eqb}
 use borrow.Author.Tests.{eqb-true, ne_eqb}
 use Rattle.text.proofs.Choices.{by_test, true_false}
-use Rattle.tree.specs.Grammar.{kind_of, rule, fields}
+use Rattle.tree.specs.Grammar.{kind_of, kind_number, rule, fields}
 use Rattle.tree.specs.Own.{may_stand, read_own}
 use Rattle.tree.specs.Reading.{trivia_of, text_of, fields_due, parts_due, read}
 use Rattle.tree.specs.Tree.{Tree, absent, node, built}
@@ -142,8 +142,8 @@ module _ (class : Class) (number at : ℕ) (stands : may_stand (rule class) numb
       ++ (head_marks class number listed (stands_at head) (has_comment (own_trivia head)) ++ closing_marks number parts)) ++ others
 
   -- a leaf: a brace, a colon or a register
-  leaf_met : (leaf : ℕ) → eqb (class_number class) leaf ≡ true → (rule (class_of leaf)).items ≡ None → (rule (class_of leaf)).first ≡ 25 → (rule (class_of leaf)).last ≡ 25
-      → number ≡ 25
+  leaf_met : (leaf : ℕ) → eqb (class_number class) leaf ≡ true → (rule (class_of leaf)).items ≡ None
+      → kind_number (rule (class_of leaf)).first ≡ 25 → kind_number (rule (class_of leaf)).last ≡ 25 → number ≡ 25
   leaf_met leaf is items first last =
       let within = standing_range (rule (class_of leaf)) number items (rw (class_is class leaf is) at stands) in
       le_antisymm (rw last at within.1) (rw first at within.0)
@@ -153,7 +153,7 @@ module _ (class : Class) (number at : ℕ) (stands : may_stand (rule class) numb
   token_met is =
       let tokens = token_class_lem class is in
       let none : (rule class).items ≡ None = rw tokens.1 in
-      let last : (rule class).last ≡ 23 = rw tokens.1 in
+      let last : kind_number (rule class).last ≡ 23 = rw tokens.1 in
       rw last at (standing_range (rule class) number none stands).1
 
   -- its uses: of its own none, of its head (g) or (c)

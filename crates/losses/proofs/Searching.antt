@@ -1,18 +1,17 @@
--- The loop over a record's parts: the plan that is left goes on with the search of the parts.
-use Rattle.std.specs.Prelude.{Option, Result, Some, None, Ok, Err}
+-- The loop over a record's parts: those that are left go on with the search of all.
+use Rattle.std.specs.Prelude.{Result, Ok, Err}
 use Rattle.answers.specs.Numbers.{no_refusal, Checked}
 use mathlib.Core.Path.{◌≡◌, refl, sym, ap, ◌∙◌}
-use mathlib.Core.List.{List, [], ◌++◌, append-nil, append_assoc}
+use mathlib.Core.List.{List, [], ◌∷◌, ◌++◌, append-nil, append_assoc}
 use mathlib.Core.Bool.{Bool}
 use Prim.Native.Nat.{ℕ, ◌-◌}
 use lib.ListN.{get_or}
 use Rattle.answers.specs.declared.Refusal.{Refusal}
 use Rattle.tree.specs.Own.{read_own}
-use Rattle.tree.specs.Reading.{Due, Reading, Reader, parts_due, read}
-use Rattle.tree.specs.Walk.{Plans, standing, NextOf}
+use Rattle.tree.specs.Reading.{Reading, Reader, parts_due, read}
+use Rattle.tree.specs.Walk.{standing}
 use Rattle.tree.specs.declared.grammar.Class.{Class}
 use Rattle.tree.specs.declared.own.Own.{Own}
-use Rattle.tree.specs.declared.check.Plan.{Plan}
 use Rattle.tree.proofs.Cases.{both_passed}
 use Rattle.tree.specs.Grammar.{kind_number}
 use Rattle.tree.proofs.KindLayout.{kind_number_lem}
@@ -35,66 +34,52 @@ module _ (reader : Reader) (listed : Bool) where
     pub split : uses_along reader listed some place ≡ uses ++ uses_along reader listed others behind
     pub takes : TakesAll after before uses
 
-  pub record PartsLeft (plan : Plan) (place : ℕ) (before : Search) (later : Plan) (behind : ℕ) (after : Search) : Type 0 where
-    pub walk : (parts : List Due) → Plans plan parts → checked_along reader (standing parts) place ≡ no_refusal
-        → (others : List Due) × Plans later others × Left (standing parts) place before (standing others) behind after
+  -- the same of parts of which none is refused
+  abbrev pub PartsLeft : List Class → ℕ → Search → List Class → ℕ → Search → Type 0
+  PartsLeft some place before others behind after = checked_along reader some place ≡ no_refusal → Left some place before others behind after
 
   -- before the first part
-  pub parts_start : (plan : Plan) (place : ℕ) (before : Search) → PartsLeft plan place before plan place before
-  parts_start plan place before = record {
-    walk = λ parts plans passed. (parts, plans, record { passed = passed; end = refl; uses = []; split = refl; takes = all_none });
-  }
+  pub parts_start : (some : List Class) (place : ℕ) (before : Search) → PartsLeft some place before some place before
+  parts_start some place before passed = record { passed = passed; end = refl; uses = []; split = refl; takes = all_none }
 
-  module _ (plan : Plan) (place : ℕ) (before : Search) (later : Plan) (behind : ℕ) (after : Search) (left : PartsLeft plan place before later behind after)
-      (part : Option (Class × Plan)) (next : (parts : List Due) → Plans later parts → NextOf part parts) where
+  module _ (some : List Class) (place : ℕ) (before : Search) {left : List Class} (behind : ℕ) (after : Search)
+      (walk : PartsLeft some place before left behind after) where
     -- no part is left
-    pub search_done : part ≡ None → (parts : List Due) → Plans plan parts → checked_along reader (standing parts) place ≡ no_refusal
-        → (behind ≡ end_along reader (standing parts) place) × TakesAll after before (uses_along reader listed (standing parts) place)
+    pub search_done : left ≡ [] → checked_along reader some place ≡ no_refusal
+        → (behind ≡ end_along reader some place) × TakesAll after before (uses_along reader listed some place)
     unfolding uses_along end_along
-    search_done e parts plans passed =
-        let rest = left.walk parts plans passed in
-        let none : standing rest.0 ≡ [] = rw e at (next rest.0 rest.1) in
-        let done = rw none at rest.2 in
+    search_done none passed =
+        let done = rw none at (walk passed) in
         (sym done.end, rw (done.split ∙ append-nil done.uses) done.takes)
 
     -- a part was searched
-    module _ (class : Class) (rest : Plan) (e : part ≡ Some (class, rest)) {searched : Result ℕ Refusal} {found : Search}
+    module _ (class : Class) (others : List Class) (first : left ≡ class ∷ others) {searched : Result ℕ Refusal} {found : Search}
         (searches : (reader class behind).checked ≡ no_refusal
         → (searched ≡ Ok (reader class behind).end) × TakesAll found after (seen_in class listed (reader class behind).tree)) where
-      -- the plan goes on behind it
-      pub search_on : {end : ℕ} → searched ≡ Ok end → PartsLeft plan place before rest end found
+      -- those that are left go on behind it
+      pub search_on : {end : ℕ} → searched ≡ Ok end → PartsLeft some place before others end found
       unfolding uses_along end_along checked_along
-      search_on {end} whole = record {
-        walk = λ parts plans passed.
-            let now = left.walk parts plans passed in
-            let others = rw e at (next now.0 now.1) in
-            let here = rw others.1 at now.2 in
-            let both = both_passed (reader class behind).checked (checked_along reader (standing others.0) (reader class behind).end) here.passed in
-            let done = searches both.0 in
-            let seen : List Use = seen_in class listed (reader class behind).tree in
-            let same : end ≡ (reader class behind).end = same_next (sym whole ∙ done.0) in (
-              others.0,
-              others.2,
-              record {
-                passed = rw same both.1;
-                end = here.end ∙ ap (end_along reader (standing others.0)) (sym same);
-                uses = here.uses ++ seen;
-                split = here.split ∙ sym (append_assoc here.uses seen (uses_along reader listed (standing others.0) (reader class behind).end))
-                    ∙ ap (λ (place : ℕ). (here.uses ++ seen) ++ uses_along reader listed (standing others.0) place) (sym same);
-                takes = all_then here.takes done.1;
-              },
-            );
-      }
+      search_on {end} whole passed =
+          let here = rw first at (walk passed) in
+          let both = both_passed (reader class behind).checked (checked_along reader others (reader class behind).end) here.passed in
+          let done = searches both.0 in
+          let seen : List Use = seen_in class listed (reader class behind).tree in
+          let same : end ≡ (reader class behind).end = same_next (sym whole ∙ done.0) in
+          record {
+            passed = rw same both.1;
+            end = here.end ∙ ap (end_along reader others) (sym same);
+            uses = here.uses ++ seen;
+            split = here.split ∙ sym (append_assoc here.uses seen (uses_along reader listed others (reader class behind).end))
+                ∙ ap (λ (place : ℕ). (here.uses ++ seen) ++ uses_along reader listed others place) (sym same);
+            takes = all_then here.takes done.1;
+          }
 
       -- it was not refused where all parts passed
-      pub part_unread : {why : Refusal} → searched ≡ Err why → (parts : List Due) → Plans plan parts
-          → checked_along reader (standing parts) place ≡ no_refusal → ⊥
+      pub part_unread : {why : Refusal} → searched ≡ Err why → checked_along reader some place ≡ no_refusal → ⊥
       unfolding checked_along
-      part_unread none parts plans passed =
-          let now = left.walk parts plans passed in
-          let others = rw e at (next now.0 now.1) in
-          let here = rw others.1 at now.2 in
-          let both = both_passed (reader class behind).checked (checked_along reader (standing others.0) (reader class behind).end) here.passed in
+      part_unread none passed =
+          let here = rw first at (walk passed) in
+          let both = both_passed (reader class behind).checked (checked_along reader others (reader class behind).end) here.passed in
           next_unskipped (sym (searches both.0).0 ∙ none)
 
 -- ---- a record
@@ -105,33 +90,33 @@ module _ (levels : ℕ) (bytes : List ℕ) (class : Class) (at : ℕ) (listed : 
       → Searches searched after before levels bytes class at listed
   search_refused is passed = own_unread levels bytes class at passed (sym same ∙ is)
 
-  module _ (own : Own) (is : found ≡ Ok own) {seen : Checked} {middle before : Search}
-      (shown : TakesRecord seen middle before levels bytes class at own listed) where
+  module _ (own : Own) (is : found ≡ Ok own) {parts : List Class} (stand : parts ≡ standing (parts_due class own))
+      {seen : Checked} {middle before : Search} (shown : TakesRecord seen middle before levels bytes class at own listed) where
     abbrev reader : Reader
     reader = read (levels - 1) bytes
 
     -- its parts passed too
-    parts_passed : (read levels bytes class at).checked ≡ no_refusal → checked_along reader (standing (parts_due class own)) own.end ≡ no_refusal
+    parts_passed : (read levels bytes class at).checked ≡ no_refusal → checked_along reader parts own.end ≡ no_refusal
     parts_passed passed =
-        sym (parts_checked reader (parts_due class own) own.end)
+        ap (λ (parts : List Class). checked_along reader parts own.end) stand
+        ∙ sym (parts_checked reader (parts_due class own) own.end)
         ∙ sym (ap (λ (reading : Reading). reading.checked) (read_record bytes class at levels own (sym same ∙ is)).1) ∙ passed
 
     -- so none of them is refused
-    pub part_refused : {searched : Result ℕ Refusal} {after : Search} → (checked_along reader (standing (parts_due class own)) own.end ≡ no_refusal → ⊥)
+    pub part_refused : {searched : Result ℕ Refusal} {after : Search} → (checked_along reader parts own.end ≡ no_refusal → ⊥)
         → Searches searched after before levels bytes class at listed
     part_refused never passed = absurd (never (parts_passed passed))
 
     -- it is what it shows by itself, and its parts
     pub record_searched : {after : Search} {end : ℕ} {below : Bool} → below ≡ listed_below (kind_number own.kind) listed
-        → (checked_along reader (standing (parts_due class own)) own.end ≡ no_refusal
-        → (end ≡ end_along reader (standing (parts_due class own)) own.end)
-        × TakesAll after middle (uses_along reader below (standing (parts_due class own)) own.end))
+        → (checked_along reader parts own.end ≡ no_refusal
+        → (end ≡ end_along reader parts own.end) × TakesAll after middle (uses_along reader below parts own.end))
         → Searches (Ok end) after before levels bytes class at listed
-    record_searched below-is parts passed =
+    record_searched below-is walked passed =
         let held = sym same ∙ is in
         let byte = kind_number_lem (get_or bytes at 0) own.kind (record_headed bytes at class levels own held).1.kind_is in
         let reading = (read_record bytes class at levels own held).1 in
-        let done = parts (parts_passed passed) in
+        let done = rw stand at (walked (parts_passed passed)) in
         let behind = done.0 ∙ sym (parts_end reader (parts_due class own) own.end) ∙ sym (ap (λ (reading : Reading). reading.end) reading) in
         let uses = all_then (shown held passed).1 (rw (below-is ∙ ap (λ (number : ℕ). listed_below number listed) byte) at done.1) in
         (ap (λ (place : ℕ). Ok place) behind, rw (record_uses levels bytes class at own held listed) uses)

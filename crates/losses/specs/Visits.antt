@@ -138,7 +138,7 @@ pub record TakesAll (after before : Search) (uses : List Use) : Type 0 where
 -- ---- what is promised of a record that was read without refusal
 
 abbrev pub TokenClass : Class → Type 0
-TokenClass class = (located : Bool) × (rule class ≡ nodes kinds.align kinds.variable_definition located)
+TokenClass class = (located : Bool) × (rule class ≡ nodes kind.Align kind.VariableDefinition located)
 
 -- no refusal was met, and this holds
 abbrev pub Shows : Checked → Type 0 → Type 0

@@ -46,10 +46,8 @@ impl Search {
         self.record_uses(tree, at, class, levels, own, listed)?;
         let below = listed_below(own.kind, listed);
         let mut place = own.end;
-        let mut plan = check::plan_of(class, own);
-        while let Some((field, rest)) = check::next_part(plan) {
+        for field in check::plan_of(class, own) {
             place = self.visit(tree, place, field, levels - 1, below)?;
-            plan = rest;
         }
         Ok(place)
     }

@@ -18,6 +18,7 @@ use Rattle.tree.specs.declared.grammar.Kind.TheVariants as variant
 use Rattle.tree.specs.declared.own.Own.{Own}
 use Rattle.tree.specs.Grammar.{kind_number}
 use Rattle.tree.proofs.KindLayout.{kind_number_lem}
+use Rattle.tree.proofs.KindNumbers.{numbered}
 use Rattle.printing.specs.Events.{Events, nothing, stop, ◌▹◌}
 use Rattle.printing.specs.Running.{run}
 use Rattle.events.specs.Printed.{plain}
@@ -82,7 +83,8 @@ module _ {before between : Printer} {shown : Bool} {levels : ℕ} {class : Class
       opened_fits = (opened_own.2.part, opened_own.2.inside)
 
       -- its number is one that may stand
-      pub opened_range : (rule class).items ≡ None → ((rule class).first ≤ kind_number own.kind) × (kind_number own.kind ≤ (rule class).last)
+      pub opened_range : (rule class).items ≡ None
+          → (kind_number (rule class).first ≤ kind_number own.kind) × (kind_number own.kind ≤ kind_number (rule class).last)
       opened_range none =
           let headed = (record_headed before.tree.now before.at class levels own opened_own.1).1 in
           let number = kind_number_lem (get_or before.tree.now before.at 0) own.kind headed.kind_is in
@@ -97,11 +99,10 @@ module _ {before between : Printer} {shown : Bool} {levels : ℕ} {class : Class
           cc
 
       -- where only one may stand it is that
-      pub opened_one : (number : ℕ) (kind : Kind) → (rule class).items ≡ None → (rule class).first ≡ number → (rule class).last ≡ number → kind_of number ≡ Some kind
-          → own.kind ≡ kind
-      opened_one number kind none low high known =
+      pub opened_one : (kind : Kind) → (rule class).items ≡ None → (rule class).first ≡ kind → (rule class).last ≡ kind → own.kind ≡ kind
+      opened_one kind none low high =
           let range = opened_range none in
-          opened_by_number number kind (omega arith) known
+          opened_by_number (kind_number kind) kind (omega (arith, range, ap kind_number low, ap kind_number high)) (numbered kind)
 
       module _ (place : Place) {after : Printer} where
         -- what is printed behind own bytes is printed of the record

@@ -1,4 +1,4 @@
--- The same events on the work room and the formatter's state, byte by byte.
+-- The same events on the work room and the walk's state, byte by byte.
 use Rattle.std.specs.Prelude.{ℕ, ◌≡◌, List, Bool, true, false, cond, not, ◌||◌, length, eqb, Result, Ok, Err}
 use Rattle.answers.specs.Numbers.{numbers_of}
 use Rattle.answers.specs.declared.Refusal.{Refusal}
@@ -103,7 +103,7 @@ run (first ▹ next) x = run next (run first x)
 abbrev pub no_room : State → Refusal
 no_room state = record { reason = WorkRoom; place = state.full }
 
--- a record's end: a full state is refusal 8
+-- where it is judged: a full state is refusal 8
 abbrev pub settled : Run → Run
 settled (going room state) = cond (eqb state.full 0) (going room state) (ended room (no_room state))
 settled (ended room why) = ended room why

@@ -11,7 +11,7 @@ use borrow.Author.Tests.{eqb-true, leb-true, le-leb, eq-eqb, ne_eqb}
 use Rattle.text.specs.Ink.{inks}
 use Rattle.text.proofs.Choices.{cond_both, by_test, true_false, and_true_left, and_true_right}
 use Rattle.tree.proofs.Cases.{by_choice}
-use Rattle.tree.specs.Grammar.{rule}
+use Rattle.tree.specs.Grammar.{kind_number, rule}
 use Rattle.tree.specs.Own.{is_list}
 use Rattle.tree.specs.Tree.{Tree, Trivium, absent, refused, node, nil, cons, Align, Assert, Braces, Config, ConfigPair, Data, Definition, Eof, Error}
 use Rattle.tree.specs.Tree.{Expression, If, Import, File, Instruction, Label, Loop, MacroDefinition, MacroInvocation, ProgramCounterDefinition}
@@ -189,15 +189,25 @@ numbered class (ImportAll star alias) shaped = inl shaped.0
 numbered class (SpecificImportArg path alias) shaped = inl shaped.0
 numbered class (ArgItem value comma) shaped = inl shaped.0
 
+-- the least number of a kind that may stand in a class, and the greatest
+abbrev lowest : Class → ℕ
+lowest class = kind_number (rule class).first
+
+abbrev highest : Class → ℕ
+highest class = kind_number (rule class).last
+
 -- where a class has no list, the number is within its range
-range : (class : Class) (tree : Tree) → Shaped class tree → is_list (rule class).items ≡ false → ((rule class).first ≤ token_number tree) × (token_number tree ≤ (rule class).last)
+range : (class : Class) (tree : Tree) → Shaped class tree → is_list (rule class).items ≡ false
+    → (lowest class ≤ token_number tree) × (token_number tree ≤ highest class)
 range class tree shaped plain =
     ⊎_elim
     (λ allowed. by_choice (eqb (token_number tree) 24) (is_list (rule class).items) _ true allowed
     (λ q listed. true_false (sym listed ∙ plain))
     (λ q within.
-    let above : leb (rule class).first (token_number tree) ≡ true = and_true_left (leb (rule class).first (token_number tree)) (leb (token_number tree) (rule class).last) within in
-    let below : leb (token_number tree) (rule class).last ≡ true = and_true_right (leb (rule class).first (token_number tree)) (leb (token_number tree) (rule class).last) within in
+    let above : leb (lowest class) (token_number tree) ≡ true =
+    and_true_left (leb (lowest class) (token_number tree)) (leb (token_number tree) (highest class)) within in
+    let below : leb (token_number tree) (highest class) ≡ true =
+    and_true_right (leb (lowest class) (token_number tree)) (leb (token_number tree) (highest class)) within in
     (leb-true _ _ above, leb-true _ _ below)))
     (λ items. true_false (sym items.0 ∙ plain))
     (numbered class tree shaped)
@@ -262,30 +272,32 @@ stem_none (ArgItem value comma) above other = refl
 
 -- a class of which neither tokens nor blocks are
 abbrev pub headless : Class → Bool
-headless class = leb 24 (rule class).first && not (leb (rule class).first 27 && leb 27 (rule class).last)
+headless class = leb 24 (lowest class) && not (leb (lowest class) 27 && leb 27 (highest class))
 
 -- a tree of such a class leaves no comments to its surroundings
 pub headless_clear : (class : Class) (tree : Tree) → headless class ≡ true → Shaped class tree → comments (stem tree) ≡ []
 unfolding comments
 headless_clear class tree none shaped =
-    let above : leb 24 (rule class).first ≡ true = and_true_left (leb 24 (rule class).first) _ none in
-    let past : 24 ≤ (rule class).first = leb-true 24 (rule class).first above in
-    let apart : ((rule class).first ≤ 27 → 27 ≤ (rule class).last → ⊥) =
-    λ low high. true_false (rw (le-leb (rule class).first 27 low, le-leb 27 (rule class).last high) at (sym (and_true_right (leb 24 (rule class).first) _ none))) in
+    let above : leb 24 (lowest class) ≡ true = and_true_left (leb 24 (lowest class)) _ none in
+    let past : 24 ≤ lowest class = leb-true 24 (lowest class) above in
+    let apart : (lowest class ≤ 27 → 27 ≤ highest class → ⊥) =
+    λ low high. true_false (rw (le-leb (lowest class) 27 low, le-leb 27 (highest class) high) at (sym (and_true_right (leb 24 (lowest class)) _ none))) in
     ap comments (by_test (is_list (rule class).items)
     (λ listed. ⊎_elim
     (λ allowed. by_choice (eqb (token_number tree) 24) (is_list (rule class).items) _ true allowed
     (λ q f. let number : token_number tree ≡ 24 = eqb-true _ _ q in stem_none tree (omega arith) (λ is. omega (arith, is, number)))
     (λ q within.
-    let from : (rule class).first ≤ token_number tree = leb-true _ _ (and_true_left (leb (rule class).first (token_number tree)) (leb (token_number tree) (rule class).last) within) in
-    let to : token_number tree ≤ (rule class).last = leb-true _ _ (and_true_right (leb (rule class).first (token_number tree)) (leb (token_number tree) (rule class).last) within) in
+    let from : lowest class ≤ token_number tree =
+    leb-true _ _ (and_true_left (leb (lowest class) (token_number tree)) (leb (token_number tree) (highest class)) within) in
+    let to : token_number tree ≤ highest class =
+    leb-true _ _ (and_true_right (leb (lowest class) (token_number tree)) (leb (token_number tree) (highest class)) within) in
     stem_none tree (omega arith) (λ is. apart (omega arith) (omega arith))))
     (λ items. let number : token_number tree ≡ 43 = items.1 in stem_none tree (omega arith) (λ is. omega (arith, is, number)))
     (numbered class tree shaped))
     (λ plain.
     let within = range class tree shaped plain in
-    let from : (rule class).first ≤ token_number tree = within.0 in
-    let to : token_number tree ≤ (rule class).last = within.1 in
+    let from : lowest class ≤ token_number tree = within.0 in
+    let to : token_number tree ≤ highest class = within.1 in
     stem_none tree (omega arith) (λ is. apart (omega arith) (omega arith))))
 
 -- ---- blocks

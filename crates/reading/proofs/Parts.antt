@@ -13,7 +13,7 @@ use Rattle.text.proofs.Ink.{ink_append, inks_append}
 use Rattle.text.proofs.Choices.{by_test, true_false, and_true_left, and_true_right}
 use Rattle.options.specs.declared.BracePosition.{BracePosition}
 use Rattle.options.specs.declared.BracePosition.TheVariants.{SameLine, NewLine}
-use Rattle.tree.specs.Grammar.{rule}
+use Rattle.tree.specs.Grammar.{kind_number, rule}
 use Rattle.tree.specs.Own.{is_list}
 use Rattle.tree.specs.Tree.{Tree, Trivium, absent, refused, node, nil, cons, Align, Assert, Braces, Config, ConfigPair, Data, Definition, Eof, Error}
 use Rattle.tree.specs.Tree.{Expression, If, Import, File, Instruction, Label, Loop, MacroDefinition, MacroInvocation, ProgramCounterDefinition}
@@ -41,7 +41,7 @@ use Rattle.reading.proofs.Heads.{harmless, own_before, stem, stem_none, headless
 
 -- a class that stands neither in a list nor as one
 abbrev pub stands_alone : Class → Bool
-stands_alone class = not (is_list (rule class).items) && leb (rule class).last 41
+stands_alone class = not (is_list (rule class).items) && leb (kind_number (rule class).last) 41
 
 -- the places of the walk and the classes that are printed there
 pub data Suits : Place → Class → Type 0 where
@@ -284,8 +284,10 @@ pub ink_argument : (context : Context) (place : Place) (class : Class) (value co
     → ink_of (events_in context place true (ArgItem value comma)) ≡ inks (order_at context place (ArgItem value comma)) ++ inks (comments (end_trivia place))
 unfolding events_in order_in ink_of inks comments Shaped
 ink_argument context place class value comma (alone style kind separate) shaped free one kept =
-    let below : (rule kind).last ≤ 41 = leb-true (rule kind).last 41 (and_true_right (not (is_list (rule kind).items)) (leb (rule kind).last 41) separate) in
-    let above : 42 ≤ (rule kind).last = leb-true 42 (rule kind).last (and_true_right (leb (rule kind).first 42) (leb 42 (rule kind).last) shaped.0) in
+    let below : kind_number (rule kind).last ≤ 41 =
+    leb-true (kind_number (rule kind).last) 41 (and_true_right (not (is_list (rule kind).items)) (leb (kind_number (rule kind).last) 41) separate) in
+    let above : 42 ≤ kind_number (rule kind).last =
+    leb-true 42 (kind_number (rule kind).last) (and_true_right (leb (kind_number (rule kind).first) 42) (leb 42 (kind_number (rule kind).last)) shaped.0) in
     absurd (omega arith)
 ink_argument context place class value comma expression_list shaped free one kept = true_false (sym shaped.0)
 ink_argument context place class value comma one_expression shaped free one kept =

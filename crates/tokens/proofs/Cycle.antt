@@ -17,7 +17,8 @@ use Rattle.tree.specs.Tree.{built, chain}
 use Rattle.tree.specs.Grammar.{rule, fields}
 use Rattle.tree.specs.Own.{read_own}
 use Rattle.tree.specs.Reading.{read}
-use Rattle.tree.specs.declared.grammar.Class.TheVariants.{Word, BareToken, BlockRecord, LocatedExpression, Tokens, CloseBrace}
+use Rattle.tree.specs.declared.grammar.Class.{Class}
+use Rattle.tree.specs.declared.grammar.Class.TheVariants.{Word, BareToken, LocatedToken, BlockRecord, LocatedExpression, Tokens, CloseBrace}
 use Rattle.tree.specs.declared.grammar.Kind.{Kind}
 use Rattle.tree.specs.declared.grammar.Kind.TheVariants as variant
 use Rattle.tree.specs.declared.own.Own.{Own}
@@ -44,10 +45,10 @@ use Rattle.printers.proofs.Opening.{opened_own, opened_by_number, opened_as}
 use Rattle.leads.specs.Leads.{before_of}
 use Rattle.expressions.proofs.Stands.{field_stands}
 use Rattle.tokens.specs.Fronts.{is_plain, front_events, front_end, GoesFront}
-use Rattle.tokens.specs.Inner.{token_class, inner_of, Ends, Narrow, else_front, branch_events, branches_end, dropping, listed_events, GoesListed, KindIs}
+use Rattle.tokens.specs.Inner.{TokenClass, inner_of, Ends, Narrow, else_front, branch_events, branches_end, dropping, listed_events, GoesListed, KindIs}
 use Rattle.tokens.specs.Tokens.{closing_at, GoesTokens, each_events}
 use Rattle.tokens.specs.declared.walk.Inner.{Inner}
-use Rattle.tokens.specs.declared.walk.Inner.TheVariants.{Nothing, Block, Token, Branches}
+use Rattle.tokens.specs.declared.walk.Inner.TheVariants.{Block, Token, Branches}
 
 -- ---- by the position of braces
 
@@ -72,11 +73,11 @@ else_alike context NewLine tag block x = refl
 -- ---- what is inside a token
 
 -- what goes on behind the first fields of a kind
-abbrev Inside : Printer → Printer → Kind → Inner → ℕ → ℕ → Type 0
-Inside between after kind Nothing bits levels = GoesNode between after kind bits levels
-Inside between after kind (Block on) bits levels = GoesField between after (leaf plain) true levels BlockRecord on
-Inside between after kind (Token on located) bits levels = GoesField between after (leaf plain) true levels (token_class located) on
-Inside between after kind (Branches other) bits levels =
+abbrev Inside : Printer → Printer → Kind → Option Inner → ℕ → ℕ → Type 0
+Inside between after kind None bits levels = GoesNode between after kind bits levels
+Inside between after kind (Some (Block on)) bits levels = GoesField between after (leaf plain) true levels BlockRecord on
+Inside between after kind (Some (Token on class)) bits levels = GoesField between after (leaf plain) true levels class on
+Inside between after kind (Some (Branches other)) bits levels =
     Goes between after (λ page at. branch_events page.context other (read levels page.tree) at) (λ page at. branches_end other (read levels page.tree) at)
 
 -- both branches of an `If`, or only the first, are its last fields
@@ -108,23 +109,23 @@ all_fields {before} variant.If bits levels ends front inside =
     record { page = goes.page; room = goes.room; shown = if_shown before.context levels before.tree.now bits before.at (ends refl) goes.shown }
 all_fields other bits levels ends front inside = runs_alike (front onward inside) (λ x. refl)
 
-pub inside_goes : {before between after : Printer} (kind : Kind) (bits levels : ℕ) {inner : Inner} → Ends kind bits → GoesFront before between kind levels
-    → inner_of kind bits ≡ inner → Inside between after kind inner bits levels → GoesNode before after kind bits levels
+pub inside_goes : {before between after : Printer} (kind : Kind) (bits levels : ℕ) {inner : Option Inner} → Ends kind bits
+    → GoesFront before between kind levels → inner_of kind bits ≡ inner → Inside between after kind inner bits levels → GoesNode before after kind bits levels
 inside_goes kind bits levels ends front is inside = all_fields kind bits levels ends front (rw is inside)
 
 -- a token with nothing inside is one of the others
-pub plain_kind : (kind : Kind) (bits : ℕ) → kind_number kind ≤ 23 → inner_of kind bits ≡ Nothing → is_plain kind ≡ true
+pub plain_kind : (kind : Kind) (bits : ℕ) → kind_number kind ≤ 23 → inner_of kind bits ≡ None → is_plain kind ≡ true
 unfolding built
 plain_kind variant.Align bits small none = refl
 plain_kind other bits small none = grind arith
 
 -- ---- what the own bytes of a token say of it
 
--- the rules of both classes
-pub token_rule : (located : Bool)
-    → ((rule (token_class located)).items ≡ None) × ((rule (token_class located)).last ≡ 23) × ((rule (token_class located)).value ≡ LocatedExpression)
-token_rule true = (refl, refl, refl)
-token_rule false = (refl, refl, refl)
+-- the class of a token inside another is one of tokens
+pub token_inside : (kind : Kind) (bits : ℕ) (stands : Bool) (class : Class) → inner_of kind bits ≡ Some (Token stands class) → TokenClass class
+token_inside variant.ConfigPair bits stands class is = let same : LocatedToken ≡ class = cc in rw (← same) (refl, refl, refl)
+token_inside variant.Definition bits stands class is = let same : BareToken ≡ class = cc in rw (← same) (refl, refl, refl)
+token_inside other bits stands class is = first_of (cc, search)
 
 -- neither lists nor leaves
 no_list : (number : ℕ) → number ≤ 23 → (eqb number 24 ≡ false) × (leaf_number number ≡ false)
@@ -139,16 +140,15 @@ pub record TokenRead (own : Own) : Type 0 where
   pub fielded : bare own.kind ≡ false
   pub ends : Ends own.kind (own.map / 2)
 
-pub token_read_lem : (located : Bool) (bytes : List ℕ) (at levels : ℕ) (own : Own) → read_own bytes at (token_class located) levels ≡ Ok own → TokenRead own
+pub token_read_lem : (class : Class) (bytes : List ℕ) (at levels : ℕ) (own : Own) → TokenClass class → read_own bytes at class levels ≡ Ok own → TokenRead own
 unfolding built
-token_read_lem located bytes at levels own is =
-    let headed = (record_headed bytes at (token_class located) levels own is).1 in
+token_read_lem class bytes at levels own token is =
+    let headed = (record_headed bytes at class levels own is).1 in
     let number = kind_number_lem (get_or bytes at 0) own.kind headed.kind_is in
-    let range = (standing_range (rule (token_class located)) (get_or bytes at 0) (token_rule located).0 headed.standing).1 in
-    let last = (token_rule located).1 in
-    let small : get_or bytes at 0 ≤ 23 = omega (arith, range, last) in
+    let range = (standing_range (rule class) (get_or bytes at 0) token.0 headed.standing).1 in
+    let small : get_or bytes at 0 ≤ 23 = omega (arith, range, token.1) in
     let other = no_list (get_or bytes at 0) small in
-    let fits = (record_fields bytes at (token_class located) levels own is other.0).ends other.1 in
+    let fits = (record_fields bytes at class levels own is other.0).ends other.1 in
     record {
       small = rw number small;
       fielded = rw (number, other.0, other.1) refl;

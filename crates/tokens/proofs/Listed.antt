@@ -137,7 +137,7 @@ module _ {before between : Printer} {drops : Bool} {stood : Before} {levels : â„
 
       -- what its own bytes say of it
       pub listed_read : TokenRead lead.token
-      listed_read = token_read_lem false before.tree.now before.at levels lead.token parts.0
+      listed_read = token_read_lem BareToken before.tree.now before.at levels lead.token (refl, refl, refl) parts.0
 
       -- a level was left
       pub listed_levels : 0 < levels

@@ -6,10 +6,11 @@ use Rattle.options.specs.declared.BracePosition.TheVariants.{SameLine, NewLine}
 use Rattle.tree.specs.Tree.{Tree, absent}
 use Rattle.tree.specs.Reading.{Reader, read}
 use Rattle.tree.specs.declared.grammar.Class.{Class}
-use Rattle.tree.specs.declared.grammar.Class.TheVariants.{Word, Mnemonic, DataSize, BareToken, LocatedToken, ExpressionArguments, BlockRecord, OperandRecord}
+use Rattle.tree.specs.declared.grammar.Class.TheVariants.{Word, Mnemonic, DataSize, BareToken, LocatedToken, LocatedExpression}
+use Rattle.tree.specs.declared.grammar.Class.TheVariants.{ExpressionArguments, BlockRecord, OperandRecord}
 use Rattle.tree.specs.declared.grammar.Kind.{Kind}
 use Rattle.tree.specs.declared.grammar.Kind.TheVariants as variant
-use Rattle.tree.specs.Grammar.{kind_number}
+use Rattle.tree.specs.Grammar.{kind_number, rule}
 use Rattle.printing.specs.Events.{Events, nothing, space, clear, ◌▹◌}
 use Rattle.printing.specs.declared.Context.{Context}
 use Rattle.events.specs.Printed.{plain, mnemonic, data_size}
@@ -19,24 +20,25 @@ use Rattle.leads.specs.Leads.{lead_in}
 use Rattle.printers.specs.Going.{Goes}
 use Rattle.printers.specs.declared.Printer.{Printer}
 use Rattle.tokens.specs.declared.walk.Inner.{Inner}
-use Rattle.tokens.specs.declared.walk.Inner.TheVariants.{Nothing, Block, Token, Branches}
+use Rattle.tokens.specs.declared.walk.Inner.TheVariants.{Block, Token, Branches}
 
-abbrev pub token_class : Bool → Class
-token_class located = cond located LocatedToken BareToken
+abbrev pub inner_of : Kind → ℕ → Option Inner
+inner_of variant.ConfigPair bits = Some (Token true LocatedToken)
+inner_of variant.Definition bits = Some (Token (bit_at 2 bits) BareToken)
+inner_of variant.If bits = Some (Branches (bit_at 3 bits))
+inner_of variant.Import bits = Some (Block (bit_at 4 bits))
+inner_of variant.Label bits = Some (Block (bit_at 2 bits))
+inner_of variant.Segment bits = Some (Block (bit_at 2 bits))
+inner_of variant.Braces bits = Some (Block true)
+inner_of variant.Config bits = Some (Block true)
+inner_of variant.Loop bits = Some (Block true)
+inner_of variant.MacroDefinition bits = Some (Block true)
+inner_of variant.Test bits = Some (Block true)
+inner_of other bits = None
 
-abbrev pub inner_of : Kind → ℕ → Inner
-inner_of variant.ConfigPair bits = Token true true
-inner_of variant.Definition bits = Token (bit_at 2 bits) false
-inner_of variant.If bits = Branches (bit_at 3 bits)
-inner_of variant.Import bits = Block (bit_at 4 bits)
-inner_of variant.Label bits = Block (bit_at 2 bits)
-inner_of variant.Segment bits = Block (bit_at 2 bits)
-inner_of variant.Braces bits = Block true
-inner_of variant.Config bits = Block true
-inner_of variant.Loop bits = Block true
-inner_of variant.MacroDefinition bits = Block true
-inner_of variant.Test bits = Block true
-inner_of other bits = Nothing
+-- the classes of a token inside a token: the rule of both is that of tokens
+abbrev pub TokenClass : Class → Type 0
+TokenClass class = ((rule class).items ≡ None) × (kind_number (rule class).last ≡ 23) × ((rule class).value ≡ LocatedExpression)
 
 -- "`tag_else` and `else_` stand together or not at all"
 abbrev pub Ends : Kind → ℕ → Type 0

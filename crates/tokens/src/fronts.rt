@@ -1,12 +1,10 @@
 // What tokens print before the block or the token inside them.
-ghost use Rattle.std.specs.Prelude.{◌≡◌, false, ℕ, ◌≤◌, length, Ok};
+ghost use Rattle.std.specs.Prelude.{◌≡◌, ℕ, ◌≤◌, length, Ok};
 ghost use Rattle.tree.specs.Own.{read_own};
 ghost use Rattle.tree.specs.Reading.{read};
 ghost use Rattle.tree.specs.declared.grammar.Class.TheVariants as class;
 ghost use Rattle.tree.specs.declared.grammar.Kind.TheVariants as kind;
-ghost use Rattle.events.specs.Trees as Trees;
 ghost use Rattle.printers.specs.Going.{Goes};
-ghost use Rattle.printers.specs.Records.{GoesRecord};
 ghost use Rattle.tokens.specs.Fronts.{behind_name, named_events, label_events, label_end, GoesFront};
 
 use crate::plain;
@@ -49,38 +47,8 @@ fn import_front(printer: &mut Printer, levels: usize)
     printer.spc_if_next();
 }
 
-// The id of a label, whose own bytes were read, with its colon, in one chunk.
-fn push_label(printer: &mut Printer, id: Own)
-    requires { (id.text ≤ id.end) × (id.end ≤ length printer.old.tree.now) }
-    ensures { (levels place : ℕ) → read_own printer.old.tree.now place class.Word levels ≡ Ok id
-        → Goes printer.old printer.new
-        (λ page at. Trees.events_in page.context Trees.labelled false (read levels page.tree class.Word place).tree)
-        (λ page at. (read levels page.tree class.Word place).end) }
-{
-    let tree = printer.tree;
-    printer.push_type(ChunkType::Label, &tree[id.text..id.end], true);
-    printer.move_to(id.end);
-}
-
-// The id of a label with its colon, without its trivia.
-fn format_label(printer: &mut Printer, levels: usize)
-    ensures { GoesRecord printer.old printer.new Trees.labelled false levels class.Word }
-{
-    let Some(own) = record::open(printer, levels, Class::Word, true, false) else {
-        return;
-    };
-    push_label(printer, own);
-}
-
-// The colon is skipped: it has been printed. In a list the lead-in has read the id, and this is not called.
-fn label_front(printer: &mut Printer, levels: usize)
-    ensures { GoesFront printer.old printer.new kind.Label levels }
-{
-    format_label(printer, levels);
-    record::skip(printer, levels, Class::Colon, true);
-}
-
-// A `Label` of a list, whose lead-in has read the own bytes of its id, without its block.
+// A `Label` of a list, whose lead-in has read the own bytes of its id, without its block. The id and the colon are one
+// chunk, so the stored colon is skipped.
 pub(crate) fn format_listed_label(printer: &mut Printer, levels: usize, id: Own)
     requires { (id.text ≤ id.end) × (id.end ≤ length printer.old.tree.now) }
     ensures { (place : ℕ) → read_own printer.old.tree.now place class.Word levels ≡ Ok id
@@ -88,8 +56,20 @@ pub(crate) fn format_listed_label(printer: &mut Printer, levels: usize, id: Own)
         (λ page at. label_events page.context (read levels page.tree) place)
         (λ page at. label_end (read levels page.tree) place) }
 {
-    push_label(printer, id);
+    let tree = printer.tree;
+    printer.push_type(ChunkType::Label, &tree[id.text..id.end], true);
+    printer.move_to(id.end);
     record::skip(printer, levels, Class::Colon, true);
+}
+
+// The same inside a token, where no lead-in has read the id.
+fn label_front(printer: &mut Printer, levels: usize)
+    ensures { GoesFront printer.old printer.new kind.Label levels }
+{
+    let Some(id) = record::open(printer, levels, Class::Word, true, false) else {
+        return;
+    };
+    format_listed_label(printer, levels, id);
 }
 
 // A tag and a name.
@@ -114,7 +94,7 @@ fn macro_definition_front(printer: &mut Printer, levels: usize)
     printer.spc_if_next();
 }
 
-// A tag and an expression.
+// A tag and an expression, of an `If`, a `Loop` or a `Segment`.
 fn tagged_front(printer: &mut Printer, levels: usize)
     ensures { GoesFront printer.old printer.new kind.Loop levels }
 {

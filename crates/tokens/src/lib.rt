@@ -25,10 +25,7 @@ fn walk_file(tree: &[u8], options: FormattingOptions, room: &mut [u8]) -> Result
     ensures answer { result ≡ file_walked options tree.now room.old }
     ensures room { room.new ≡ room_of (file_run options tree.now room.old) }
 {
-    let context = Context {
-        options: options,
-        indent: 0,
-    };
+    let context = Context { options, indent: 0 };
     let mut printer = Printer::new(tree, room, context);
     walk::format_tokens(&mut printer, 64, false);
     printer.answer()
@@ -82,7 +79,7 @@ fn one_pass_with(tree: &[u8], options: FormattingOptions, room: &mut [u8]) -> An
         RoomHolds held room.new }
     ensures room { room.new ≡ one_pass_with (Ok options) tree.now room.old }
 {
-    // a tree of a wrong length, however long, is refused without a look at its bytes
+    // A tree of a wrong length, however long, is refused without a look at its bytes
     check::check_length(tree, 65535)?;
     let walked = walk_file(tree, options, room);
     if !settles(tree, walked) {

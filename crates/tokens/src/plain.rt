@@ -7,7 +7,7 @@ ghost use Rattle.tree.specs.declared.grammar.Kind.TheVariants as kind;
 ghost use Rattle.printers.specs.Going.{Goes};
 ghost use Rattle.printers.specs.Records.{GoesNode};
 ghost use Rattle.tokens.specs.Fronts.{is_plain};
-ghost use Rattle.tokens.specs.Inner.{sized_events, operand_events, operand_end, instruction_events, instruction_end};
+ghost use Rattle.tokens.specs.Inner.{sized_events, instruction_events, instruction_end};
 
 use expressions::expression::Arguments;
 use expressions::{expression, operand, strings};
@@ -16,7 +16,7 @@ use printers::{Printer, leaf, record, texts};
 use tree::grammar::{Class, Kind};
 use tree::own::Own;
 
-// A tag and an expression.
+// A tag and an expression: all of an `Align`, and what an `Assert`, an `If`, a `Loop` and a `Segment` begin with.
 pub(crate) fn format_tagged(printer: &mut Printer, levels: usize)
     ensures { GoesNode printer.old printer.new kind.Align 0 levels }
 {
@@ -25,7 +25,7 @@ pub(crate) fn format_tagged(printer: &mut Printer, levels: usize)
     expression::format_expression(printer, levels, true);
 }
 
-// The space stays pending where there is no message.
+// A tag, an expression and a message. The space stays pending where there is no message.
 fn format_assert(printer: &mut Printer, levels: usize, bits: usize)
     ensures { GoesNode printer.old printer.new kind.Assert bits levels }
 {
@@ -36,7 +36,7 @@ fn format_assert(printer: &mut Printer, levels: usize, bits: usize)
 
 // A `Data` of a list, whose lead-in has read the own bytes of its size: the size, and the values, which are stored
 // before it.
-pub(crate) fn format_sized(printer: &mut Printer, levels: usize, size: Own)
+pub(crate) fn format_listed_data(printer: &mut Printer, levels: usize, size: Own)
     requires { (size.text ≤ size.end) × (size.end ≤ length printer.old.tree.now) }
     ensures { (place : ℕ) → read_own printer.old.tree.now place class.DataSize levels ≡ Ok size
         → Goes printer.old printer.new
@@ -50,7 +50,7 @@ pub(crate) fn format_sized(printer: &mut Printer, levels: usize, size: Own)
     printer.move_to(size.end);
 }
 
-// The values are skipped on the way to the size. In a list the lead-in has read the size, and this is not called.
+// The same inside a token, where no lead-in has read the size: the values are skipped on the way to it.
 fn format_data(printer: &mut Printer, levels: usize)
     ensures { GoesNode printer.old printer.new kind.Data 0 levels }
 {
@@ -73,21 +73,8 @@ fn format_file(printer: &mut Printer, levels: usize)
     strings::format_string(printer, levels, true);
 }
 
-// What is printed behind a mnemonic: an operand or none. Where none stands no space is asked for, since it would be
-// taken back at once.
-fn format_behind_mnemonic(printer: &mut Printer, levels: usize, bits: usize)
-    ensures { Goes printer.old printer.new
-        (λ page at. operand_events page.context bits (read levels page.tree) at)
-        (λ page at. operand_end bits (read levels page.tree) at) }
-{
-    if record::stands(bits, 1) {
-        printer.spc_if_next();
-        operand::format_operand(printer, levels, true);
-    }
-    printer.clear_spc_if_next();
-}
-
-// An `Instruction` of a list, whose lead-in has read the own bytes of its mnemonic.
+// An `Instruction` of a list, whose lead-in has read the own bytes of its mnemonic. Where no operand stands no space is
+// asked for, since it would be taken back at once.
 pub(crate) fn format_listed_instruction(
     printer: &mut Printer,
     levels: usize,
@@ -103,15 +90,21 @@ pub(crate) fn format_listed_instruction(
     let tree = printer.tree;
     texts::push_text(printer, Style::Mnemonic, &tree[mnemonic.text..mnemonic.end]);
     printer.move_to(mnemonic.end);
-    format_behind_mnemonic(printer, levels, bits);
+    if record::stands(bits, 1) {
+        printer.spc_if_next();
+        operand::format_operand(printer, levels, true);
+    }
+    printer.clear_spc_if_next();
 }
 
-// A mnemonic, with an operand or without. In a list the lead-in has read the mnemonic, and this is not called.
+// The same inside a token, where no lead-in has read the mnemonic.
 fn format_instruction(printer: &mut Printer, levels: usize, bits: usize)
     ensures { GoesNode printer.old printer.new kind.Instruction bits levels }
 {
-    leaf::format_leaf(printer, levels, leaf::MNEMONIC);
-    format_behind_mnemonic(printer, levels, bits);
+    let Some(mnemonic) = record::open(printer, levels, Class::Mnemonic, true, false) else {
+        return;
+    };
+    format_listed_instruction(printer, levels, bits, mnemonic);
 }
 
 // A macro's name with its arguments.
@@ -135,7 +128,7 @@ fn format_program_counter_definition(printer: &mut Printer, levels: usize)
     expression::format_expression(printer, levels, true);
 }
 
-// The space stays pending where nothing is printed behind it.
+// A tag, an encoding and a text. The space stays pending where nothing is printed behind it.
 fn format_text(printer: &mut Printer, levels: usize, bits: usize)
     ensures { GoesNode printer.old printer.new kind.Text bits levels }
 {

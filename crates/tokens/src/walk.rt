@@ -11,7 +11,7 @@ ghost use Rattle.leaves.specs.Lists.{items_end};
 ghost use Rattle.printers.specs.Going.{Goes};
 ghost use Rattle.printers.specs.Records.{GoesField, GoesNode};
 ghost use Rattle.leads.specs.Leads.{before_of};
-ghost use Rattle.tokens.specs.Inner.{inner_of, token_class, Ends, Narrow, else_front, branch_events, branches_end};
+ghost use Rattle.tokens.specs.Inner.{inner_of, TokenClass, Ends, Narrow, else_front, branch_events, branches_end};
 ghost use Rattle.tokens.specs.Inner.{dropping, GoesListed, KindIs};
 ghost use Rattle.tokens.specs.Tokens.{GoesTokens, each_events};
 
@@ -24,24 +24,23 @@ use tree::grammar::{Class, Kind};
 // What stands inside a token.
 #[derive(Clone, Copy)]
 pub enum Inner {
-    Nothing,
     Block { stands: bool },
-    Token { stands: bool, located: bool },
+    Token { stands: bool, class: Class },
     Branches { other: bool },
 }
 
 // What stands inside a token, by its kind: a block, a token, two branches, or nothing of these.
-fn inner_of(kind: Kind, bits: usize) -> Inner
+fn inner_of(kind: Kind, bits: usize) -> Option<Inner>
     ensures { result ≡ inner_of kind bits }
 {
-    match kind {
+    let inner = match kind {
         Kind::ConfigPair => Inner::Token {
             stands: true,
-            located: true,
+            class: Class::LocatedToken,
         },
         Kind::Definition => Inner::Token {
             stands: record::stands(bits, 2),
-            located: false,
+            class: Class::BareToken,
         },
         Kind::If => Inner::Branches {
             other: record::stands(bits, 3),
@@ -55,8 +54,9 @@ fn inner_of(kind: Kind, bits: usize) -> Inner
         Kind::Braces | Kind::Config | Kind::Loop | Kind::MacroDefinition | Kind::Test => {
             Inner::Block { stands: true }
         }
-        _ => Inner::Nothing,
-    }
+        _ => return None,
+    };
+    Some(inner)
 }
 
 // The context inside a block.
@@ -106,25 +106,14 @@ fn format_else(printer: &mut Printer, levels: usize)
     }
 }
 
-// The class of a token inside a token.
-fn token_class(located: bool) -> Class
-    ensures { result ≡ token_class located }
-{
-    if located {
-        Class::LocatedToken
-    } else {
-        Class::BareToken
-    }
-}
-
 // A token, by its kind: what it prints before the block or the token inside it, and that.
 #[cycle(token)]
-fn format_token(printer: &mut Printer, levels: usize, stands: bool, located: bool)
-    requires { Narrow printer.old.context levels }
+fn format_token(printer: &mut Printer, levels: usize, stands: bool, class: Class)
+    requires narrow { Narrow printer.old.context levels }
+    requires token { TokenClass class }
     ensures { let place = Trees.leaf plain in
-        GoesField printer.old printer.new place true levels (token_class located) stands }
+        GoesField printer.old printer.new place true levels class stands }
 {
-    let class = token_class(located);
     let Some(own) = record::open(printer, levels, class, stands, true) else {
         return;
     };
@@ -133,7 +122,7 @@ fn format_token(printer: &mut Printer, levels: usize, stands: bool, located: boo
 
 // A token of a list, and what stands before it; its kind, or none where the walk ended before it. What the lead-in has
 // read is not read again: the token's own bytes, and those of its head where that is the mnemonic of an `Instruction`,
-// the size of a `Data` or the id of a `Label`. A label without a block ends with what stands before one.
+// the size of a `Data` or the id of a `Label`.
 #[cycle(token)]
 fn format_listed_token(
     printer: &mut Printer,
@@ -153,7 +142,7 @@ fn format_listed_token(
         Kind::Instruction => {
             plain::format_listed_instruction(printer, below, bits, lead.head);
         }
-        Kind::Data => plain::format_sized(printer, below, lead.head),
+        Kind::Data => plain::format_listed_data(printer, below, lead.head),
         Kind::Label => {
             fronts::format_listed_label(printer, below, lead.head);
             format_block(printer, below, record::stands(bits, 2));
@@ -171,17 +160,15 @@ fn format_inner(printer: &mut Printer, levels: usize, kind: Kind, bits: usize)
     ensures { kind_number kind ≤ kinds.variable_definition
         → GoesNode printer.old printer.new kind bits levels }
 {
-    let inner = inner_of(kind, bits);
-    if let Inner::Nothing = inner {
+    let Some(inner) = inner_of(kind, bits) else {
         plain::format_plain_token(printer, levels, kind, bits);
         return;
-    }
+    };
     fronts::format_token_front(printer, levels, kind);
     match inner {
         Inner::Block { stands } => format_block(printer, levels, stands),
-        Inner::Token { stands, located } => format_token(printer, levels, stands, located),
+        Inner::Token { stands, class } => format_token(printer, levels, stands, class),
         Inner::Branches { other } => format_branches(printer, levels, other),
-        Inner::Nothing => {}
     }
 }
 

@@ -8,7 +8,6 @@ use lib.Dec.{eqb}
 use borrow.Author.Tests.{eq-eqb, ne_eqb}
 use Rattle.tree.specs.Grammar.{kind_of, kind_number}
 use Rattle.tree.specs.declared.grammar.Kind.{Kind}
-use Rattle.tree.specs.declared.grammar.Kind.TheVariants.{Leaf, PathItem}
 use Rattle.tree.specs.declared.grammar.Kind.TheVariants as variant
 use Rattle.tree.proofs.KindLayout.{kind_number_lem}
 
@@ -30,14 +29,6 @@ module _ (number : ℕ) (kind : Kind) (known : kind_of number ≡ Some kind) whe
   no_kind place other is different =
       ne_eqb _ _ (λ same. different (let here : Some kind ≡ Some other = sym known ∙ ap kind_of same ∙ is in cc))
 
-  -- a leaf and a path item have the numbers of records with a text
-  pub texted : (kind ≡ Leaf) ⊎ (kind ≡ PathItem) → (eqb number 24 ≡ false) × ((eqb number 25 || eqb number 26) ≡ true)
-  texted = ⊎_elim (λ leaf. rw (kind_moved 25 Leaf refl leaf) (refl, refl)) (λ path. rw (kind_moved 26 PathItem refl path) (refl, refl))
-
-  -- no other has
-  pub untexted : (kind ≡ Leaf → ⊥) → (kind ≡ PathItem → ⊥) → (eqb number 25 || eqb number 26) ≡ false
-  untexted leaf path = rw (no_kind 25 Leaf refl leaf, no_kind 26 PathItem refl path)
-
 -- a byte of no kind is no kind's number
 pub none_at : (number : ℕ) → kind_of number ≡ None → (place : ℕ) (other : Kind) → kind_of place ≡ Some other → eqb number place ≡ false
 none_at number none place other is =
@@ -55,3 +46,12 @@ module _ {kind other : Kind} (number : ℕ) (known : kind_of number ≡ Some oth
 
   pub other_number : (kind ≡ other → ⊥) → eqb (kind_number kind) number ≡ false
   other_number different = no_kind (kind_number kind) kind (numbered kind) number other known different
+
+-- a leaf and a path item have the numbers of records with a text
+pub texted : {kind : Kind} → (kind ≡ variant.Leaf) ⊎ (kind ≡ variant.PathItem)
+    → (eqb (kind_number kind) 24 ≡ false) × ((eqb (kind_number kind) 25 || eqb (kind_number kind) 26) ≡ true)
+texted = ⊎_elim (λ leaf. rw leaf (refl, refl)) (λ path. rw path (refl, refl))
+
+-- no other has
+pub untexted : {kind : Kind} → (kind ≡ variant.Leaf → ⊥) → (kind ≡ variant.PathItem → ⊥) → (eqb (kind_number kind) 25 || eqb (kind_number kind) 26) ≡ false
+untexted leaf path = rw (other_number 25 refl leaf, other_number 26 refl path)

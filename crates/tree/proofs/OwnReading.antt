@@ -12,13 +12,13 @@ use borrow.Author.Tests.{lt-ltb, le-ltb, le-leb, lt-leb, ne_eqb}
 use lib.Dec.{eqb}
 use lib.ListN.{length, get_or}
 use Rattle.text.specs.Numbers.{read_number}
-use Rattle.tree.specs.Grammar.{kind_of, rule}
+use Rattle.tree.specs.Grammar.{kind_of, kind_number, rule}
 use Rattle.tree.specs.Own.{may_stand, text_fits, map_fits, trivia_read, text_of_count, text_end, layout, own_of, leaf_on, list_on, rest_of, trivia_of_record}
 use Rattle.tree.specs.Own.{own_at, read_own, Fits}
 use Rattle.tree.specs.declared.grammar.Kind.{Kind}
 use Rattle.tree.specs.declared.grammar.Kind.TheVariants.{Vec, Leaf, PathItem}
 use Rattle.text.proofs.Choices.{by_test}
-use Rattle.tree.proofs.KindNumbers.{is_kind, no_kind, texted, untexted}
+use Rattle.tree.proofs.KindNumbers.{this_number, other_number, texted, untexted}
 use mathlib.Core.Logic.{◌⊎◌}
 use Rattle.tree.specs.declared.grammar.Class.{Class}
 use Rattle.tree.specs.declared.grammar.TextRule.{TextRule}
@@ -32,30 +32,30 @@ use Rattle.tree.proofs.OwnBytes.{own_fits}
 
 -- ---- behind the trivia
 
-module _ (bytes : List ℕ) (at : ℕ) (text : TextRule) (kind : Kind) (map : ℕ) (trivia : TriviaSpan) (number : ℕ) (known : kind_of number ≡ Some kind) where
+module _ (bytes : List ℕ) (at : ℕ) (text : TextRule) (kind : Kind) (map : ℕ) (trivia : TriviaSpan) where
   -- a list, by what its count reads as
   pub rest_list : kind ≡ Vec → (read : Option ℕ) → read_number bytes trivia.end ≡ read
-      → list_on at kind map trivia read ≡ rest_of bytes at text number kind map trivia
+      → list_on at kind map trivia read ≡ rest_of bytes at text (kind_number kind) kind map trivia
   unfolding rest_of
-  rest_list is read told = sym (rw (is_kind number kind known 24 Vec refl is) (ap (list_on at kind map trivia) told))
+  rest_list is read told = sym (rw (this_number 24 refl is) (ap (list_on at kind map trivia) told))
 
   -- a leaf of either kind: with a text, or without
   module _ (leaf : (kind ≡ Leaf) ⊎ (kind ≡ PathItem)) where
     pub rest_leaf : 2 ≤ map → (span : Option ℕ) → text_end bytes trivia.end text ≡ span
-        → leaf_on at kind map trivia span ≡ rest_of bytes at text number kind map trivia
+        → leaf_on at kind map trivia span ≡ rest_of bytes at text (kind_number kind) kind map trivia
     unfolding rest_of
     rest_leaf h span told =
-        let those = texted number kind known leaf in sym (rw (those.0, those.1, le-leb 2 map h) (ap (leaf_on at kind map trivia) told))
+        let those = texted leaf in sym (rw (those.0, those.1, le-leb 2 map h) (ap (leaf_on at kind map trivia) told))
 
-    pub rest_bare : map < 2 → Ok (own_of kind map trivia trivia.end trivia.end 0) ≡ rest_of bytes at text number kind map trivia
+    pub rest_bare : map < 2 → Ok (own_of kind map trivia trivia.end trivia.end 0) ≡ rest_of bytes at text (kind_number kind) kind map trivia
     unfolding rest_of
-    rest_bare h = let those = texted number kind known leaf in sym (rw (those.0, those.1, lt-leb 2 map h))
+    rest_bare h = let those = texted leaf in sym (rw (those.0, those.1, lt-leb 2 map h))
 
   -- any other kind
   pub rest_none : (kind ≡ Vec → ⊥) → (kind ≡ Leaf → ⊥) → (kind ≡ PathItem → ⊥)
-      → Ok (own_of kind map trivia trivia.end trivia.end 0) ≡ rest_of bytes at text number kind map trivia
+      → Ok (own_of kind map trivia trivia.end trivia.end 0) ≡ rest_of bytes at text (kind_number kind) kind map trivia
   unfolding rest_of
-  rest_none list leaf path = sym (rw (no_kind number kind known 24 Vec refl list, untexted number kind known leaf path))
+  rest_none list leaf path = sym (rw (other_number 24 refl list, untexted leaf path))
 
 -- ---- a record's first two bytes
 

@@ -1,5 +1,5 @@
 -- Laws of reading a record as the code does it: its own bytes, and then its parts one behind the other while the first byte that no text may hold goes along.
-use Rattle.std.specs.Prelude.{Option, Result, Some, None, Ok, Err}
+use Rattle.std.specs.Prelude.{Result, Ok, Err}
 use mathlib.Core.Path.{◌≡◌, refl, sym, ap, ◌∙◌}
 use mathlib.Core.List.{List, [], ◌∷◌, ◌++◌}
 use mathlib.Core.Bool.{Bool, false}
@@ -10,10 +10,9 @@ use Rattle.answers.specs.declared.Refusal.{Refusal}
 use Rattle.answers.specs.Numbers.{and_then, Checked}
 use Rattle.tree.specs.Own.{read_own}
 use Rattle.tree.specs.Reading.{Placed, Readings, Reader, Due, nothing, due, parts_due, texts_of, read_parts, read}
-use Rattle.tree.specs.Walk.{Plans, standing, NextOf, fault_from, record_on, record_read, onward, Walker, walked, walker_of}
+use Rattle.tree.specs.Walk.{standing, fault_from, record_on, record_read, onward, Walker, walked, walker_of}
 use Rattle.tree.specs.declared.grammar.Class.{Class}
 use Rattle.tree.specs.declared.own.Own.{Own}
-use Rattle.tree.specs.declared.check.Plan.{Plan}
 use Rattle.tree.proofs.Readings.{no_record}
 use Rattle.tree.proofs.Faults.{faults_append}
 
@@ -94,53 +93,24 @@ walk_none walker class own place fault none t = sym (ap (λ (classes : List Clas
 
 -- ---- the loop over a record's parts
 
--- the plan that is left goes on with the walk over the plan's parts
-pub record PartsLeft (walker : Walker) (plan : Plan) (place fault : ℕ) (later : Plan) (behind found : ℕ) : Type 0 where
-  pub walk : (parts : List Due) → Plans plan parts
-      → (others : List Due) × Plans later others × (walked walker (standing parts) place fault ≡ walked walker (standing others) behind found)
-
--- before the first part
-pub parts_start : (walker : Walker) (plan : Plan) (place fault : ℕ) → PartsLeft walker plan place fault plan place fault
-parts_start walker plan place fault = record { walk = λ parts plans. (parts, plans, refl) }
-
-module _ (walker : Walker) (plan : Plan) (place fault : ℕ) (later : Plan) (behind found : ℕ)
-    (left : PartsLeft walker plan place fault later behind found)
-    (part : Option (Class × Plan)) (next : (parts : List Due) → Plans later parts → NextOf part parts) where
-  -- no part is left
-  pub walk_done : part ≡ None → (parts : List Due) → Plans plan parts → Ok (behind, found) ≡ walked walker (standing parts) place fault
+module _ (walker : Walker) {left : List Class} (class : Class) (others : List Class) (behind found : ℕ) {whole : Result (ℕ × ℕ) Refusal}
+    (walk : whole ≡ walked walker left behind found) (first : left ≡ class ∷ others)
+    {read : Result (ℕ × ℕ) Refusal} (same : read ≡ walker class behind found) where
+  -- the walk goes on with the part that is read
+  walk_next : whole ≡ onward read (walked walker others)
   unfolding walked
-  walk_done e parts plans =
-      let rest = left.walk parts plans in
-      let none : standing rest.0 ≡ [] = rw e at (next rest.0 rest.1) in
-      sym (rest.2 ∙ ap (λ (classes : List Class). walked walker classes behind found) none)
+  walk_next = walk ∙ rw (first, same)
 
-  -- a part is left, and the others behind it
-  module _ (class : Class) (rest : Plan) (e : part ≡ Some (class, rest)) where
-    -- the parts behind it
-    others : (parts : List Due) → Plans later parts → (others : List Due) × (standing parts ≡ class ∷ standing others) × Plans rest others
-    others parts plans = rw e at (next parts plans)
+  -- it is refused
+  pub walk_refused : (refusal : Refusal) → read ≡ Err refusal → read ≡ whole
+  walk_refused refusal is = is ∙ sym (rw is at walk_next)
 
-    -- the walk goes on with it
-    walk_next : (parts : List Due) → Plans plan parts
-        → (others : List Due) × Plans rest others × (walked walker (standing parts) place fault ≡ onward (walker class behind found) (walked walker (standing others)))
-    unfolding walked
-    walk_next parts plans =
-        let now = left.walk parts plans in
-        let behind_part = others now.0 now.1 in
-        (behind_part.0, behind_part.2, now.2 ∙ ap (λ (classes : List Class). walked walker classes behind found) behind_part.1)
+  -- it is read whole
+  pub walk_on : (end seen : ℕ) → read ≡ Ok (end, seen) → whole ≡ walked walker others end seen
+  walk_on end seen is = rw is at walk_next
 
-    -- it is refused
-    pub walk_refused : (refusal : Refusal) (read : Result (ℕ × ℕ) Refusal) → read ≡ walker class behind found → read ≡ Err refusal
-        → (parts : List Due) → Plans plan parts → read ≡ walked walker (standing parts) place fault
-    walk_refused refusal read same is parts plans =
-        let now = walk_next parts plans in
-        is ∙ sym (now.2 ∙ ap (λ (read : Result (ℕ × ℕ) Refusal). onward read (walked walker (standing now.0))) (sym same ∙ is))
-
-    -- it is read whole
-    pub walk_on : (end seen : ℕ) (read : Result (ℕ × ℕ) Refusal) → read ≡ walker class behind found → read ≡ Ok (end, seen)
-        → PartsLeft walker plan place fault rest end seen
-    walk_on end seen read same is = record {
-      walk = λ parts plans.
-          let now = walk_next parts plans in
-          (now.0, now.1, now.2 ∙ ap (λ (read : Result (ℕ × ℕ) Refusal). onward read (walked walker (standing now.0))) (sym same ∙ is));
-    }
+-- no part is left
+pub walk_done : (walker : Walker) {left : List Class} (behind found : ℕ) {whole : Result (ℕ × ℕ) Refusal}
+    → whole ≡ walked walker left behind found → left ≡ [] → Ok (behind, found) ≡ whole
+unfolding walked
+walk_done walker behind found walk none = sym (rw none at walk)

@@ -1,4 +1,4 @@
--- The codes of trivia items, and the addressing modes that print a closing character, by name. Every name is as good as its number.
+-- The codes of trivia items, and the addressing modes that print a closing character, by name, which is as good as the number; and the enums of the code.
 use Rattle.std.specs.Prelude.{ℕ, List, [], ◌∷◌, Option, Some, None, get_or, map}
 use Rattle.tree.specs.declared.codes.Code.{Code}
 use Rattle.tree.specs.declared.codes.Code.TheVariants as code

@@ -89,16 +89,16 @@ abbrev pub bare : Bool
 bare = false
 
 abbrev pub leaf : Bool → TextRule → Rule
-leaf trivia text = record { first = kinds.leaf; last = kinds.leaf; located = trivia; text = text; items = None; value = LocatedExpression }
+leaf trivia text = record { first = kind.Leaf; last = kind.Leaf; located = trivia; text = text; items = None; value = LocatedExpression }
 
-abbrev pub nodes : ℕ → ℕ → Bool → Rule
+abbrev pub nodes : Kind → Kind → Bool → Rule
 nodes first last trivia = record { first = first; last = last; located = trivia; text = NoText; items = None; value = LocatedExpression }
 
 abbrev pub list_of : Class → Rule
-list_of class = record { first = kinds.vec; last = kinds.vec; located = bare; text = NoText; items = Some class; value = LocatedExpression }
+list_of class = record { first = kind.Vec; last = kind.Vec; located = bare; text = NoText; items = Some class; value = LocatedExpression }
 
 abbrev pub argument : Class → Rule
-argument value = record { first = kinds.arg_item; last = kinds.arg_item; located = bare; text = NoText; items = None; value = value }
+argument value = record { first = kind.ArgItem; last = kind.ArgItem; located = bare; text = NoText; items = None; value = value }
 
 -- what may stand in a class: kinds, trivia, text ("Where the Rust type is an enum, the text is one byte, its index in declared order, within range. A `char` is
 -- one byte; both must stand. `Eof`'s leaf has no text. Braces of a block are `{` and `}`, a label's colon `:`.")
@@ -118,19 +118,21 @@ rule DataSize = leaf located (Byte 0 2)  -- Located DataSize
 rule BinaryOp = leaf located (Byte 0 15)  -- Located BinaryOp
 rule TextEncoding = leaf located (Byte 0 3)  -- Located TextEncoding
 rule AddressingMode = leaf bare (Byte 0 4)  -- AddressingMode
-rule StringItem = record { first = kinds.leaf; last = kinds.path_item; located = bare; text = Free; items = None; value = LocatedExpression }  -- InterpolatedStringItem
-rule LocatedExpression = nodes kinds.binary_expression kinds.factor located  -- Located Expression
-rule BareExpression = nodes kinds.binary_expression kinds.factor bare  -- Expression
-rule LocatedFactor = nodes kinds.current_program_counter kinds.string_factor located  -- Located ExpressionFactor
-rule BareToken = nodes kinds.align kinds.variable_definition bare  -- Token
-rule LocatedToken = nodes kinds.align kinds.variable_definition located  -- Located Token
-rule BlockRecord = nodes kinds.block kinds.block bare  -- Block
-rule StringRecord = nodes kinds.interpolated_string kinds.interpolated_string bare  -- InterpolatedString
-rule OperandRecord = nodes kinds.operand kinds.operand bare  -- Operand
-rule SuffixRecord = nodes kinds.register_suffix kinds.register_suffix bare  -- RegisterSuffix
-rule AsRecord = nodes kinds.import_as kinds.import_as bare  -- ImportAs
-rule ImportArguments = record { first = kinds.import_all; last = kinds.import_all; located = bare; text = NoText; items = Some ImportArgument; value = LocatedExpression }  -- ImportArgs
-rule ImportPath = nodes kinds.specific_import_arg kinds.specific_import_arg located  -- Located SpecificImportArg
+rule StringItem =
+    record { first = kind.Leaf; last = kind.PathItem; located = bare; text = Free; items = None; value = LocatedExpression }  -- InterpolatedStringItem
+rule LocatedExpression = nodes kind.BinaryExpression kind.Factor located  -- Located Expression
+rule BareExpression = nodes kind.BinaryExpression kind.Factor bare  -- Expression
+rule LocatedFactor = nodes kind.CurrentProgramCounter kind.StringFactor located  -- Located ExpressionFactor
+rule BareToken = nodes kind.Align kind.VariableDefinition bare  -- Token
+rule LocatedToken = nodes kind.Align kind.VariableDefinition located  -- Located Token
+rule BlockRecord = nodes kind.Block kind.Block bare  -- Block
+rule StringRecord = nodes kind.InterpolatedString kind.InterpolatedString bare  -- InterpolatedString
+rule OperandRecord = nodes kind.Operand kind.Operand bare  -- Operand
+rule SuffixRecord = nodes kind.RegisterSuffix kind.RegisterSuffix bare  -- RegisterSuffix
+rule AsRecord = nodes kind.ImportAs kind.ImportAs bare  -- ImportAs
+rule ImportArguments =
+    record { first = kind.ImportAll; last = kind.ImportAll; located = bare; text = NoText; items = Some ImportArgument; value = LocatedExpression }  -- ImportArgs
+rule ImportPath = nodes kind.SpecificImportArg kind.SpecificImportArg located  -- Located SpecificImportArg
 rule ExpressionArgument = argument LocatedExpression  -- ArgItem of a Located Expression
 rule IdentifierArgument = argument Word  -- ArgItem of a Located Identifier
 rule ImportArgument = argument ImportPath  -- ArgItem of a Located SpecificImportArg

@@ -7,7 +7,7 @@ use Rattle.answers.specs.declared.Reason.TheVariants.{TreeDepth, TreeLayout}
 use Rattle.text.specs.Numbers.{read_number}
 use Rattle.tree.specs.Kinds as kinds
 use Rattle.tree.specs.Codes as codes
-use Rattle.tree.specs.Grammar.{Slot, must, may, kind_of, rule, fields}
+use Rattle.tree.specs.Grammar.{Slot, must, may, kind_of, kind_number, rule, fields}
 use Rattle.tree.specs.declared.grammar.Kind.{Kind}
 use Rattle.tree.specs.declared.grammar.Class.{Class}
 use Rattle.tree.specs.declared.grammar.TextRule.{TextRule}
@@ -24,7 +24,7 @@ is_list (Some class) = true
 
 -- "Which kind may stand in a field follows its Rust type."
 abbrev pub may_stand : Rule → ℕ → Bool
-may_stand rule number = cond (eqb number kinds.vec) (is_list rule.items) (leb rule.first number && leb number rule.last)
+may_stand rule number = cond (eqb number kinds.vec) (is_list rule.items) (leb (kind_number rule.first) number && leb number (kind_number rule.last))
 
 -- ---- the map
 

@@ -1,5 +1,6 @@
 // The check of a whole tree, in one pass.
 ghost use Rattle.std.specs.Prelude.{◌≡◌, [], true, false, ℕ, ◌<◌, ◌≤◌, ◌+◌, ◌-◌, ◌%◌, length, Some};
+ghost use Rattle.std.specs.Iterator.{YieldsFirst, item_count};
 ghost use Rattle.std.proofs.Math.Seq.{slice};
 ghost use Rattle.answers.specs.Numbers.{numbers_checked};
 ghost use Rattle.tree.specs.Own.{OwnFits, trivia_end};
@@ -8,7 +9,7 @@ ghost use Rattle.tree.specs.Checking.{read_file, plain_tree, length_checked, tre
 ghost use Rattle.tree.specs.Checking.{length_numbers, tree_numbers};
 ghost use Rattle.tree.specs.Rows.{class_of};
 ghost use Rattle.tree.specs.Walk.{standing, fault_with, fault_from, record_read, walked, walker_of};
-ghost use Rattle.tree.specs.Plans.{plan_of, next_part};
+ghost use Rattle.tree.specs.Plans.{plan_of, plan_left};
 
 use crate::codes::Code;
 use crate::grammar::{Class, Kind};
@@ -23,10 +24,10 @@ const NEWLINE: u8 = Code::Newline as u8;
 // The parts of a record that are still to be read: the fields of a row whose bits stand, then `count` items of a class.
 #[derive(Clone, Copy, Debug, PartialEq, Eq)]
 pub struct Plan {
-    pub row: u64,
-    pub bits: usize,
-    pub item: Class,
-    pub count: usize,
+    row: u64,
+    bits: usize,
+    item: Class,
+    count: usize,
 }
 
 // The parts of a record of a class, of which its own bytes were read.
@@ -58,35 +59,31 @@ pub(crate) fn slot_class(slot: u64) -> Class
     grammar::class_of(slot % 64)
 }
 
-// The next part of a plan.
-#[inline(always)]
-pub fn next_part(plan: Plan) -> Option<(Class, Plan)>
-    ensures { result ≡ next_part plan }
-{
+impl Iterator for Plan {
+    type Item = Class;
+
+    ghost next_gives = { YieldsFirst plan_left };
+
+    ghost remaining = { item_count plan_left };
+
     // The row and the bits alone change: a copy of the whole plan in the loop takes 4 percent more of a check.
-    let mut row = plan.row;
-    let mut bits = plan.bits;
-    while 0 < row {
-        let slot = row % 128;
-        let bit = bits % 2;
-        row /= 128;
-        bits /= 2;
-        if bit == 1 {
-            return Some((slot_class(slot), Plan { row, bits, ..plan }));
+    #[inline(always)]
+    fn next(&mut self) -> Option<Class> {
+        while 0 < self.row {
+            let slot = self.row % 128;
+            let bit = self.bits % 2;
+            self.row /= 128;
+            self.bits /= 2;
+            if bit == 1 {
+                return Some(slot_class(slot));
+            }
         }
+        if self.count == 0 {
+            return None;
+        }
+        self.count -= 1;
+        Some(self.item)
     }
-    if plan.count == 0 {
-        return None;
-    }
-    Some((
-        plan.item,
-        Plan {
-            row: 0,
-            bits: 0,
-            count: plan.count - 1,
-            ..plan
-        },
-    ))
 }
 
 // The first byte of tree[start..end] that no text may hold, unless one was found before.
@@ -162,14 +159,12 @@ fn read_parts(
 {
     let mut place = own.end;
     let mut seen = fault;
-    let mut plan = plan_of(class, own);
-    while let Some((field, rest)) = next_part(plan) {
+    for field in plan_of(class, own) {
         // Not by `?`, which copies the own bytes and so takes 5 percent more of a check.
         let inner = match own::read_own(tree, place, field, levels - 1) {
             Ok(inner) => inner,
             Err(refusal) => return Err(refusal),
         };
-        plan = rest;
         seen = own_fault(tree, inner, seen);
         place = inner.end;
         if has_parts(inner) {

@@ -4,7 +4,6 @@ ghost use Rattle.tree.specs.Grammar;
 ghost use Rattle.tree.specs.Rows.{class_number, class_of, row_of};
 ghost use Rattle.tree.specs.Walk.{SetOf, allows};
 
-use crate::kinds;
 use text::characters;
 
 // The braces of a block and the colon of a label, as wide as the bounds of a text.
@@ -114,16 +113,12 @@ impl Kind {
     pub fn of_byte(byte: u8) -> Option<Kind>
         ensures { result ≡ Grammar.kind_of byte }
     {
-        let place = usize::from(byte);
-        if KINDS.len() <= place {
-            return None;
-        }
-        Some(KINDS[place])
+        KINDS.get(usize::from(byte)).copied()
     }
 
     // The number of a kind, which is the first byte of its records.
     pub(crate) fn number(self) -> usize
-        ensures { Grammar.kind_of result ≡ Some self }
+        ensures { result ≡ Grammar.kind_number self }
     {
         self as usize
     }
@@ -284,8 +279,8 @@ impl TextRule {
 // argument's value is.
 #[derive(Clone, Copy, Debug, PartialEq, Eq)]
 pub struct Rule {
-    pub first: usize,
-    pub last: usize,
+    pub first: Kind,
+    pub last: Kind,
     pub located: bool,
     pub text: TextRule,
     pub items: Option<Class>,
@@ -293,7 +288,7 @@ pub struct Rule {
 }
 
 // The kinds from first to last, without a text and items.
-fn nodes(first: usize, last: usize, located: bool) -> Rule
+fn nodes(first: Kind, last: Kind, located: bool) -> Rule
     ensures { result ≡ Grammar.nodes first last located }
 {
     Rule {
@@ -311,7 +306,7 @@ fn leaf(located: bool, text: TextRule) -> Rule
 {
     Rule {
         text,
-        ..nodes(kinds::LEAF, kinds::LEAF, located)
+        ..nodes(Kind::Leaf, Kind::Leaf, located)
     }
 }
 
@@ -321,7 +316,7 @@ fn argument(value: Class) -> Rule
 {
     Rule {
         value,
-        ..nodes(kinds::ARG_ITEM, kinds::ARG_ITEM, false)
+        ..nodes(Kind::ArgItem, Kind::ArgItem, false)
     }
 }
 
@@ -331,7 +326,7 @@ fn list_of(class: Class) -> Rule
 {
     Rule {
         items: Some(class),
-        ..nodes(kinds::VEC, kinds::VEC, false)
+        ..nodes(Kind::Vec, Kind::Vec, false)
     }
 }
 
@@ -356,28 +351,24 @@ pub(crate) fn rule_of(class: Class) -> Rule
         Class::TextEncoding => leaf(true, TextRule::Byte(0, 3)),
         Class::AddressingMode => leaf(false, TextRule::Byte(0, 4)),
         Class::StringItem => Rule {
-            last: kinds::PATH_ITEM,
+            last: Kind::PathItem,
             ..leaf(false, TextRule::Free)
         },
-        Class::LocatedExpression => nodes(kinds::BINARY_EXPRESSION, kinds::FACTOR, true),
-        Class::BareExpression => nodes(kinds::BINARY_EXPRESSION, kinds::FACTOR, false),
-        Class::LocatedFactor => nodes(kinds::CURRENT_PROGRAM_COUNTER, kinds::STRING_FACTOR, true),
-        Class::BareToken => nodes(kinds::ALIGN, kinds::VARIABLE_DEFINITION, false),
-        Class::LocatedToken => nodes(kinds::ALIGN, kinds::VARIABLE_DEFINITION, true),
-        Class::BlockRecord => nodes(kinds::BLOCK, kinds::BLOCK, false),
-        Class::StringRecord => nodes(
-            kinds::INTERPOLATED_STRING,
-            kinds::INTERPOLATED_STRING,
-            false,
-        ),
-        Class::OperandRecord => nodes(kinds::OPERAND, kinds::OPERAND, false),
-        Class::SuffixRecord => nodes(kinds::REGISTER_SUFFIX, kinds::REGISTER_SUFFIX, false),
-        Class::AsRecord => nodes(kinds::IMPORT_AS, kinds::IMPORT_AS, false),
+        Class::LocatedExpression => nodes(Kind::BinaryExpression, Kind::Factor, true),
+        Class::BareExpression => nodes(Kind::BinaryExpression, Kind::Factor, false),
+        Class::LocatedFactor => nodes(Kind::CurrentProgramCounter, Kind::StringFactor, true),
+        Class::BareToken => nodes(Kind::Align, Kind::VariableDefinition, false),
+        Class::LocatedToken => nodes(Kind::Align, Kind::VariableDefinition, true),
+        Class::BlockRecord => nodes(Kind::Block, Kind::Block, false),
+        Class::StringRecord => nodes(Kind::InterpolatedString, Kind::InterpolatedString, false),
+        Class::OperandRecord => nodes(Kind::Operand, Kind::Operand, false),
+        Class::SuffixRecord => nodes(Kind::RegisterSuffix, Kind::RegisterSuffix, false),
+        Class::AsRecord => nodes(Kind::ImportAs, Kind::ImportAs, false),
         Class::ImportArguments => Rule {
             items: Some(Class::ImportArgument),
-            ..nodes(kinds::IMPORT_ALL, kinds::IMPORT_ALL, false)
+            ..nodes(Kind::ImportAll, Kind::ImportAll, false)
         },
-        Class::ImportPath => nodes(kinds::SPECIFIC_IMPORT_ARG, kinds::SPECIFIC_IMPORT_ARG, true),
+        Class::ImportPath => nodes(Kind::SpecificImportArg, Kind::SpecificImportArg, true),
         Class::ExpressionArgument => argument(Class::LocatedExpression),
         Class::IdentifierArgument => argument(Class::Word),
         Class::ImportArgument => argument(Class::ImportPath),

@@ -4,7 +4,6 @@
 pub mod check;
 pub mod codes;
 pub mod grammar;
-pub mod kinds;
 pub mod own;
 pub mod parts;
 

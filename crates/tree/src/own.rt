@@ -1,19 +1,19 @@
 // A record's own bytes: kind, map, trivia, and a list's count or a leaf's text.
 ghost use Rattle.std.specs.Prelude.{◌≡◌, ℕ, ◌<◌, get_or, length, IfSome, Some, Ok};
-ghost use Rattle.tree.specs.Grammar.{fields, kind_of};
+ghost use Rattle.tree.specs.Grammar.{fields, kind_of, kind_number};
 ghost use Rattle.tree.specs.Own.{sized_end, trivium_end, trivia_end, fields_fit, text_fits, else_fits, trivia_fits};
 ghost use Rattle.tree.specs.Own.{map_fits, may_stand, trivia_read, text_end, layout, rest_of, own_at, read_own};
 ghost use Rattle.tree.specs.Own.{Fits, numbers_own, own_numbers};
 ghost use Rattle.tree.specs.Walk.{rest_on, judged_on, first_bytes, found_on};
 
 use crate::codes::Code;
+use crate::grammar;
 use crate::grammar::{Class, Kind, Rule, TextRule};
-use crate::{grammar, kinds};
 use answers::{Reason, Refusal};
 use text::numbers;
 
 // The kind byte of a leaf.
-const LEAF: u8 = kinds::LEAF as u8;
+const LEAF: u8 = Kind::Leaf as u8;
 
 // A record's own bytes, by their places: `trivia` is the place of its first trivia item, of which there are
 // `trivia_count`; its text is the bytes from `text` to `end`, behind which its fields or items begin; `count` says how
@@ -88,7 +88,7 @@ fn text_fits(rule: TextRule, bits: usize) -> bool
 
 // Whether the two fields of an else stand together or not at all.
 fn else_fits(kind: Kind, bits: usize) -> bool
-    ensures { (number : ℕ) → kind_of number ≡ Some kind → result ≡ else_fits number bits }
+    ensures { result ≡ else_fits (kind_number kind) bits }
 {
     match kind {
         Kind::If => bits / 8 % 2 == bits / 16 % 2,
@@ -98,7 +98,7 @@ fn else_fits(kind: Kind, bits: usize) -> bool
 
 // Whether trivia stand only where they may.
 fn trivia_fits(rule: Rule, kind: Kind, map: usize) -> bool
-    ensures { (number : ℕ) → kind_of number ≡ Some kind → result ≡ trivia_fits rule number map }
+    ensures { result ≡ trivia_fits rule (kind_number kind) map }
 {
     map % 2 == 0 || rule.located || matches!(kind, Kind::PathItem)
 }
@@ -106,7 +106,7 @@ fn trivia_fits(rule: Rule, kind: Kind, map: usize) -> bool
 // Whether a map is right for a record.
 fn map_fits(rule: Rule, kind: Kind, map: usize) -> bool
     requires { map < 256 }
-    ensures { (number : ℕ) → kind_of number ≡ Some kind → result ≡ map_fits rule number kind map }
+    ensures { result ≡ map_fits rule (kind_number kind) kind map }
 {
     let bits = map / 2;
     if let Kind::Vec = kind {
@@ -123,11 +123,11 @@ fn map_fits(rule: Rule, kind: Kind, map: usize) -> bool
 
 // Whether a kind may stand.
 fn may_stand(rule: Rule, kind: Kind) -> bool
-    ensures { (number : ℕ) → kind_of number ≡ Some kind → result ≡ may_stand rule number }
+    ensures { result ≡ may_stand rule (kind_number kind) }
 {
     match kind {
         Kind::Vec => rule.items.is_some(),
-        _ => rule.first <= kind.number() && kind.number() <= rule.last,
+        _ => rule.first.number() <= kind.number() && kind.number() <= rule.last.number(),
     }
 }
 
@@ -184,8 +184,8 @@ fn read_rest(
     map: usize,
     trivia: TriviaSpan,
 ) -> Option<Rest>
-    ensures { (at number : ℕ) → kind_of number ≡ Some kind
-        → rest_on at kind map trivia result ≡ rest_of tree.now at text number kind map trivia }
+    ensures { (at : ℕ) → rest_on at kind map trivia result
+        ≡ rest_of tree.now at text (kind_number kind) kind map trivia }
 {
     let behind = trivia.end;
     let nothing = Rest {

@@ -2,7 +2,7 @@
 // token's head.
 ghost use Rattle.std.specs.Prelude.{◌≡◌, ℕ, ◌<◌, get_or, Some, Ok};
 ghost use Rattle.std.specs.Iterator.{YieldsFirst, item_count};
-ghost use Rattle.tree.specs.Grammar.{kind_of, rule, fields};
+ghost use Rattle.tree.specs.Grammar.{kind_of, kind_number, rule, fields};
 ghost use Rattle.tree.specs.Parts.{trivium_at, spans_at, trivia_left};
 ghost use Rattle.tree.specs.Parts.{skipped, first_class, second_field, field_head, inner_head};
 ghost use Rattle.tree.specs.Parts.{head_on, head_behind, head_at};
@@ -146,7 +146,7 @@ fn field_head(
     levels: usize,
 ) -> Result<Head, Refusal>
     requires { 0 < levels }
-    ensures { (number : ℕ) → kind_of number ≡ Some kind → result ≡ field_head levels tree.now class number own }
+    ensures { result ≡ field_head levels tree.now class (kind_number kind) own }
 {
     let values = Class::ExpressionArguments;
     match kind {

@@ -353,7 +353,8 @@ module _ (bytes : List ℕ) (levels : ℕ) (class : Class) (at : ℕ) where
       let below = bit_below trivia bits in
       let not_list = leaf_other number leaf in
       let head = head_read number flags trivia (stored_text text) trivia-fit (rw (append-nil (stored_text text)) at here) in
-      let stands : may_stand (rule class) number ≡ true = rw (not_list, le-leb (rule class).first number within.0, le-leb number (rule class).last within.1) in
+      let stands : may_stand (rule class) number ≡ true =
+      rw (not_list, le-leb (kind_number (rule class).first) number within.0, le-leb number (kind_number (rule class).last) within.1) in
       let fits : map_fits (rule class) number kind flags ≡ true =
       rw (not_list, leaf, trivia_may trivia-fit ((rule class).located || eqb number 26) where-located (flags % 2) below.0, below.1) (text_bit_fits text text-fit) in
       text_found text text-fit head refl leaf known
@@ -377,7 +378,8 @@ module _ (bytes : List ℕ) (levels : ℕ) (class : Class) (at : ℕ) where
           let tests = other_number number other in
           let some = some_bytes levels in
           let head = head_read number flags trivia (flat (map stored parts)) trivia-fit here in
-          let stands : may_stand (rule class) number ≡ true = rw (tests.0, le-leb (rule class).first number within.0, le-leb number (rule class).last within.1) in
+          let stands : may_stand (rule class) number ≡ true =
+          rw (tests.0, le-leb (kind_number (rule class).first) number within.0, le-leb number (kind_number (rule class).last) within.1) in
           let else_fit : else_fits number bits ≡ true =
           else_may number kind bits known (λ is. else_fits_lem (WellFormed levels) some (rule class).value (rw is at fields_fit) (rw is at together)) in
           let fits : map_fits (rule class) number kind flags ≡ true =

@@ -16,7 +16,7 @@ use Rattle.answers.proofs.Cases.{failed_passed}
 use Rattle.text.specs.Numbers.{two_bytes, number_at}
 use Rattle.text.specs.Accepted.{accepted_text}
 use Rattle.text.proofs.Choices.{by_test, true_false, and_true_left, and_true_right}
-use Rattle.tree.specs.Grammar.{Slot, must, may, kind_of, rule, fields}
+use Rattle.tree.specs.Grammar.{Slot, must, may, kind_of, kind_number, rule, fields}
 use Rattle.tree.specs.Tree.{Tree, Trivium, absent, node, built}
 use Rattle.tree.specs.Own.{is_list, may_stand, fields_fit, text_fits, else_fits, trivia_fits, map_fits}
 use Rattle.tree.specs.Own.{trivium_end, trivia_end, behind, trivia_read, text_on, text_end, rest_of, leaf_on, own_of, read_own}
@@ -202,8 +202,10 @@ trivia_told rule number map fits some = rw (ne_eqb (map % 2) 0 some) at fits
 -- a kind that may stand is within the class
 within_told : (class : Class) (number : ℕ) → may_stand (rule class) number ≡ true → eqb number 24 ≡ false → Within class number
 within_told class number stands other =
-    let both = rw other at stands in
-    (leb-true _ _ (and_true_left (leb (rule class).first number) _ both), leb-true _ _ (and_true_right (leb (rule class).first number) _ both))
+    let both = rw other at stands in (
+      leb-true _ _ (and_true_left (leb (kind_number (rule class).first) number) _ both),
+      leb-true _ _ (and_true_right (leb (kind_number (rule class).first) number) _ both),
+    )
 
 -- a number that is no leaf's
 leaf_told : (number : ℕ) → leaf_number number ≡ false → (eqb number 25 ≡ false) × (eqb number 26 ≡ false)

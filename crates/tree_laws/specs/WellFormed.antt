@@ -3,7 +3,7 @@
 use Rattle.std.specs.Prelude.{ℕ, zero, suc, ◌+◌, ◌≤◌, ◌<◌, ◌≡◌, List, [], ◌∷◌, Bool, true, ◌⊎◌, length, get_or, Some}
 use Rattle.text.specs.Accepted.{accepted_text}
 use Rattle.tree.specs.Codes as codes
-use Rattle.tree.specs.Grammar.{Slot, may, kind_of, rule, fields}
+use Rattle.tree.specs.Grammar.{Slot, may, kind_of, kind_number, rule, fields}
 use Rattle.tree.specs.Tree.{Tree, Trivium, absent, node, Vec, Leaf, PathItem, chain, built}
 use Rattle.tree.specs.Reading.{slot_class}
 use Rattle.tree.specs.Stored.{stored_trivia, stored}
@@ -60,7 +60,7 @@ module _ (Below : Class → ℕ → Tree → Type 0) where
 
 -- "Which kind may stand in a field follows its Rust type."
 abbrev pub Within : Class → ℕ → Type 0
-Within class number = ((rule class).first ≤ number) × (number ≤ (rule class).last)
+Within class number = (kind_number (rule class).first ≤ number) × (number ≤ kind_number (rule class).last)
 
 -- "`tag_else` and `else_` stand together or not at all"
 abbrev pub ElseFits : Kind → List Tree → Type 0

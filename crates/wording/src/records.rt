@@ -11,8 +11,7 @@ use crate::lines::Line;
 use crate::{entries, names};
 use chunks::stored::StoredChunk;
 use tree::codes::Code;
-use tree::grammar::Class;
-use tree::kinds;
+use tree::grammar::{Class, Kind};
 use tree::own::Own;
 use tree::parts::Trivia;
 
@@ -98,7 +97,7 @@ pub fn put_record(line: &mut Line, tree: &[u8], place: usize, depth: usize, clas
     put_offset(line, place);
     put_depth(line, depth);
     names::put_kind(line, number);
-    if number == kinds::VEC {
+    if number == Kind::Vec as usize {
         line.put(b" of ");
         line.put_number(own.count);
     } else {

@@ -43,7 +43,7 @@ format_argument-returns t c =
     let opens = rw c.item_class.ensures at c.open.ensures in
     let is = c.in-Some.is in
     let rule = item_rule of in
-    opened_kind opens is (list_place of) variant.ArgItem (opened_one opens is 42 variant.ArgItem rule.0 rule.1 rule.2 refl) refl
+    opened_kind opens is (list_place of) variant.ArgItem (opened_one opens is variant.ArgItem rule.0 rule.1 rule.2) refl
     (rw rule.3 (c.format_value.ensures onward rw c.stands-comma.ensures at (c.format_optional_leaf.ensures.leaf char_leaf) onward c.spc_if_next.ensures))
 
 -- ---- format_arguments: a list is its items and a star its fields; what is no star is a list, as nothing else may stand there

@@ -32,7 +32,7 @@ returns c =
     let levels = c.args.levels - 1 in
     let from = c.open.new.printer in
     let lchar = field_stands c.stands.result levels from.tree.now Char (read levels from.tree.now LocatedExpression from.at).end in
-    opened_kind opens is (leaf plain) variant.Operand (opened_one opens is 37 variant.Operand refl refl refl refl) refl
+    opened_kind opens is (leaf plain) variant.Operand (opened_one opens is variant.Operand refl refl refl) refl
     (ends_alike (c.format_front.ensures onward c.format_tail.ensures)
     (λ x. rw (← c.stands.ensures, ← c.stands-2.ensures, ← c.stands-3.ensures, lchar) refl)
     (rw (← c.stands.ensures, ← c.stands-2.ensures, ← c.stands-3.ensures) refl))

@@ -24,5 +24,5 @@ unfolding built field_trees fields_end events_in
 returns c =
     let opens = c.open.ensures in
     let is = c.in-Some.is in
-    opened_kind opens is (leaf plain) variant.InterpolatedString (opened_one opens is 36 variant.InterpolatedString refl refl refl refl) refl
+    opened_kind opens is (leaf plain) variant.InterpolatedString (opened_one opens is variant.InterpolatedString refl refl refl) refl
     (c.format_leaf.ensures.leaf char_leaf onward c.format_string_items.ensures onward c.push.ensures)

@@ -13,7 +13,7 @@ use Rattle.leaves.specs.Records.{field_trees, fields_end}
 use Rattle.leaves.proofs.Classes.{close_brace_leaf}
 use Rattle.printers.proofs.Going.{◌onward◌, there, runs_alike, on_page, context_stays}
 use Rattle.printers.proofs.Opening.{closed, opened_own, opened_levels, opened_one, opened_kind}
-use Rattle.tokens.proofs.Cycle.{inside_goes, plain_kind, token_rule, token_read_lem, tokens_go}
+use Rattle.tokens.proofs.Cycle.{inside_goes, plain_kind, token_inside, token_read_lem, tokens_go}
 use Rattle.tokens.proofs.Cycle.{block_left, file_left, over_left, one_left, narrow_still, narrow_below, narrow_deeper}
 use Rattle.tokens.proofs.Listed.{lead_goes, listed_over, listed_ended, listed_number, listed_read, listed_levels, head_text, listed_goes}
 use Rattle.tokens.proofs.Listed.{mnemonic_read, id_read, listed_data}
@@ -46,7 +46,7 @@ format_block-returns t c =
     let further_in = c.deeper-printer.ensures ∙ ap deeper (context_stays c.open_block.ensures) in
     let listed = on_page _ (rw further_in at c.format_tokens.ensures) in
     let closing = c.trim_newlines.ensures onward c.push.ensures onward c.format_leaf.ensures.leaf close_brace_leaf in
-    opened_kind c.open.ensures is (leaf plain) variant.Block (opened_one c.open.ensures is 27 variant.Block refl refl refl refl) refl
+    opened_kind c.open.ensures is (leaf plain) variant.Block (opened_one c.open.ensures is variant.Block refl refl refl) refl
     (there (c.open_block.ensures onward listed onward closing) refl refl)
 
 -- ---- format_branches: the first branch, and where there is another what stands between them and that
@@ -106,29 +106,34 @@ format_each_token-returns-else-block t c = c.loop.invariant.1 _ (file_left _ _ c
 
 -- ---- format_inner: what stands before the part inside a token and that part are all its fields
 
-pub format_inner-returns-in-Nothing : goal.format_inner-returns-in-Nothing
-format_inner-returns-in-Nothing t c = λ small. c.format_plain_token.ensures (plain_kind _ _ small (sym c.inner_of-inner.ensures ∙ c.in-Nothing.is))
+pub format_inner-returns-in_default : goal.format_inner-returns-in_default
+format_inner-returns-in_default t c = λ small. c.format_plain_token.ensures (plain_kind _ _ small (sym c.inner_of.ensures ∙ c.in_default.is))
 
 pub format_inner-format_block-requires : goal.format_inner-format_block-requires
 format_inner-format_block-requires t c = (omega arith, narrow_still c.format_token_front.ensures c.args.levels c.requires.narrow)
 
 pub format_inner-format_token-requires : goal.format_inner-format_token-requires
-format_inner-format_token-requires t c = (omega arith, narrow_still c.format_token_front.ensures c.args.levels c.requires.narrow)
+format_inner-format_token-requires t c =
+    let is = rw c.in-Token.is at (sym c.inner_of.ensures ∙ c.in-Some.is) in
+    (omega arith, (narrow_still c.format_token_front.ensures c.args.levels c.requires.narrow, token_inside _ _ _ _ is))
 
 pub format_inner-format_branches-requires : goal.format_inner-format_branches-requires
 format_inner-format_branches-requires t c = (omega arith, narrow_still c.format_token_front.ensures c.args.levels c.requires.narrow)
 
 pub format_inner-returns-in-Block : goal.format_inner-returns-in-Block
 format_inner-returns-in-Block t c =
-    λ small. inside_goes _ _ _ c.requires.ends c.format_token_front.ensures (sym c.inner_of-inner.ensures ∙ c.in-Block.is) c.format_block.ensures
+    let is = rw c.in-Block.is at (sym c.inner_of.ensures ∙ c.in-Some.is) in
+    λ small. inside_goes _ _ _ c.requires.ends c.format_token_front.ensures is c.format_block.ensures
 
 pub format_inner-returns-in-Token : goal.format_inner-returns-in-Token
 format_inner-returns-in-Token t c =
-    λ small. inside_goes _ _ _ c.requires.ends c.format_token_front.ensures (sym c.inner_of-inner.ensures ∙ c.in-Token.is) c.format_token.ensures
+    let is = rw c.in-Token.is at (sym c.inner_of.ensures ∙ c.in-Some.is) in
+    λ small. inside_goes _ _ _ c.requires.ends c.format_token_front.ensures is c.format_token.ensures
 
 pub format_inner-returns-in-Branches : goal.format_inner-returns-in-Branches
 format_inner-returns-in-Branches t c =
-    λ small. inside_goes _ _ _ c.requires.ends c.format_token_front.ensures (sym c.inner_of-inner.ensures ∙ c.in-Branches.is) c.format_branches.ensures
+    let is = rw c.in-Branches.is at (sym c.inner_of.ensures ∙ c.in-Some.is) in
+    λ small. inside_goes _ _ _ c.requires.ends c.format_token_front.ensures is c.format_branches.ensures
 
 -- ---- format_listed_token: the lead-in has read the token, and the walk goes on behind its own bytes, or from its head on where that was read for it
 
@@ -144,8 +149,8 @@ format_listed_token-overflow_sub-below t c = listed_levels c.format_lead_in.ensu
 pub format_listed_token-format_listed_instruction-requires : goal.format_listed_token-format_listed_instruction-requires
 format_listed_token-format_listed_instruction-requires t c = head_text c.format_lead_in.ensures c.in_ok-lead.was
 
-pub format_listed_token-format_sized-requires : goal.format_listed_token-format_sized-requires
-format_listed_token-format_sized-requires t c = head_text c.format_lead_in.ensures c.in_ok-lead.was
+pub format_listed_token-format_listed_data-requires : goal.format_listed_token-format_listed_data-requires
+format_listed_token-format_listed_data-requires t c = head_text c.format_lead_in.ensures c.in_ok-lead.was
 
 pub format_listed_token-format_listed_label-requires : goal.format_listed_token-format_listed_label-requires
 format_listed_token-format_listed_label-requires t c = head_text c.format_lead_in.ensures c.in_ok-lead.was
@@ -177,7 +182,7 @@ pub format_listed_token-returns-in-Instruction-clause-kind : goal.format_listed_
 format_listed_token-returns-in-Instruction-clause-kind t c = listed_number c.format_lead_in.ensures c.in_ok-lead.was
 
 pub format_listed_token-returns-in-Data-clause-goes : goal.format_listed_token-returns-in-Data-clause-goes
-format_listed_token-returns-in-Data-clause-goes t c = listed_data c.format_lead_in.ensures c.in_ok-lead.was c.in-Data.is c.format_sized.ensures
+format_listed_token-returns-in-Data-clause-goes t c = listed_data c.format_lead_in.ensures c.in_ok-lead.was c.in-Data.is c.format_listed_data.ensures
 
 pub format_listed_token-returns-in-Data-clause-kind : goal.format_listed_token-returns-in-Data-clause-kind
 format_listed_token-returns-in-Data-clause-kind t c = listed_number c.format_lead_in.ensures c.in_ok-lead.was
@@ -204,27 +209,23 @@ format_listed_token-returns-in_default t c =
 -- ---- format_token: the walk goes on behind the own bytes of the token that was opened
 
 pub format_token-returns-in_default : goal.format_token-returns-in_default
-format_token-returns-in_default t c = rw c.token_class-class.ensures at (closed c.open.ensures (leaf plain) c.in_default.is)
+format_token-returns-in_default t c = closed c.open.ensures (leaf plain) c.in_default.is
 
 pub format_token-overflow_sub-levels : goal.format_token-overflow_sub-levels
 format_token-overflow_sub-levels t c = opened_levels c.open.ensures c.in-Some.is
 
 pub format_token-format_inner-requires : goal.format_token-format_inner-requires
 format_token-format_inner-requires t c =
-    let opens = rw c.token_class-class.ensures at c.open.ensures in
-    let is = c.in-Some.is in
-    let some = opened_levels opens is in
-    let opened = opened_own opens is in
-    let narrow = narrow_below opened.3 c.args.levels c.requires in
-    (omega (arith, some), (narrow, (token_read_lem c.args.located _ _ _ _ opened.1).ends))
+    let some = opened_levels c.open.ensures c.in-Some.is in
+    let opened = opened_own c.open.ensures c.in-Some.is in
+    let narrow = narrow_below opened.3 c.args.levels c.requires.narrow in
+    (omega (arith, some), (narrow, (token_read_lem _ _ _ _ _ c.requires.token opened.1).ends))
 
 pub format_token-returns : goal.format_token-returns
 format_token-returns t c =
-    let located = c.args.located in
-    let opens = rw c.token_class-class.ensures at c.open.ensures in
     let is = c.in-Some.is in
-    let token = token_read_lem located _ _ _ _ (opened_own opens is).1 in
-    opened_kind opens is (leaf plain) _ refl token.fielded (rw (token_rule located).2 (c.format_inner.ensures token.small))
+    let token = token_read_lem _ _ _ _ _ c.requires.token (opened_own c.open.ensures is).1 in
+    opened_kind c.open.ensures is (leaf plain) _ refl token.fielded (rw c.requires.token.2 (c.format_inner.ensures token.small))
 
 -- ---- format_tokens: the tokens of the list that was opened are its events
 

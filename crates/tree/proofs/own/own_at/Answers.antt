@@ -1,5 +1,6 @@
 -- Each answer is the one that the definition has after the same tests.
 use mathlib.Core.Path.{sym}
+use Rattle.tree.proofs.KindLayout.{kind_number_lem}
 use Rattle.tree.proofs.OwnReading.{own_judged, own_trivia_lem, own_rest}
 use Rattle.tree.proofs.own.own_at.Goals as goal
 
@@ -16,11 +17,13 @@ returns-in_err-trivia c =
 
 pub returns-in_err-rest : goal.returns-in_err-rest
 returns-in_err-rest c =
+    let is = kind_number_lem _ _ c.in_ok-kind.ensures.kind in
     rw c.from_residual-in_err-rest.ensures
     (own_rest _ _ _ c.rule_of-rule.ensures c.judge.ensures.judged _ _ c.in_ok-kind.was c.read_trivia.ensures _ c.in_ok-trivia.was
-    (c.read_rest.ensures _ _ c.in_ok-kind.ensures.kind) _ c.in_err-rest.was)
+    (rw is at c.read_rest.ensures _) _ c.in_err-rest.was)
 
 pub returns : goal.returns
 returns c =
+    let is = kind_number_lem _ _ c.in_ok-kind.ensures.kind in
     own_rest _ _ _ c.rule_of-rule.ensures c.judge.ensures.judged _ _ c.in_ok-kind.was c.read_trivia.ensures _ c.in_ok-trivia.was
-    (c.read_rest.ensures _ _ c.in_ok-kind.ensures.kind) _ c.in_ok-rest.was
+    (rw is at c.read_rest.ensures _) _ c.in_ok-rest.was

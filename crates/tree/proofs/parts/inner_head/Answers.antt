@@ -4,6 +4,7 @@ use Rattle.std.proofs.lemmas.Result.{err_from_is_err_and}
 use Rattle.tree.specs.Parts.{inner_head}
 use Rattle.tree.proofs.Records.{level_left}
 use Rattle.tree.proofs.Heads.{kind_read}
+use Rattle.tree.proofs.KindLayout.{kind_number_lem}
 use Rattle.tree.proofs.parts.inner_head.Goals as goal
 
 pub returns-in_err-own : goal.returns-in_err-own
@@ -19,4 +20,5 @@ pub returns : goal.returns
 unfolding inner_head
 returns c =
     let read = sym c.read_own.ensures.answer ∙ c.in_ok-own.was in
-    rw read (c.field_head.ensures _ (kind_read _ _ _ _ _ read))
+    let is = kind_number_lem _ _ (kind_read _ _ _ _ _ read) in
+    rw read (rw is at c.field_head.ensures)

@@ -1,7 +1,8 @@
--- At the head of the loop the plan that is left goes on with the search of the record's parts; each part stands one level
+-- At the head of the loop the parts that are left go on with the search of the record's parts; each part stands one level
 -- further down. Where the record passed no refusal is met: of its own bytes, of what it shows by itself, or of a part.
+use mathlib.Core.Path.{◌∙◌}
 use native.Mathlib.Omega.{arith}
-use Rattle.tree.proofs.Planning.{next_of, rest_less, plan_due}
+use Rattle.tree.proofs.Planning.{plan_due}
 use Rattle.tree.proofs.Records.{level_left}
 use Rattle.losses.proofs.Searching.{parts_start, search_done, search_on, part_unread}
 use Rattle.losses.proofs.Searching.{search_refused, part_refused, record_searched}
@@ -24,19 +25,16 @@ visit-requires t c = (omega (arith, level_left _ _ _ _ _ c.read_own.ensures.answ
 
 pub returns-in_err-place : goal.returns-in_err-place
 returns-in_err-place t c =
-    part_refused _ _ _ _ c.args.listed c.read_own.ensures.answer _ c.in_ok-own.was c.record_uses.ensures
-    (part_unread _ _ _ _ _ _ _ _ c.loop-field.invariant _ (next_of _ c.next_part.ensures) _ _ c.in-Some.is c.visit.ensures
-    c.in_err-place.was _ (plan_due _ _ c.plan_of-plan.ensures))
-
-pub loop-field-smaller : goal.loop-field-smaller
-loop-field-smaller t c = rest_less c.loop-field.plan _ _ _ c.in-Some.is c.next_part.ensures
+    part_refused _ _ _ _ c.args.listed c.read_own.ensures.answer _ c.in_ok-own.was
+    (plan_due _ _ (c.into_iter-field-iterator.ensures.into_iter_gives ∙ c.plan_of-field-items.ensures)) c.record_uses.ensures
+    (part_unread _ _ _ _ _ _ _ c.loop-field.invariant _ _ c.in-Some.ensures.steps c.visit.ensures c.in_err-place.was)
 
 pub loop-field-preserved : goal.loop-field-preserved
-loop-field-preserved t c =
-    search_on _ _ _ _ _ _ _ _ c.loop-field.invariant _ (next_of _ c.next_part.ensures) _ _ c.in-Some.is c.visit.ensures c.in_ok-place.was
+loop-field-preserved t c = search_on _ _ _ _ _ _ _ c.loop-field.invariant _ _ c.in-Some.ensures.steps c.visit.ensures c.in_ok-place.was
 
 pub returns : goal.returns
 returns t c =
-    record_searched _ _ _ _ c.args.listed c.read_own.ensures.answer _ c.in_ok-own.was c.record_uses.ensures
+    record_searched _ _ _ _ c.args.listed c.read_own.ensures.answer _ c.in_ok-own.was
+    (plan_due _ _ (c.into_iter-field-iterator.ensures.into_iter_gives ∙ c.plan_of-field-items.ensures)) c.record_uses.ensures
     c.listed_below-below.ensures
-    (search_done _ _ _ _ _ _ _ _ c.loop-field.invariant _ (next_of _ c.next_part.ensures) c.in_default.is _ (plan_due _ _ c.plan_of-plan.ensures))
+    (search_done _ _ _ _ _ _ _ c.loop-field.invariant c.in-None.ensures.steps.0)

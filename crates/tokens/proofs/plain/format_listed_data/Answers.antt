@@ -7,7 +7,7 @@ use Rattle.events.specs.Trees.{events_in}
 use Rattle.leaves.proofs.Classes.{data_size_leaf}
 use Rattle.printers.proofs.Going.{◌onward◌, ends_alike}
 use Rattle.tokens.proofs.PlainTokens.{text_read}
-use Rattle.tokens.proofs.plain.format_sized.Goals as goal
+use Rattle.tokens.proofs.plain.format_listed_data.Goals as goal
 
 pub returns : goal.returns
 unfolding events_in run
