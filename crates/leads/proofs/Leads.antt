@@ -5,9 +5,11 @@ use mathlib.Core.List.{List}
 use mathlib.Core.Bool.{Bool, false}
 use Prim.Native.Nat.{ℕ, ◌/◌}
 use lib.ListN.{get_or}
-use Rattle.answers.specs.Numbers.{no_refusal}
+use Rattle.answers.specs.Numbers.{no_refusal, numbers_of, unless_refused}
+use Rattle.answers.proofs.Numbers.{refused_number}
 use Rattle.answers.specs.declared.Refusal.{Refusal}
-use Rattle.tree.specs.Own.{read_own}
+use Rattle.tree.specs.Own.{read_own, numbers_own, own_numbers}
+use Rattle.tree.proofs.Numbers.{own_numbers_lem}
 use Rattle.tree.specs.Parts.{head_on, head_at}
 use Rattle.tree.specs.Reading.{read}
 use Rattle.tree.specs.declared.grammar.Class.TheVariants.{BareToken}
@@ -40,7 +42,24 @@ head_alone : (token : Own) (head : Result Own Refusal) (why : Refusal) → lead_
 head_alone token (Ok head) why is = cc
 head_alone token (Err other) why is = cc
 
+-- the numbers of what was read, and that they are those of one reading behind the other
+abbrev pub numbers_read : Result Lead Refusal → ℕ × ℕ
+numbers_read (Ok lead) = (0, lead.token.end)
+numbers_read (Err why) = numbers_of why
+
+read_numbers : (token head : Result Own Refusal) → numbers_read (lead_on token head) ≡ unless_refused (numbers_own token) (unless_refused (numbers_own head) (numbers_own token))
+read_numbers (Ok token) (Ok head) = refl
+read_numbers (Ok token) (Err why) = rw (refused_number why.reason) refl
+read_numbers (Err why) head = rw (refused_number why.reason) refl
+
 module _ (levels : ℕ) (bytes : List ℕ) (at : ℕ) where
+  pub token_numbers : {found : Result Lead Refusal} → token_read levels bytes at ≡ found
+      → numbers_read found ≡ unless_refused (own_numbers bytes at BareToken levels)
+      (unless_refused (numbers_own (head_own bytes (head_at levels bytes BareToken at))) (own_numbers bytes at BareToken levels))
+  token_numbers is =
+      ap numbers_read (sym is) ∙ read_numbers (read_own bytes at BareToken levels) (head_own bytes (head_at levels bytes BareToken at))
+      ∙ rw (own_numbers_lem bytes at BareToken levels) refl
+
   head_parts : (found : Result Head Refusal) (own : Own) → head_own bytes found ≡ Ok own
       → (head : Head) × (found ≡ Ok head) × (read_own bytes head.place head.class head.levels ≡ Ok own)
   head_parts (Ok head) own is = (head, refl, is)

@@ -2,9 +2,9 @@
 use Rattle.answers.specs.declared.Refusal.{Refusal}
 use Rattle.std.specs.Prelude.{ℕ, ◌≡◌, List, Bool, Option, Some, None, cond, Result, Ok, Err}
 use Rattle.std.proofs.Common.{is_some}
-use Rattle.answers.specs.Numbers.{numbers_of}
+use Rattle.answers.specs.Numbers.{unless_refused}
 use Rattle.tree.specs.Tree.{Tree}
-use Rattle.tree.specs.Own.{read_own}
+use Rattle.tree.specs.Own.{read_own, numbers_own, own_numbers}
 use Rattle.tree.specs.Parts.{head_at}
 use Rattle.tree.specs.Reading.{read}
 use Rattle.tree.specs.declared.grammar.Class.TheVariants.{BareToken}
@@ -76,12 +76,13 @@ abbrev pub numbers_lead : Option Lead → Printer → ℕ × ℕ
 numbers_lead (Some lead) after = (0, lead.token.end)
 numbers_lead None after = numbers_printed (answer_of after)
 
-abbrev pub numbers_read : Result Lead Refusal → ℕ × ℕ
-numbers_read (Ok lead) = (0, lead.token.end)
-numbers_read (Err why) = numbers_of why
-
+-- those of reading the token's own bytes and then its head's, from the bytes
 unfoldable pub lead_numbers : Printer → ℕ → ℕ × ℕ
-lead_numbers before levels = cond (is_some before.ended) (numbers_printed (answer_of before)) (numbers_read (token_read levels before.tree.now before.at))
+lead_numbers before levels =
+    let bytes = before.tree.now in
+    let token = own_numbers bytes before.at BareToken levels in
+    let head = numbers_own (head_own bytes (head_at levels bytes BareToken before.at)) in
+    cond (is_some before.ended) (numbers_printed (answer_of before)) (unless_refused token (unless_refused head token))
 
 pub record LeadsIn (before after : Printer) (drops : Bool) (stood : Before) (levels : ℕ) (lead : Option Lead) : Type 0 where
   pub leads : LeadsAs before after drops stood levels lead

@@ -2,8 +2,7 @@
 use Rattle.std.specs.Prelude.{Option, Some, None}
 use mathlib.Core.Path.{◌≡◌, refl, sym, ap, ◌∙◌}
 use mathlib.Core.List.{List, [], ◌∷◌}
-use Prim.Native.Nat.{ℕ, zero, suc, ◌-◌, ◌≤◌, ◌<◌}
-use native.Mathlib.Numerals.{sub-one}
+use Prim.Native.Nat.{ℕ, zero, suc, ◌≤◌}
 use native.Mathlib.Omega.{arith}
 use lib.ListN.{length}
 use Rattle.tree.specs.Tree.{Trivium}
@@ -22,14 +21,6 @@ pub items_none : (bytes : List ℕ) (at left : ℕ) → left ≤ 0 → items_at 
 unfolding items_at
 items_none bytes at zero h = refl
 items_none bytes at (suc left) h = absurd (omega arith)
-
--- one by what it reads as, and then the others
-pub items_next : (bytes : List ℕ) (at left : ℕ) → 0 < left → {found : Option TriviumSpan} → found ≡ trivium_at bytes at → (item : Option TriviumSpan) → found ≡ item
-    → items_at bytes at left ≡ items_on bytes (λ place. items_at bytes place (left - 1)) item
-unfolding items_at
-items_next bytes at zero h same item told = absurd (omega arith)
-items_next bytes at (suc left) h same item told =
-    simp sub-one (ap (items_on bytes (λ place. items_at bytes place left)) (sym same ∙ told))
 
 -- the first of items that keep the layout, by what `trivium_end` gives, where those behind it are as reading has them
 first_kept : (bytes : List ℕ) (at count end : ℕ) (span : Option ℕ) → trivium_end bytes at ≡ span → behind span (λ place. trivia_end bytes place count) ≡ Some end

@@ -7,7 +7,7 @@ use borrow.Author.Tests.{ne_eqb}
 use Rattle.std.proofs.Common.{true, false, Option, Some, None, Ok, Err, is_some}
 use Rattle.answers.specs.declared.Refusal.{Refusal}
 use Rattle.printing.specs.Events.{Events, nothing, stop, ◌▹◌}
-use Rattle.printing.specs.Running.{State, at_start, Run, going, ended, run, room_of, settled, Printed, finished, outcome, place_of, Shown}
+use Rattle.printing.specs.Running.{State, Run, going, ended, run, room_of, settled, Printed, finished, outcome, place_of, Shown}
 use Rattle.printing.specs.declared.Context.{Context}
 use Rattle.answers.specs.declared.Reason.TheVariants.{WorkRoom}
 use Rattle.printing.proofs.Running.{Ran, run_ended, shows, alike, finish, stopped_there, stays_refused, ◌thence◌}
@@ -216,13 +216,3 @@ room_left {after = after} goes = kept (answer_of after) ∙ ap room_of goes.show
     kept : (answer : Printed) → after.room.now ≡ room_of (outcome answer after.room.now)
     kept (Ok (state, at)) = refl
     kept (Err why) = refl
-
--- a walk from the start shows its events there
-pub walked : {fresh after : Printer} {page : Page} {room : List ℕ} {events : Page → ℕ → Events} {end : Page → ℕ → ℕ}
-    → page_of fresh ≡ page → fresh.room.now ≡ room → answer_of fresh ≡ Ok (at_start, 0) → Goes fresh after events end
-    → Shown (answer_of after) after.room.now (events page 0) (going room at_start) (end page 0)
-walked {fresh} {after} {events = events} {end} reads stored starts goes =
-    rw (← reads, ← stored)
-    (subst (λ (answer : Printed). Shown (answer_of after) after.room.now (events (page_of fresh) 0) (outcome answer fresh.room.now) (end (page_of fresh) 0)) starts
-    (anywhere fresh.ended (state_of fresh) fresh.at 0 fresh.room.now _ _ (events (page_of fresh)) (end (page_of fresh))
-    (ap (λ (answer : Printed). place_of answer 0) starts) goes.shown))

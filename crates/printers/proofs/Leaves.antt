@@ -1,6 +1,6 @@
 -- Leaves: what is printed of own bytes is what the events of the leaf's tree are.
 use mathlib.Core.Path.{◌≡◌}
-use mathlib.Core.Bool.{Bool, true, false, cond}
+use mathlib.Core.Bool.{Bool, true, cond}
 use Prim.Native.Nat.{ℕ}
 use lib.Seq.{slice}
 use Rattle.tree.specs.Own.{read_own, Fits}
@@ -13,7 +13,7 @@ use Rattle.events.specs.Trees.{word, leaf, trivia_events}
 use Rattle.printing.specs.Events.{nothing, ◌▹◌}
 use Rattle.leaves.specs.Items.{items_at}
 use Rattle.leaves.specs.Leaves.{LeafClass}
-use Rattle.leaves.proofs.Leaves.{own_shown, leaf_shown_lem, text_shown}
+use Rattle.leaves.proofs.Leaves.{own_shown, leaf_shown_lem}
 use Rattle.printers.specs.declared.Printer.{Printer}
 use Rattle.printers.specs.Going.{Goes}
 use Rattle.printers.specs.Records.{GoesOwn, GoesRecord}
@@ -40,15 +40,4 @@ leaf_goes {before} class levels style shown leaves goes = record {
   page = goes.page;
   room = goes.room;
   shown = leaf_shown_lem before.tree.now class leaves before.at before.context style shown levels goes.shown;
-}
-
--- the text alone, where own bytes were read, is the leaf without its trivia
-pub text_goes : {before after : Printer} (class : Class) (levels : ℕ) (style : Style) (own : Own) → LeafClass class
-    → read_own before.tree.now before.at class levels ≡ Ok own
-    → Goes before after (λ page at. word page.context (printed page.context style (slice own.text own.end page.tree))) (λ page at. own.end)
-    → GoesRecord before after (leaf style) false levels class
-text_goes {before} class levels style own leaves is goes = record {
-  page = goes.page;
-  room = goes.room;
-  shown = text_shown before.tree.now class leaves before.at before.context style levels own is goes.shown;
 }

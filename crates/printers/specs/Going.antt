@@ -1,5 +1,6 @@
 -- What a printer promises of the struct that it goes on in.
 use Rattle.std.specs.Prelude.{ℕ, ◌≡◌, List, Option, Some, None, Result, Ok, Err}
+use Rattle.answers.specs.Numbers.{numbers_of}
 use Rattle.answers.specs.declared.Refusal.{Refusal}
 use Rattle.printing.specs.Events.{Events}
 use Rattle.printing.specs.Running.{State, Run, going, ended, Printed, outcome, Shown}
@@ -33,6 +34,15 @@ run_of printer = outcome (answer_of printer) printer.room.now
 abbrev pub walked_of : Run → ℕ → Result Walked Refusal
 walked_of (going room state) end = Ok (record { used = state.used; at = end })
 walked_of (ended room why) end = Err why
+
+-- in document 01's numbers: 0 with how much of the room is used, or those of why it ended
+abbrev pub numbers_walked : Result Walked Refusal → ℕ × ℕ
+numbers_walked (Ok walked) = (0, walked.used)
+numbers_walked (Err why) = numbers_of why
+
+abbrev pub walked_numbers : Option Refusal → ℕ → ℕ × ℕ
+walked_numbers None used = (0, used)
+walked_numbers (Some why) used = numbers_of why
 
 -- the events at the old place are run, and the new place is the one behind them; the page and whose room it is stay
 pub record Goes (before after : Printer) (events : Page → ℕ → Events) (end : Page → ℕ → ℕ) : Type 0 where

@@ -12,7 +12,7 @@ ghost use Rattle.text.specs.Lines.{is_empty, is_newline};
 ghost use Rattle.chunks.specs.Appending.{with_space, with_colon};
 ghost use Rattle.printing.specs.Events as Events;
 ghost use Rattle.printing.specs.Running.{at_start, behind, no_room};
-ghost use Rattle.printers.specs.Going.{Goes, page_of, answer_of, run_of, walked_of};
+ghost use Rattle.printers.specs.Going.{Goes, page_of, answer_of, run_of, walked_of, numbers_walked, walked_numbers};
 
 use answers::{Reason, Refusal};
 use chunks::append;
@@ -71,7 +71,8 @@ impl<'a> Printer<'a> {
 impl Printer<'_> {
     // How far the walk is, or why it ended.
     pub fn answer(&self) -> Result<Walked, Refusal>
-        ensures { result ≡ walked_of (run_of self.now) self.now.at }
+        ensures answer { result ≡ walked_of (run_of self.now) self.now.at }
+        ensures numbers { numbers_walked result ≡ walked_numbers self.now.ended self.now.used }
     {
         match self.ended {
             Some(refusal) => Err(refusal),

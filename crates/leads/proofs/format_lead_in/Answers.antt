@@ -3,7 +3,7 @@ use mathlib.Core.Path.{refl, sym, ap, ◌∙◌}
 use Rattle.events.specs.Trees.{stop_at}
 use Rattle.printers.proofs.Going.{◌onward◌, has_ended, stops_first, over_then, room_left}
 use Rattle.leads.specs.Leads.{before_of, lead_by, lead_numbers}
-use Rattle.leads.proofs.Leads.{token_refused, lead_goes}
+use Rattle.leads.proofs.Leads.{token_refused, token_numbers, lead_goes}
 use Rattle.leads.proofs.format_lead_in.Goals as goal
 
 pub returns-then-is_some : goal.returns-then-is_some
@@ -20,7 +20,7 @@ returns-in-Ok c =
     let goes =
     lead_goes c.args.drops (before_of c.args.stood) c.args.levels c.in-Ok.lead is c.has_block.ensures
     (c.list_trivia.ensures onward c.break_before.ensures onward c.move_to.ensures) in
-    record { leads = (is, goes); answer = rw (on, is) refl; room = room_left goes; numbers = rw (on, is) refl }
+    record { leads = (is, goes); answer = rw (on, is) refl; room = room_left goes; numbers = rw on (token_numbers _ _ _ is) }
 
 pub returns-in-Err : goal.returns-in-Err
 unfolding lead_by lead_numbers
@@ -31,5 +31,5 @@ returns-in-Err c =
       leads = λ next end. over_then {end = λ page at. at} (stops_first on refl refl refl (ap stop_at (token_refused _ _ _ _ is))) refl;
       answer = rw (on, is) refl;
       room = refl;
-      numbers = rw (on, is) refl;
+      numbers = rw on (token_numbers _ _ _ is);
     }
