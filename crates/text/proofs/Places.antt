@@ -46,14 +46,6 @@ pub ink_found : (found : Option ℕ) (bytes : List ℕ) → Stopped blank bytes 
 unfolding leading_blanks
 ink_found found bytes stopped = place_found leading_blanks blank refl (λ _ _. refl) found bytes stopped
 
--- a line has ink where one of its bytes is not blank
-pub inked_any : (said : Bool) (bytes : List ℕ)
-    → MatchBool said ((k : ℕ) × (k < length bytes) × (blank (get_or bytes k 0) ≡ false)) ((k : ℕ) → k < length bytes → blank (get_or bytes k 0) ≡ true)
-    → said ≡ not (all_blank bytes)
-unfolding all_blank
-inked_any true bytes (k, within, ink) = rw (and_fails_at all_blank blank refl (λ _ _. refl) bytes k 0 within ink)
-inked_any false bytes all = rw (and_from_places all_blank blank refl (λ _ _. refl) bytes 0 all)
-
 -- a byte above 127 is one of the list
 high_within : (bytes : List ℕ) (i : ℕ) → 128 ≤ get_or bytes i 0 → i < length bytes
 high_within bytes i high = grind (arith, common_steps)

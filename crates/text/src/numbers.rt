@@ -1,5 +1,5 @@
 // Bytes as numbers, and numbers of two bytes, the low byte first.
-ghost use Rattle.std.specs.Prelude.{◌≡◌, get_or};
+ghost use Rattle.std.specs.Prelude.{◌≡◌, ◌<◌, get_or};
 ghost use Rattle.text.specs.Numbers.{read_number};
 ghost use Rattle.text.specs.Stores.{number_end, number_buffer};
 
@@ -13,11 +13,18 @@ pub enum Unstored {
     TooLarge,
 }
 
+// A byte as a number of the width that places have.
+pub fn wide(b: u8) -> usize
+    ensures { (result ≡ b) × (result < 256) }
+{
+    usize::from(b)
+}
+
 // The byte at a place; 0 past the end.
 pub fn byte_at(bytes: &[u8], at: usize) -> usize
     ensures { result ≡ get_or bytes.now at 0 }
 {
-    bytes.get(at).map_or(0, |b| usize::from(*b))
+    bytes.get(at).map_or(0, |b| wide(*b))
 }
 
 // The number at a place.

@@ -11,7 +11,16 @@ use crate::characters;
 pub fn has_ink(line: &[u8]) -> bool
     ensures { result ≡ not (all_blank line.now) }
 {
-    line.iter().any(|b| !is_blank(*b))
+    let mut i = 0;
+    loop {
+        if line.len() <= i {
+            break false;
+        }
+        if !is_blank(line[i]) {
+            break true;
+        }
+        i += 1;
+    }
 }
 
 // How many blanks stand before the first ink.
