@@ -1,19 +1,27 @@
--- A text in a casing is the library's text in it.
-use Rattle.std.proofs.Common.{◌≡◌, ℕ, List, [], ◌∷◌, map, refl, arith}
-use Rattle.std.proofs.lemmas.Bool.Decides.{nat_tests}
-use Rattle.std.specs.Char.{to_ascii_uppercase, to_ascii_lowercase}
+-- A text in a casing, byte by byte.
+use Prim.Native.Nat.{ℕ, suc, ◌+◌, ◌≤◌, ◌<◌}
+use mathlib.Core.Path.{◌≡◌}
+use mathlib.Core.List.{List, ◌++◌, append-nil}
+use native.Mathlib.Numerals.{add-one}
+use native.Mathlib.Omega.{arith}
+use lib.ListN.{length, get_or, take, drop, set, drop_of_length-le}
+use lib.Seq.{drop-cons, drop-set-lt, take-suc-set, append_snoc, take_all}
 use Rattle.options.specs.Casings.{cased_byte, cased}
-use Rattle.options.specs.declared.Casing.TheVariants.{Uppercase, Lowercase}
+use Rattle.options.specs.declared.Casing.{Casing}
 
--- two functions that agree at each byte map a text to the same
-same_mapped : (f g : ℕ → ℕ) → ((b : ℕ) → f b ≡ g b) → (text : List ℕ) → map f text ≡ map g text
-same_mapped f g same [] = refl
-same_mapped f g same (b ∷ text) = rw (same b, same_mapped f g same text)
+-- a text with its bytes from i on in the casing
+unfoldable pub cased_from : Casing → ℕ → List ℕ → List ℕ
+cased_from casing i text = take i text ++ cased casing (drop i text)
 
-pub uppercased : (text : List ℕ) → map to_ascii_uppercase text ≡ cased Uppercase text
-unfolding cased
-uppercased text = same_mapped to_ascii_uppercase (cased_byte Uppercase) (λ b. grind (arith, nat_tests)) text
+-- byte i may be put in the casing at once
+pub cased_next : (casing : Casing) (text : List ℕ) (i : ℕ) → i < length text
+    → cased_from casing (i + 1) (set text i (cased_byte casing (get_or text i 0))) ≡ cased_from casing i text
+unfolding cased_from cased
+cased_next casing text i h =
+    let below : i < suc i = omega arith in
+    simp (add-one, take-suc-set, drop-set-lt, drop-cons text i 0 h, append_snoc)
 
-pub lowercased : (text : List ℕ) → map to_ascii_lowercase text ≡ cased Lowercase text
-unfolding cased
-lowercased text = same_mapped to_ascii_lowercase (cased_byte Lowercase) (λ b. grind (arith, nat_tests)) text
+-- no byte is left
+pub cased_all : (casing : Casing) (text : List ℕ) (i : ℕ) → length text ≤ i → cased_from casing i text ≡ text
+unfolding cased_from cased
+cased_all casing text i h = simp (take_all i text h, drop_of_length-le text h, append-nil)

@@ -75,9 +75,8 @@ impl Casing {
     pub fn format(self, text: &mut [u8])
         ensures { text.new ≡ cased self text.old }
     {
-        match self {
-            Casing::Uppercase => text.make_ascii_uppercase(),
-            Casing::Lowercase => text.make_ascii_lowercase(),
+        for byte in text.iter_mut() {
+            *byte = self.format_byte(*byte);
         }
     }
 }
@@ -124,16 +123,33 @@ impl From<u8> for Alignment {
 struct Field(u8, u8);
 
 impl FormattingOptions {
+    // The defaults, as the stored form has them.
+    pub const CASING: usize = 1;
+
+    pub const REGISTER_CASING: usize = 1;
+
+    pub const BRACE_POSITION: usize = 0;
+
+    pub const INDENT: usize = 4;
+
+    pub const LABEL_MARGIN: usize = 20;
+
+    pub const LABEL_ALIGNMENT: usize = 1;
+
+    pub const CODE_MARGIN: usize = 30;
+
+    pub const NUM_BYTES_PER_LINE: usize = 8;
+
     // The fields in the order of the map's bits, the lowest first.
     const FIELDS: [Field; 8] = [
-        Field(1, 1), // mnemonics.casing
-        Field(1, 1), // mnemonics.register_casing
-        Field(1, 0), // braces.position
-        Field(64, 4), // whitespace.indent
-        Field(255, 20), // whitespace.label_margin
-        Field(1, 1), // whitespace.label_alignment
-        Field(255, 30), // whitespace.code_margin
-        Field(255, 8), // listing.num_bytes_per_line
+        Field(1, Self::CASING as u8),
+        Field(1, Self::REGISTER_CASING as u8),
+        Field(1, Self::BRACE_POSITION as u8),
+        Field(64, Self::INDENT as u8),
+        Field(255, Self::LABEL_MARGIN as u8),
+        Field(1, Self::LABEL_ALIGNMENT as u8),
+        Field(255, Self::CODE_MARGIN as u8),
+        Field(255, Self::NUM_BYTES_PER_LINE as u8),
     ];
 }
 
