@@ -1,14 +1,15 @@
--- Not part of the promises about a tree: the sets of maps as numbers, what the reading of a record's own bytes hands on, the parts that a plan is one of,
--- and what the check's inner functions hand on.
+-- Not part of the promises about a tree: the sets of maps as numbers, what the reading of a record's own bytes hands
+-- on, the parts that a plan is one of, what the check's inner functions hand on, and the first field behind own bytes.
 use Rattle.answers.specs.Numbers.{Checked}
-use Rattle.std.specs.Prelude.{ℕ, ◌+◌, ◌-◌, ◌/◌, ◌%◌, ◌^◌, ◌≤◌, ◌<◌, ◌≡◌, List, [], ◌∷◌, Bool, false, ◌&&◌, cond, length, get_or, eqb, ltb, leb, Option, Result, Some, None, Ok, Err}
+use Rattle.std.specs.Prelude.{ℕ, ◌+◌, ◌-◌, ◌/◌, ◌%◌, ◌^◌, ◌≤◌, ◌<◌, ◌≡◌, List, [], ◌∷◌, ◌++◌, Bool, false, ◌&&◌, cond, length, replicate, get_or, eqb, ltb, leb, Option, Result, Some, None, Ok, Err}
 use Rattle.answers.specs.declared.Refusal.{Refusal}
 use Rattle.text.specs.Accepted.{accepted_text, fault_at}
 use Rattle.tree.specs.Grammar.{Slot, kind_of, rule, fields}
 use Rattle.tree.specs.Parts.{first_class}
 use Rattle.tree.specs.declared.parts.Head.{Head}
 use Rattle.tree.specs.Own.{may_stand, fields_fit, trivia_read, layout, own_of, trivia_of_record, map_of_record}
-use Rattle.tree.specs.Reading.{Placed, Reading, Reader, Due, nothing, due}
+use Rattle.tree.specs.Reading.{Placed, Reading, Reader, Due, nothing, due, fields_due}
+use Rattle.tree.specs.Rows.{row_of}
 use Rattle.tree.specs.declared.grammar.Class.{Class}
 use Rattle.tree.specs.declared.grammar.Kind.{Kind}
 use Rattle.tree.specs.declared.grammar.Kind.TheVariants.{Leaf}
@@ -18,6 +19,7 @@ use Rattle.tree.specs.declared.grammar.TextRule.TheVariants.{NoText, Free, Byte}
 use Rattle.tree.specs.declared.own.Own.{Own}
 use Rattle.tree.specs.declared.own.TriviaSpan.{TriviaSpan}
 use Rattle.tree.specs.declared.own.Rest.{Rest}
+use Rattle.tree.specs.declared.check.Plan.{Plan}
 
 -- ---- sets: the maps of a kind's fields in one number
 
@@ -61,13 +63,24 @@ found_on at None = Err (layout at)
 abbrev pub bare_leaf : ℕ → ℕ → Own
 bare_leaf at end = record { kind = Leaf; map = 2; trivia = at + 2; trivia_count = 0; text = at + 4; end = end; count = 0 }
 
--- ---- the parts of a record that stand
+-- ---- plans: the parts of a record that are still to be read
+
+-- the parts of a plan whose row is made of slots
+pub record Plans (plan : Plan) (parts : List Due) : Type 0 where
+  pub slots : List Slot
+  pub row : plan.row ≡ row_of slots
+  pub same : parts ≡ fields_due slots plan.bits ++ replicate plan.count (due plan.item)
 
 -- parts without those that do not stand
 unfoldable pub standing : List Due → List Class
 standing [] = []
 standing (nothing ∷ parts) = standing parts
 standing (due class ∷ parts) = class ∷ standing parts
+
+-- the next part of some parts, and a plan of the rest
+abbrev pub NextOf : Option (Class × Plan) → List Due → Type 0
+NextOf (Some (class, rest)) parts = (others : List Due) × (standing parts ≡ class ∷ standing others) × Plans rest others
+NextOf None parts = standing parts ≡ []
 
 -- ---- refusal 7 while the tree is read
 

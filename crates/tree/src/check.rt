@@ -1,5 +1,6 @@
 // The check of a whole tree, in one pass.
-ghost use Rattle.std.specs.Prelude.{◌≡◌, [], true, false, ℕ, ◌<◌, ◌≤◌, ◌+◌, ◌-◌, ◌%◌, length, Some};
+ghost use Rattle.std.specs.Prelude.{◌≡◌, [], true, false, ℕ, ◌<◌, ◌≤◌, ◌+◌, ◌-◌, ◌%◌, length, Some, None, IfNone};
+ghost use Rattle.std.specs.Option.{option_map};
 ghost use Rattle.std.specs.Iterator.{YieldsFirst, item_count};
 ghost use Rattle.std.proofs.Math.Seq.{slice};
 ghost use Rattle.answers.specs.Numbers.{numbers_checked};
@@ -9,7 +10,7 @@ ghost use Rattle.tree.specs.Checking.{read_file, plain_tree, length_checked, tre
 ghost use Rattle.tree.specs.Checking.{length_numbers, tree_numbers};
 ghost use Rattle.tree.specs.Rows.{class_of};
 ghost use Rattle.tree.specs.Walk.{standing, fault_with, fault_from, record_read, walked, walker_of};
-ghost use Rattle.tree.specs.Plans.{plan_of, plan_left};
+ghost use Rattle.tree.specs.Plans.{plan_of, next_part, plan_left};
 
 use crate::codes::Code;
 use crate::grammar::{Class, Kind};
@@ -24,10 +25,10 @@ const NEWLINE: u8 = Code::Newline as u8;
 // The parts of a record that are still to be read: the fields of a row whose bits stand, then `count` items of a class.
 #[derive(Clone, Copy, Debug, PartialEq, Eq)]
 pub struct Plan {
-    row: u64,
-    bits: usize,
-    item: Class,
-    count: usize,
+    pub row: u64,
+    pub bits: usize,
+    pub item: Class,
+    pub count: usize,
 }
 
 // The parts of a record of a class, of which its own bytes were read.
@@ -59,16 +60,14 @@ pub(crate) fn slot_class(slot: u64) -> Class
     grammar::class_of(slot % 64)
 }
 
-impl Iterator for Plan {
-    type Item = Class;
-
-    ghost next_gives = { YieldsFirst plan_left };
-
-    ghost remaining = { item_count plan_left };
-
-    // The row and the bits alone change: a copy of the whole plan in the loop takes 4 percent more of a check.
+impl Plan {
+    // The next part, of which the plan becomes the rest. Only the row and the bits change in the loop: a copy of the
+    // whole plan there takes 4 percent more of a check.
     #[inline(always)]
-    fn next(&mut self) -> Option<Class> {
+    fn step(&mut self) -> Option<Class>
+        ensures part { option_map (λ class. (class, self.new)) result ≡ next_part self.old }
+        ensures end { IfNone result (next_part self.new ≡ None) }
+    {
         while 0 < self.row {
             let slot = self.row % 128;
             let bit = self.bits % 2;
@@ -78,11 +77,34 @@ impl Iterator for Plan {
                 return Some(slot_class(slot));
             }
         }
+        self.bits = 0;
         if self.count == 0 {
             return None;
         }
         self.count -= 1;
         Some(self.item)
+    }
+}
+
+// The next part of a plan, and the plan of the rest.
+pub fn next_part(plan: Plan) -> Option<(Class, Plan)>
+    ensures { result ≡ next_part plan }
+{
+    let mut rest = plan;
+    let class = rest.step()?;
+    Some((class, rest))
+}
+
+impl Iterator for Plan {
+    type Item = Class;
+
+    ghost next_gives = { YieldsFirst plan_left };
+
+    ghost remaining = { item_count plan_left };
+
+    #[inline(always)]
+    fn next(&mut self) -> Option<Class> {
+        self.step()
     }
 }
 
