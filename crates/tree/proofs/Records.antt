@@ -10,9 +10,11 @@ use Rattle.answers.specs.declared.Refusal.{Refusal}
 use Rattle.answers.specs.Numbers.{and_then, Checked}
 use Rattle.tree.specs.Own.{read_own}
 use Rattle.tree.specs.Reading.{Placed, Readings, Reader, Due, nothing, due, parts_due, texts_of, read_parts, read}
+use Rattle.tree.specs.Plans.{plan_left}
 use Rattle.tree.specs.Walk.{standing, fault_from, record_on, record_read, onward, Walker, walked, walker_of}
 use Rattle.tree.specs.declared.grammar.Class.{Class}
 use Rattle.tree.specs.declared.own.Own.{Own}
+use Rattle.tree.specs.declared.check.Plan.{Plan}
 use Rattle.tree.proofs.Readings.{no_record}
 use Rattle.tree.proofs.Faults.{faults_append}
 
@@ -92,6 +94,10 @@ unfolding walked
 walk_none walker class own place fault none t = sym (ap (λ (classes : List Class). walked walker classes place fault) (none t class))
 
 -- ---- the loop over a record's parts
+
+-- the plan that is left goes on with the walk over a record's parts
+abbrev pub PartsLeft : Walker → List Class → ℕ → ℕ → Plan → ℕ → ℕ → Type 0
+PartsLeft walker parts place fault later behind found = walked walker parts place fault ≡ walked walker (plan_left later) behind found
 
 module _ (walker : Walker) {left : List Class} (class : Class) (others : List Class) (behind found : ℕ) {whole : Result (ℕ × ℕ) Refusal}
     (walk : whole ≡ walked walker left behind found) (first : left ≡ class ∷ others)

@@ -1,4 +1,4 @@
--- At the head of the loop the parts that are left go on with the walk over the record's; each part stands one level further down.
+-- At the head of the loop the plan that is left goes on with the walk over the record's; each part stands one level further down.
 use mathlib.Core.Path.{refl, sym, ◌∙◌}
 use native.Mathlib.Omega.{arith}
 use Rattle.std.proofs.lemmas.Result.{err_from_is_err_and}
