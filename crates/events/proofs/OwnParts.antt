@@ -1,7 +1,7 @@
 -- The kind of a record that was read, and the parts that are due of it: a list's items, or as many fields as the kind has.
---   token_number_lem : kind_of number ≡ Known kind → token_number (built kind text trees) ≡ number
---   record_parts : read_own bytes at class levels ≡ Record own → (own.kind ≡ variant.Vec) ⊎ Fielded bytes at class own
---   record_fields : read_own bytes at class levels ≡ Record own → eqb (get_or bytes at 0) 24 ≡ false → Fielded bytes at class own
+--   token_number_lem : kind_of number ≡ Some kind → token_number (built kind text trees) ≡ number
+--   record_parts : read_own bytes at class levels ≡ Ok own → (own.kind ≡ variant.Vec) ⊎ Fielded bytes at class own
+--   record_fields : read_own bytes at class levels ≡ Ok own → eqb (get_or bytes at 0) 24 ≡ false → Fielded bytes at class own
 use Rattle.std.specs.Prelude.{Some, Ok}
 use mathlib.Core.Path.{◌≡◌, refl, sym, ap, ◌∙◌}
 use mathlib.Core.Logic.{◌⊎◌, inl, inr, ⊎_elim}

@@ -1,6 +1,6 @@
 -- A tree that passed passes where more levels and a greater length are allowed, and the same tree is read.
---   same_read : .. levels ≤ more → .. read levels bytes class at .checked ≡ Passed → read more bytes class at ≡ read levels bytes class at
---   same_file : .. tree_checked limit levels bytes ≡ Passed → (tree_checked limit' levels' bytes ≡ Passed) × (read_file levels' bytes ≡ read_file levels bytes)
+--   same_read : .. levels ≤ more → .. read levels bytes class at .checked ≡ no_refusal → read more bytes class at ≡ read levels bytes class at
+--   same_file : .. tree_checked limit levels bytes ≡ no_refusal → (tree_checked limit' levels' bytes ≡ no_refusal) × (read_file levels' bytes ≡ read_file levels bytes)
 use Rattle.std.specs.Prelude.{Result, Ok, Err}
 use Rattle.answers.specs.declared.Refusal.{Refusal}
 use Rattle.tree.specs.declared.own.Own.{Own}

@@ -1,6 +1,6 @@
 -- Reading and layout speak of the same bytes: what is read without refusal is stored as the bytes that were read.
---   round_trip : .. read levels bytes class at .checked ≡ Passed → stored (read levels bytes class at .tree) ≡ slice at (read levels bytes class at .end) bytes, ..
---   file_round_trip : .. tree_checked limit levels bytes ≡ Passed → stored (read_file levels bytes).tree ≡ bytes
+--   round_trip : .. read levels bytes class at .checked ≡ no_refusal → stored (read levels bytes class at .tree) ≡ slice at (read levels bytes class at .end) bytes, ..
+--   file_round_trip : .. tree_checked limit levels bytes ≡ no_refusal → stored (read_file levels bytes).tree ≡ bytes
 use Rattle.std.specs.Prelude.{Option, Some, None, Ok}
 use Rattle.answers.specs.Numbers.{no_refusal}
 use mathlib.Core.Path.{◌≡◌, refl, sym, ◌∙◌}

@@ -1,5 +1,5 @@
 -- A tree that was read without refusal holds none.
---   read_whole : read levels bytes class at .checked ≡ Passed → whole (read levels bytes class at .tree) ≡ true
+--   read_whole : read levels bytes class at .checked ≡ no_refusal → whole (read levels bytes class at .tree) ≡ true
 use Rattle.answers.specs.Numbers.{no_refusal}
 use mathlib.Core.Path.{◌≡◌, refl}
 use mathlib.Core.List.{List, [], ◌∷◌}

@@ -1,5 +1,5 @@
 -- A tree that was read without refusal, whose texts are accepted, is well formed.
---   read_formed : .. read levels bytes class at .checked ≡ Passed → texts_checked (read levels bytes class at .texts) ≡ Passed → WellFormed levels class at (read levels bytes class at .tree)
+--   read_formed : .. read levels bytes class at .checked ≡ no_refusal → texts_checked (read levels bytes class at .texts) ≡ no_refusal → WellFormed levels class at (read levels bytes class at .tree)
 use Rattle.std.specs.Prelude.{Option, Some, None, Ok}
 use Rattle.answers.specs.Numbers.{no_refusal}
 use mathlib.Core.Path.{◌≡◌, refl, sym, ap, subst, ◌∙◌}

@@ -1,6 +1,6 @@
 -- A sample tree of every kind is stored as its bytes, its bytes are accepted, and the tree is read back from them, by computing.
 --   samples_stored : map found samples ≡ map wanted samples
---   every_kind : map (λ sample. kind_of sample.number) samples ≡ map Known all_kinds
+--   every_kind : map (λ sample. kind_of sample.number) samples ≡ map Some all_kinds
 use Rattle.std.specs.Prelude.{Some}
 use Rattle.answers.specs.Numbers.{no_refusal, Checked}
 use mathlib.Core.Path.{◌≡◌, refl}

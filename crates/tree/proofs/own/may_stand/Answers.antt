@@ -4,7 +4,6 @@ use mathlib.Core.Path.{◌≡◌, refl, ◌∙◌}
 use borrow.Author.Tests.{le-leb, lt-leb}
 use Rattle.tree.specs.Own.{is_list}
 use Rattle.tree.specs.declared.grammar.Class.{Class}
-use Rattle.tree.specs.declared.grammar.Kind.TheVariants.{Vec}
 use Rattle.tree.proofs.KindNumbers.{other_number}
 use Rattle.tree.proofs.own.may_stand.Goals as goal
 
