@@ -27,9 +27,9 @@ use Rattle.events.specs.Trees.{Before, list_trivia, break_before}
 use Rattle.events.proofs.Heads.{head_missing, head_refused, head_read, number_read, block_read}
 use Rattle.leaves.specs.Items.{items_at}
 use Rattle.leaves.proofs.Leaves.{own_items}
-use Rattle.printers.specs.Going.{Goes}
+use Rattle.printers.specs.Going.{GoesExact}
 use Rattle.printers.specs.declared.Printer.{Printer}
-use Rattle.printers.proofs.Going.{runs_alike}
+use Rattle.printers.proofs.Exact.{exact_alike}
 use Rattle.leads.specs.Leads.{lead_in, head_own, lead_on, token_read}
 use Rattle.leads.specs.declared.Lead.{Lead}
 
@@ -101,20 +101,20 @@ module _ (levels : ℕ) (bytes : List ℕ) (at : ℕ) where
 -- the trivia and the newline by what was read are those of the token's tree
 pub lead_goes : {before after : Printer} (drops : Bool) (stood : Before) (levels : ℕ) (lead : Lead) {block : Bool}
     → token_read levels before.tree.now before.at ≡ Ok lead → block ≡ block_bit (kind_number lead.token.kind) (lead.token.map / 2)
-    → Goes before after
+    → GoesExact before after
     (λ page at.
     list_trivia page.context drops (items_at page.tree lead.head.trivia lead.head.trivia_count)
     ▹ break_before page.context stood (kind_number lead.token.kind) block ▹ nothing)
     (λ page at. lead.token.end)
-    → Goes before after (λ page at. lead_in page.context drops stood (read levels page.tree BareToken at).tree) (λ page at. lead.token.end)
+    → GoesExact before after (λ page at. lead_in page.context drops stood (read levels page.tree BareToken at).tree) (λ page at. lead.token.end)
 unfolding run
-lead_goes {before} drops stood levels lead is blocked goes =
+lead_goes {before} drops stood levels lead is blocked done =
     let bytes = before.tree.now in
     let token = lead.token in
     let known = token_known levels bytes before.at lead is in
     let reads = (token_parts levels bytes before.at lead is).0 in
     let number = kind_number_lem (get_or bytes before.at 0) token.kind (kind_read bytes before.at BareToken levels token reads) in
-    runs_alike goes
+    exact_alike done
     (λ x. rw (
       known.0,
       known.1,

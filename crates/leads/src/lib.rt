@@ -9,7 +9,7 @@ ghost use Rattle.tree.specs.Grammar.{kind_number};
 ghost use Rattle.events.specs.Views.{block_bit};
 ghost use Rattle.events.specs.Trees as Trees;
 ghost use Rattle.leaves.specs.Items.{items_at};
-ghost use Rattle.printers.specs.Going.{Goes};
+ghost use Rattle.printers.specs.Going.{Goes, GoesExact};
 ghost use Rattle.leads.specs.Leads.{before_of, token_read, LeadsIn};
 
 use answers::Refusal;
@@ -75,7 +75,7 @@ fn breaks(previous: Kind, kind: Kind, block: bool) -> bool
 
 // The newline before a token, if one stands there; `stood` is the kind of the one before it in its list.
 fn break_before(printer: &mut Printer, stood: Option<Kind>, kind: Kind, block: bool)
-    ensures { Goes printer.old printer.new
+    ensures { GoesExact printer.old printer.new
         (λ page at. Trees.break_before page.context (before_of stood) (kind_number kind) block)
         (λ page at. at) }
 {
@@ -100,7 +100,7 @@ fn has_block(kind: Kind, bits: usize) -> bool
 
 // The trivia of a record in a list, without the newlines first in it where these are dropped.
 fn list_trivia(printer: &mut Printer, own: Own, drops: bool)
-    ensures { Goes printer.old printer.new
+    ensures { GoesExact printer.old printer.new
         (λ page at.
         let items = items_at page.tree own.trivia own.trivia_count in
         Trees.list_trivia page.context drops items)

@@ -1,4 +1,5 @@
 pub mod Going
+pub mod Exact
 pub mod Pushing
 pub mod Tables
 pub mod Items

@@ -30,17 +30,18 @@ use Rattle.leaves.proofs.Leaves.{own_items}
 use Rattle.leaves.proofs.Records.{read_refused, read_record}
 use Rattle.leaves.proofs.Fielded.{bare, kind_read, list_read, standing_range}
 use Rattle.printers.specs.declared.Printer.{Printer}
-use Rattle.printers.specs.Going.{Page, page_of, Goes}
+use Rattle.printers.specs.Going.{Page, page_of, Goes, GoesExact}
 use Rattle.printers.specs.Records.{GoesField, GoesKind, OpensAs, own_read, opened_by, Opens}
-use Rattle.printers.proofs.Going.{◌onward◌, there, runs_alike, over_before, stopped_by}
+use Rattle.printers.proofs.Going.{◌onward◌, there, over_before, stopped_by}
+use Rattle.printers.proofs.Exact.{exact_alike}
 
 -- the trivia of own bytes that were read are those of reading
 pub trivia_read : {before after : Printer} (own : Own) (shown : Bool) {found : Result Own Refusal} → Fits before.tree.now before.at found → found ≡ Ok own
-    → Goes before after (λ page at. cond shown (trivia_events page.context (items_at page.tree own.trivia own.trivia_count)) nothing ▹ nothing) (λ page at. own.end)
-    → Goes before after (λ page at. cond shown (trivia_events page.context (trivia_of page.tree own)) nothing) (λ page at. own.end)
+    → GoesExact before after (λ page at. cond shown (trivia_events page.context (items_at page.tree own.trivia own.trivia_count)) nothing ▹ nothing) (λ page at. own.end)
+    → GoesExact before after (λ page at. cond shown (trivia_events page.context (trivia_of page.tree own)) nothing) (λ page at. own.end)
 unfolding run
 trivia_read {before} own shown fits is goes =
-    runs_alike goes (λ x. ap (λ items. run (cond shown (trivia_events before.context items) nothing) x) (own_items before.tree.now before.at own fits is))
+    exact_alike goes (λ x. ap (λ items. run (cond shown (trivia_events before.context items) nothing) x) (own_items before.tree.now before.at own fits is))
 
 -- own bytes that are none were refused
 none_read : (found : Result Own Refusal) → None ≡ own_read found → (why : Refusal) × (found ≡ Err why)

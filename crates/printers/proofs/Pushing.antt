@@ -1,12 +1,12 @@
 -- One push of a walk: the chunk, and where it does not fit the length that is needed.
 use mathlib.Core.Path.{◌≡◌, refl}
 use mathlib.Core.List.{List, []}
-use mathlib.Core.Bool.{Bool, false}
+use mathlib.Core.Bool.{Bool, true, false}
 use Prim.Native.Nat.{ℕ, ◌+◌}
 use native.Mathlib.Omega.{arith}
 use lib.ListN.{length}
-use lib.Dec.{ltb}
-use borrow.Author.Tests.{ltb-true}
+use lib.Dec.{ltb, eqb}
+use borrow.Author.Tests.{ltb-true, eqb-true, eqb-false}
 use Rattle.std.specs.Prelude.{Result, Err}
 use Rattle.text.specs.Lines.{is_empty, is_newline}
 use Rattle.text.proofs.Choices.{by_test}
@@ -18,11 +18,11 @@ use Rattle.chunks.specs.declared.stored.ChunkType.{ChunkType}
 use Rattle.chunks.specs.declared.stored.ChunkType.TheVariants.{Code}
 use Rattle.printing.specs.Events.{push}
 use Rattle.printing.specs.Running.{State, at_start, going, behind}
-use Rattle.printing.proofs.Pushing.{empty_not_pushed, is_pushed}
+use Rattle.printing.proofs.Pushing.{full_not_pushed, empty_not_pushed, is_pushed}
 use Rattle.printing.proofs.Running.{Ran, ran_push}
 use Rattle.printers.specs.declared.Printer.{Printer}
 use Rattle.events.specs.Trees.{word}
-use Rattle.printers.specs.Going.{Page, page_of, state_of, Goes}
+use Rattle.printers.specs.Going.{Page, page_of, state_of, held_of, GoesExact}
 use Rattle.printers.proofs.Going.{steps}
 
 -- the length that a chunk which was not appended needs, whatever stood before it
@@ -63,10 +63,26 @@ module _ (before : Printer) (ty : ChunkType) (text : List ℕ) where
   push_ran some lone answered stored moved =
       ran_push (is_pushed before.room.now (state_of before) ty before.context text refl some lone answered stored moved)
 
--- a text of no bytes is no push
-pub pushes_nothing : {printer : Printer} {text : Page → List ℕ} → text (page_of printer) ≡ []
-    → Goes printer printer (λ page at. word page.context (text page)) (λ page at. at)
-pushes_nothing {printer} {text} none =
+-- an empty text is no push
+pub empty_pushed : {printer : Printer} {ty : ChunkType} {text : Page → List ℕ} → is_empty (text (page_of printer)) ≡ true
+    → GoesExact printer printer (λ page at. push ty page.context (text page)) (λ page at. at)
+empty_pushed {printer} {ty} {text} empty =
     let page = page_of printer in
-    steps refl refl refl
-    (ran_push (empty_not_pushed printer.room.now (state_of printer) Code page.context (text page) refl (rw none refl))) refl
+    let room = printer.room.now in
+    let held = held_of printer in
+    record {
+      goes = steps refl refl refl (ran_push (empty_not_pushed room (state_of printer) ty page.context (text page) refl empty)) refl;
+      holds = record {
+        state = λ by_room.
+            by_test (eqb held.full 0)
+            (λ left. (ran_push (empty_not_pushed room held ty page.context (text page) (eqb-true _ _ left) empty)).ran)
+            (λ full. (ran_push (full_not_pushed room held ty page.context (text page) (eqb-false _ _ full))).ran);
+        by_room = λ by_room. by_room;
+        place = refl;
+      };
+    }
+
+-- nor is one of no bytes
+pub pushes_nothing : {printer : Printer} {text : Page → List ℕ} → text (page_of printer) ≡ []
+    → GoesExact printer printer (λ page at. word page.context (text page)) (λ page at. at)
+pushes_nothing none = empty_pushed (rw none refl)

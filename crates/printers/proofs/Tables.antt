@@ -13,8 +13,8 @@ use Rattle.printing.specs.declared.Context.{Context}
 use Rattle.events.specs.Printed.{Style, plain, mnemonic, register, operator, data_size, encoding, variable_type, number_type, modifier, printed}
 use Rattle.events.specs.Trees.{word}
 use Rattle.printers.specs.declared.Printer.{Printer}
-use Rattle.printers.specs.Going.{Goes}
-use Rattle.printers.proofs.Going.{there}
+use Rattle.printers.specs.Going.{GoesExact}
+use Rattle.printers.proofs.Exact.{exact_there}
 
 -- no text prints none
 printed_none : (context : Context) (style : Style) → printed context style [] ≡ []
@@ -48,16 +48,16 @@ module _ {before after : Printer} (text : List ℕ) {index : ℕ} (style : Style
   where
     -- a push of it is the push of a text of the style
     pub entry_goes : ((context : Context) (rest : List ℕ) → printed context style (index ∷ rest) ≡ ascii (get_or table index ""))
-        → Goes before after (λ page at. word page.context (get_or texts index [])) (λ page at. at)
-        → Goes before after (λ page at. word page.context (printed page.context style text)) (λ page at. at)
+        → GoesExact before after (λ page at. word page.context (get_or texts index [])) (λ page at. at)
+        → GoesExact before after (λ page at. word page.context (printed page.context style text)) (λ page at. at)
     entry_goes prints goes =
         let whole = starts text first in
-        there goes (ap (word before.context) (rw (whole.1, prints before.context whole.0) (entry_of table index tied))) refl
+        exact_there goes (ap (word before.context) (rw (whole.1, prints before.context whole.0) (entry_of table index tied))) refl
 
     -- and in a casing
     pub cased_goes : (casing : Casing) → ((rest : List ℕ) → printed before.context style (index ∷ rest) ≡ cased casing (ascii (get_or table index "")))
-        → Goes before after (λ page at. word page.context (cased casing (get_or texts index []))) (λ page at. at)
-        → Goes before after (λ page at. word page.context (printed page.context style text)) (λ page at. at)
+        → GoesExact before after (λ page at. word page.context (cased casing (get_or texts index []))) (λ page at. at)
+        → GoesExact before after (λ page at. word page.context (printed page.context style text)) (λ page at. at)
     cased_goes casing prints goes =
         let whole = starts text first in
-        there goes (ap (word before.context) (rw (whole.1, prints whole.0) (ap (cased casing) (entry_of table index tied)))) refl
+        exact_there goes (ap (word before.context) (rw (whole.1, prints whole.0) (ap (cased casing) (entry_of table index tied)))) refl

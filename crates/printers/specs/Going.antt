@@ -2,8 +2,9 @@
 use Rattle.std.specs.Prelude.{ℕ, ◌≡◌, List, Option, Some, None, Result, Ok, Err}
 use Rattle.answers.specs.Numbers.{numbers_of}
 use Rattle.answers.specs.declared.Refusal.{Refusal}
+use Rattle.answers.specs.declared.Reason.TheVariants.{WorkRoom}
 use Rattle.printing.specs.Events.{Events}
-use Rattle.printing.specs.Running.{State, Run, going, ended, Printed, outcome, Shown}
+use Rattle.printing.specs.Running.{State, Run, going, ended, run, Printed, outcome, Shown}
 use Rattle.printing.specs.declared.Context.{Context}
 use Rattle.printers.specs.declared.Printer.{Printer}
 use Rattle.printers.specs.declared.Walked.{Walked}
@@ -49,3 +50,30 @@ pub record Goes (before after : Printer) (events : Page → ℕ → Events) (end
   pub page : page_of after ≡ page_of before
   pub room : after.room.ghost_name ≡ before.room.ghost_name
   pub shown : Shown (answer_of after) after.room.now (events (page_of before) before.at) (run_of before) (end (page_of before) before.at)
+
+-- ---- the state by itself, which `Goes` says nothing of where the walk has ended
+
+-- the walk goes on, or it ended where a chunk did not fit, and not at a reading's refusal
+abbrev pub ByRoom : Option Refusal → Type 0
+ByRoom None = Unit
+ByRoom (Some why) = (why.reason ≡ WorkRoom) × (why.place ≡ 0 → ⊥)
+
+-- the length that did not fit, 0 where the walk goes on
+abbrev pub lacking : Option Refusal → ℕ
+lacking None = 0
+lacking (Some why) = why.place
+
+-- the state, full or not
+abbrev pub held_of : Printer → State
+held_of printer = record { used = printer.used; solid = printer.solid; spaced = printer.spaced; full = lacking printer.ended }
+
+-- the events leave this state too, full or not: a full one is only told of spaces and of newlines that are dropped
+pub record Holds (before after : Printer) (events : Page → ℕ → Events) (end : Page → ℕ → ℕ) : Type 0 where
+  pub state : ByRoom before.ended → run (events (page_of before) before.at) (going before.room.now (held_of before)) ≡ going after.room.now (held_of after)
+  pub by_room : ByRoom before.ended → ByRoom after.ended
+  pub place : after.at ≡ end (page_of before) before.at
+
+-- both
+pub record GoesExact (before after : Printer) (events : Page → ℕ → Events) (end : Page → ℕ → ℕ) : Type 0 where
+  pub goes : Goes before after events end
+  pub holds : Holds before after events end

@@ -12,7 +12,8 @@ ghost use Rattle.text.specs.Lines.{is_empty, is_newline};
 ghost use Rattle.chunks.specs.Appending.{with_space, with_colon};
 ghost use Rattle.printing.specs.Events as Events;
 ghost use Rattle.printing.specs.Running.{at_start, behind, no_room};
-ghost use Rattle.printers.specs.Going.{Goes, page_of, answer_of, run_of, walked_of, numbers_walked, walked_numbers};
+ghost use Rattle.printers.specs.Going.{GoesExact, page_of, answer_of, run_of};
+ghost use Rattle.printers.specs.Going.{walked_of, numbers_walked, walked_numbers};
 
 use answers::{Reason, Refusal};
 use chunks::append;
@@ -27,7 +28,8 @@ const UNSTORABLE: usize = 1048577;
 
 // A walk over a tree: what it reads and where it writes, how deep it stands, the used length of the room, the end of
 // the last chunk that is not exactly a newline, whether a space goes before the next text, the place that is read next,
-// and why the walk ended. Where it has ended nothing more is done.
+// and why the walk ended. Where it has ended nothing is printed or read any more; that a space is pending, that newlines
+// are dropped and the place are still set, as in a full state.
 #[derive(Drop)]
 pub struct Printer<'a> {
     pub tree: &'a [u8],
@@ -85,7 +87,7 @@ impl Printer<'_> {
 
     // Pushes a text as a chunk; a pending space goes in front, and where it is asked for a colon behind.
     pub fn push_type(&mut self, ty: ChunkType, text: &[u8], colon: bool)
-        ensures { Goes self.old self.new
+        ensures { GoesExact self.old self.new
             (λ page at. Events.push ty page.context (with_colon colon text.now))
             (λ page at. at) }
     {
@@ -114,7 +116,7 @@ impl Printer<'_> {
 
     // Pushes a text of code.
     pub fn push(&mut self, text: &[u8])
-        ensures { Goes self.old self.new
+        ensures { GoesExact self.old self.new
             (λ page at. Events.push ChunkType.Code page.context text.now)
             (λ page at. at) }
     {
@@ -123,28 +125,28 @@ impl Printer<'_> {
 
     // A space goes before the next text.
     pub fn spc_if_next(&mut self)
-        ensures { Goes self.old self.new (λ page at. Events.space) (λ page at. at) }
+        ensures { GoesExact self.old self.new (λ page at. Events.space) (λ page at. at) }
     {
         self.spaced = true;
     }
 
     // No space goes before the next text.
     pub fn clear_spc_if_next(&mut self)
-        ensures { Goes self.old self.new (λ page at. Events.clear) (λ page at. at) }
+        ensures { GoesExact self.old self.new (λ page at. Events.clear) (λ page at. at) }
     {
         self.spaced = false;
     }
 
     // Drops the newline chunks at the end.
     pub fn trim_newlines(&mut self)
-        ensures { Goes self.old self.new (λ page at. Events.trim) (λ page at. at) }
+        ensures { GoesExact self.old self.new (λ page at. Events.trim) (λ page at. at) }
     {
         self.used = self.solid;
     }
 
     // Goes on from another place.
     pub fn move_to(&mut self, place: usize)
-        ensures { Goes self.old self.new (λ page at. Events.nothing) (λ page at. place) }
+        ensures { GoesExact self.old self.new (λ page at. Events.nothing) (λ page at. place) }
     {
         self.at = place;
     }

@@ -4,7 +4,7 @@ ghost use Rattle.options.specs.Casings.{cased};
 ghost use Rattle.events.specs.Printed as Printed;
 ghost use Rattle.events.specs.Printed.{printed};
 ghost use Rattle.events.specs.Trees.{word};
-ghost use Rattle.printers.specs.Going.{Goes};
+ghost use Rattle.printers.specs.Going.{GoesExact};
 ghost use Rattle.printers.specs.Texts.{style_of};
 
 use crate::Printer;
@@ -46,7 +46,7 @@ fn push_cased<const N: usize>(
     index: usize,
     casing: Casing,
 )
-    ensures { Goes printer.old printer.new
+    ensures { GoesExact printer.old printer.new
         (λ page at. word page.context (cased casing (get_or texts.now index [])))
         (λ page at. at) }
 {
@@ -59,7 +59,7 @@ fn push_cased<const N: usize>(
 
 // Pushes the text of an index; past the last there is none.
 fn push_entry(printer: &mut Printer, texts: &[&str], index: usize)
-    ensures { Goes printer.old printer.new
+    ensures { GoesExact printer.old printer.new
         (λ page at. word page.context (get_or (map (λ text. text.now) texts.now) index []))
         (λ page at. at) }
 {
@@ -72,7 +72,7 @@ fn push_entry(printer: &mut Printer, texts: &[&str], index: usize)
 // choice is left of it.
 #[inline(always)]
 pub fn push_text(printer: &mut Printer, style: Style, text: &[u8])
-    ensures { Goes printer.old printer.new
+    ensures { GoesExact printer.old printer.new
         (λ page at. word page.context (printed page.context (style_of style) text.now))
         (λ page at. at) }
 {

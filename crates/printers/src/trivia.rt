@@ -3,7 +3,7 @@ ghost use Rattle.std.specs.Prelude.{◌≡◌, ◌≤◌, length, cond};
 ghost use Rattle.printing.specs.Events.{nothing};
 ghost use Rattle.events.specs.Trees.{trivium_events, only_newline, trivia_events, lead_events};
 ghost use Rattle.leaves.specs.Items.{item_of, items_at};
-ghost use Rattle.printers.specs.Going.{Goes};
+ghost use Rattle.printers.specs.Going.{GoesExact};
 
 use crate::Printer;
 use chunks::stored::ChunkType;
@@ -15,7 +15,7 @@ use tree::parts::{Trivia, TriviumSpan};
 // The chunk of an item.
 fn format_trivium(printer: &mut Printer, item: TriviumSpan)
     requires { (item.start ≤ item.end) × (item.end ≤ length printer.old.tree.now) }
-    ensures { Goes printer.old printer.new
+    ensures { GoesExact printer.old printer.new
         (λ page at. trivium_events page.context (item_of page.tree item))
         (λ page at. at) }
 {
@@ -31,7 +31,7 @@ fn format_trivium(printer: &mut Printer, item: TriviumSpan)
 
 // The chunks of `count` items at a place; they end before an item that breaks the layout.
 pub fn format_trivia(printer: &mut Printer, at: usize, count: usize)
-    ensures { Goes printer.old printer.new
+    ensures { GoesExact printer.old printer.new
         (λ page here. trivia_events page.context (items_at page.tree at count))
         (λ page here. here) }
 {
@@ -56,7 +56,7 @@ fn only_newline(tree: &[u8], item: TriviumSpan) -> bool
 
 // The chunks of `count` items at a place without the newlines before any other.
 pub fn format_lead(printer: &mut Printer, at: usize, count: usize)
-    ensures { Goes printer.old printer.new
+    ensures { GoesExact printer.old printer.new
         (λ page here. lead_events page.context (items_at page.tree at count))
         (λ page here. here) }
 {
@@ -72,7 +72,7 @@ pub fn format_lead(printer: &mut Printer, at: usize, count: usize)
 
 // The chunks of a record's trivia, which may be shown or not. Most records have none: they are not worth a call.
 pub(crate) fn shown_trivia(printer: &mut Printer, own: Own, shown: bool)
-    ensures { Goes printer.old printer.new
+    ensures { GoesExact printer.old printer.new
         (λ page here.
         let items = items_at page.tree own.trivia own.trivia_count in
         cond shown (trivia_events page.context items) nothing)

@@ -17,7 +17,7 @@ unfolding run built
 returns-in-Ok c =
     let read = c.read_own.ensures in
     let brace = own_read _ _ CloseBrace _ _ (sym read.answer ∙ c.in-Ok.is) in
-    runs_alike (c.list_trivia.ensures onward c.break_before.ensures) (λ x. rw (brace.0, brace.1, ← own_items _ _ _ read.fits c.in-Ok.is))
+    runs_alike (c.list_trivia.ensures.goes onward c.break_before.ensures.goes) (λ x. rw (brace.0, brace.1, ← own_items _ _ _ read.fits c.in-Ok.is))
 
 pub returns-in-Err : goal.returns-in-Err
 returns-in-Err c =

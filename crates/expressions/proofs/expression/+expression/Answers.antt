@@ -44,7 +44,7 @@ format_argument-returns t c =
     let is = c.in-Some.is in
     let rule = item_rule of in
     opened_kind opens is (list_place of) variant.ArgItem (opened_one opens is variant.ArgItem rule.0 rule.1 rule.2) refl
-    (rw rule.3 (c.format_value.ensures onward rw c.stands-comma.ensures at (c.format_optional_leaf.ensures.leaf char_leaf) onward c.spc_if_next.ensures))
+    (rw rule.3 (c.format_value.ensures onward rw c.stands-comma.ensures at (c.format_optional_leaf.ensures.leaf char_leaf) onward c.spc_if_next.ensures.goes))
 
 -- ---- format_arguments: a list is its items and a star its fields; what is no star is a list, as nothing else may stand there
 
@@ -84,8 +84,8 @@ format_binary_expression-format_expression-requires-2 t c = (omega arith, tt)
 pub format_binary_expression-returns : goal.format_binary_expression-returns
 unfolding built field_trees fields_end events_in run
 format_binary_expression-returns t c =
-    let operator = c.format_leaf.ensures.leaf binary_op_leaf onward c.push-2.ensures in
-    runs_alike (c.skip.ensures onward c.format_expression.ensures onward aside (c.push.ensures onward c.move_to.ensures) operator c.move_to-2.ensures
+    let operator = c.format_leaf.ensures.leaf binary_op_leaf onward c.push-2.ensures.goes in
+    runs_alike (c.skip.ensures onward c.format_expression.ensures onward aside (c.push.ensures.goes onward c.move_to.ensures.goes) operator c.move_to-2.ensures.goes
     onward c.format_expression-2.ensures)
     (λ x. refl)
 
@@ -119,7 +119,7 @@ format_each_argument-loop-preserved t c after rest =
 
 pub format_each_argument-returns : goal.format_each_argument-returns
 format_each_argument-returns t c =
-    c.loop.invariant _ (none_left c.args.levels c.args.of (c.args.count - c.loop.counter) (omega arith) c.clear_spc_if_next.ensures)
+    c.loop.invariant _ (none_left c.args.levels c.args.of (c.args.count - c.loop.counter) (omega arith) c.clear_spc_if_next.ensures.goes)
 
 -- ---- format_expression: what is no binary expression is a factor, as nothing else may stand there
 
@@ -228,7 +228,7 @@ format_factor-returns t c =
     let next = cond first (read levels tree Char behind).end behind in
     let not = c.stands-tag_not.ensures in
     let neg = c.stands-tag_neg.ensures in
-    ends_alike (c.format_tags.ensures onward aside c.move_to.ensures c.format_expression_factor-2.ensures c.move_to-2.ensures)
+    ends_alike (c.format_tags.ensures onward aside c.move_to.ensures.goes c.format_expression_factor-2.ensures c.move_to-2.ensures.goes)
     (λ x. rw (← not, ← neg, field_stands first levels tree Char behind, field_stands second levels tree Char next, some) refl)
     (rw (← not, ← neg) refl)
 

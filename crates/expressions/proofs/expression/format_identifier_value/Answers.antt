@@ -25,6 +25,6 @@ returns c =
     let tree = c.args.printer.now.tree.now in
     let path = read levels tree Word c.args.printer.now.at in
     ends_alike (c.skip.ensures onward c.format_leaf-2.ensures.leaf address_modifier_leaf
-    onward aside c.move_to.ensures (c.format_leaf-3.ensures.leaf word_leaf) c.move_to-2.ensures)
+    onward aside c.move_to.ensures.goes (c.format_leaf-3.ensures.leaf word_leaf) c.move_to-2.ensures.goes)
     (λ x. rw (← c.stands.ensures, c.if-not-stands.false, read_stands levels tree AddressModifier path.end) refl)
     (rw (← c.stands.ensures, c.if-not-stands.false) refl)

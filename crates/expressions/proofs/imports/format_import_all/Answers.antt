@@ -10,5 +10,5 @@ use Rattle.expressions.proofs.imports.format_import_all.Goals as goal
 pub returns : goal.returns
 unfolding built field_trees fields_end events_in bit_at
 returns c =
-    c.format_leaf.ensures.leaf char_leaf onward c.spc_if_next.ensures onward rw c.stands.ensures at c.format_import_as.ensures
-    onward c.clear_spc_if_next.ensures
+    c.format_leaf.ensures.leaf char_leaf onward c.spc_if_next.ensures.goes onward rw c.stands.ensures at c.format_import_as.ensures
+    onward c.clear_spc_if_next.ensures.goes

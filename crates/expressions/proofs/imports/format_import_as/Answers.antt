@@ -25,4 +25,4 @@ returns c =
     let opens = c.open.ensures in
     let is = c.in-Some.is in
     opened_kind opens is (leaf plain) variant.ImportAs (opened_one opens is variant.ImportAs refl refl refl) refl
-    (c.format_leaf.ensures.leaf word_leaf onward c.push.ensures onward c.format_leaf-2.ensures.leaf word_leaf)
+    (c.format_leaf.ensures.leaf word_leaf onward c.push.ensures.goes onward c.format_leaf-2.ensures.leaf word_leaf)

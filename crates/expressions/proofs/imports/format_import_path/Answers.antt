@@ -26,4 +26,4 @@ returns c =
     let opens = c.open.ensures in
     let is = c.in-Some.is in
     opened_kind opens is (leaf plain) variant.SpecificImportArg (opened_one opens is variant.SpecificImportArg refl refl refl) refl
-    (c.format_leaf.ensures.leaf word_leaf onward c.spc_if_next.ensures onward rw c.stands.ensures at c.format_import_as.ensures)
+    (c.format_leaf.ensures.leaf word_leaf onward c.spc_if_next.ensures.goes onward rw c.stands.ensures at c.format_import_as.ensures)

@@ -7,4 +7,4 @@ use Rattle.expressions.proofs.operand.format_closing.Goals as goal
 
 pub returns : goal.returns
 unfolding run
-returns c = runs_alike (aside c.move_to.ensures (c.format_optional_leaf.ensures.leaf char_leaf) c.move_to-2.ensures) (λ x. refl)
+returns c = runs_alike (aside c.move_to.ensures.goes (c.format_optional_leaf.ensures.leaf char_leaf) c.move_to-2.ensures.goes) (λ x. refl)

@@ -13,5 +13,5 @@ returns-then-not-lchar c = rw c.if-not-lchar.true (runs_alike c.format_expressio
 pub returns : goal.returns
 unfolding run
 returns c =
-    ends_alike (c.skip.ensures onward c.format_leaf.ensures.leaf char_leaf onward aside c.move_to.ensures c.format_expression-2.ensures c.move_to-2.ensures)
+    ends_alike (c.skip.ensures onward c.format_leaf.ensures.leaf char_leaf onward aside c.move_to.ensures.goes c.format_expression-2.ensures c.move_to-2.ensures.goes)
     (λ x. rw c.if-not-lchar.false refl) (rw c.if-not-lchar.false refl)

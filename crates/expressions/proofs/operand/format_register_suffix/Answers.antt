@@ -25,5 +25,5 @@ returns c =
     let opens = c.open.ensures in
     let is = c.in-Some.is in
     opened_kind opens is (leaf plain) variant.RegisterSuffix (opened_one opens is variant.RegisterSuffix refl refl refl) refl
-    (c.format_leaf.ensures.leaf char_leaf onward c.spc_if_next.ensures onward c.format_leaf-2.ensures.leaf index_register_leaf
-    onward c.clear_spc_if_next.ensures)
+    (c.format_leaf.ensures.leaf char_leaf onward c.spc_if_next.ensures.goes onward c.format_leaf-2.ensures.leaf index_register_leaf
+    onward c.clear_spc_if_next.ensures.goes)

@@ -25,4 +25,4 @@ returns c =
     let opens = c.open.ensures in
     let is = c.in-Some.is in
     opened_kind opens is (leaf plain) variant.InterpolatedString (opened_one opens is variant.InterpolatedString refl refl refl) refl
-    (c.format_leaf.ensures.leaf char_leaf onward c.format_string_items.ensures onward c.push.ensures)
+    (c.format_leaf.ensures.leaf char_leaf onward c.format_string_items.ensures onward c.push.ensures.goes)

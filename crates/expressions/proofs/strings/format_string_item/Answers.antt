@@ -20,7 +20,7 @@ returns-then-ne c =
     let opens = c.open.ensures in
     let is = c.in-Some.is in
     let text = text_item opens is (differs_true the_type _ _ (sym c.if-ne.ensures)) in
-    opened_as opens is (leaf plain) (text_read _ _ _ text) (rw part_slice at c.push.ensures) refl refl
+    opened_as opens is (leaf plain) (text_read _ _ _ text) (rw part_slice at c.push.ensures.goes) refl refl
 
 pub returns : goal.returns
 unfolding events_in
@@ -28,4 +28,4 @@ returns c =
     let opens = c.open.ensures in
     let is = c.in-Some.is in
     let path = differs_false the_type (search rules) _ _ (sym c.if-ne.ensures) in
-    opened_as opens is (leaf plain) (path_read _ _ _ path) (c.push-2.ensures onward rw part_slice at c.push-3.ensures onward c.push-4.ensures) refl refl
+    opened_as opens is (leaf plain) (path_read _ _ _ path) (c.push-2.ensures.goes onward rw part_slice at c.push-3.ensures.goes onward c.push-4.ensures.goes) refl refl

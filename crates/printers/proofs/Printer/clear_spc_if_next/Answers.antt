@@ -1,4 +1,4 @@
--- Such a step needs no room.
+-- Such a step needs no room: a walk that has ended takes it too.
 use mathlib.Core.Path.{refl}
 use Rattle.printing.specs.Running.{run}
 use Rattle.printers.proofs.Going.{steps}
@@ -6,4 +6,7 @@ use Rattle.printers.proofs.Printer.clear_spc_if_next.Goals as goal
 
 pub returns : goal.returns
 unfolding run
-returns c = steps refl refl refl (record { ran = refl }) refl
+returns c = record {
+  goes = steps refl refl refl (record { ran = refl }) refl;
+  holds = record { state = λ by_room. refl; by_room = λ by_room. by_room; place = refl };
+}

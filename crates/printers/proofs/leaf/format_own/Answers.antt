@@ -7,4 +7,4 @@ use Rattle.printers.proofs.leaf.format_own.Goals as goal
 
 pub returns : goal.returns
 unfolding run
-returns c = runs_alike (c.shown_trivia.ensures onward (rw part_slice at c.push_text.ensures) onward c.move_to.ensures) (λ x. refl)
+returns c = runs_alike (c.shown_trivia.ensures.goes onward (rw part_slice at c.push_text.ensures.goes) onward c.move_to.ensures.goes) (λ x. refl)

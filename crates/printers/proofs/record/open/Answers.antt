@@ -3,7 +3,8 @@ use mathlib.Core.Path.{refl, sym, ◌∙◌}
 use Rattle.events.specs.Trees.{events_in}
 use Rattle.leaves.proofs.Records.{read_refused}
 use Rattle.printers.specs.Records.{opened_by, opened_numbers}
-use Rattle.printers.proofs.Going.{◌onward◌, has_ended, stays, stops, room_left}
+use Rattle.printers.proofs.Going.{has_ended, stays, stops, room_left}
+use Rattle.printers.proofs.Exact.{◌exactly◌}
 use Rattle.printers.proofs.Opening.{trivia_read}
 use Rattle.printers.proofs.record.open.Goals as goal
 use Rattle.printers.proofs.record.open.Goals.{then-not-stands-via-then-not-stands, then-not-stands-via-else-not-stands+then-is_some}
@@ -11,10 +12,10 @@ use Rattle.printers.proofs.record.open.Goals.{then-not-stands-via-then-not-stand
 pub returns-then-not-stands : goal.returns-then-not-stands
 unfolding events_in opened_by opened_numbers
 returns-then-not-stands c = elim c.then-not-stands.branch [
-  | then-not-stands-via-then-not-stands w ↦ rw w.if-not-stands.true (record { opened = λ place. stays; answer = refl; room = refl; numbers = refl })
+  | then-not-stands-via-then-not-stands w ↦ rw w.if-not-stands.true (record { opened = λ place. stays; answer = refl; room = refl; held = tt; numbers = refl })
   | then-not-stands-via-else-not-stands+then-is_some w ↦
       let over = sym w.is_some.ensures ∙ w.if-is_some.true in
-      record { opened = λ place. has_ended over; answer = rw (w.if-not-stands.false, over) refl; room = refl; numbers = rw (w.if-not-stands.false, over) refl }
+      record { opened = λ place. has_ended over; answer = rw (w.if-not-stands.false, over) refl; room = refl; held = tt; numbers = rw (w.if-not-stands.false, over) refl }
 ]
 
 pub returns-in-Ok : goal.returns-in-Ok
@@ -24,11 +25,12 @@ returns-in-Ok c =
     let some = c.if-not-stands.false in
     let on = sym c.is_some.ensures ∙ c.if-is_some.false in
     let is = sym read.answer ∙ c.in-Ok.is in
-    let shown = trivia_read _ _ read.fits c.in-Ok.is (c.shown_trivia.ensures onward c.move_to.ensures) in
+    let shown = trivia_read _ _ read.fits c.in-Ok.is (c.shown_trivia.ensures exactly c.move_to.ensures) in
     record {
-      opened = (some, is, rw c.in-Ok.is at read.fits, shown);
+      opened = (some, is, rw c.in-Ok.is at read.fits, shown.goes);
       answer = rw (some, on, is) refl;
-      room = room_left shown;
+      room = room_left shown.goes;
+      held = shown.holds;
       numbers = rw (some, on) (rw c.in-Ok.is at read.numbers);
     }
 
@@ -43,5 +45,6 @@ returns-in-Err c =
       opened = λ place. rw some (stops on refl refl refl (rw refused.0 refl));
       answer = rw (some, on, is) refl;
       room = refl;
+      held = tt;
       numbers = rw (some, on) (rw c.in-Err.is at c.read_own.ensures.numbers);
     }

@@ -17,7 +17,7 @@ returns-then-not-stands c = elim c.then-not-stands.branch [
 pub returns-in-Ok : goal.returns-in-Ok
 returns-in-Ok c =
     let passed = skip_passed _ _ _ _ _ (sym c.skip.ensures.answer ∙ c.in-Ok.is) in
-    rw c.if-not-stands.false (there c.move_to.ensures (ap stop_at (sym passed.0)) passed.1)
+    rw c.if-not-stands.false (there c.move_to.ensures.goes (ap stop_at (sym passed.0)) passed.1)
 
 pub returns-in-Err : goal.returns-in-Err
 returns-in-Err c =

@@ -24,7 +24,7 @@ pub loop-item-preserved : goal.loop-item-preserved
 loop-item-preserved c =
     let left = rw c.in-Some.ensures.steps at c.loop-item.invariant in
     let one = c.format_trivium.ensures in (
-      rw (tree_stays one) left.0.1,
+      rw (tree_stays one.goes) left.0.1,
       λ after rest. left.1 after
           (elim c.else-first.branch [
             | else-first-via-then-first+else-only_newline w ↦ rw w.if-first.true (first_span c.in-Some.item _ (sym w.only_newline.ensures ∙ w.if-only_newline.false) one rest)

@@ -21,7 +21,7 @@ pub loop-item-preserved : goal.loop-item-preserved
 loop-item-preserved c =
     let left = rw c.in-Some.ensures.steps at c.loop-item.invariant in
     let one = c.format_trivium.ensures in
-    (rw (tree_stays one) left.0.1, λ after rest. left.1 after (one_span c.in-Some.item _ one rest))
+    (rw (tree_stays one.goes) left.0.1, λ after rest. left.1 after (one_span c.in-Some.item _ one rest))
 
 pub returns : goal.returns
 returns c =

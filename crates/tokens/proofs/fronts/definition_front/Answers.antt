@@ -3,4 +3,4 @@ use Rattle.printers.proofs.Going.{◌onward◌}
 use Rattle.tokens.proofs.fronts.definition_front.Goals as goal
 
 pub returns : goal.returns
-returns c = c.tag_and_name.ensures onward c.push.ensures
+returns c = c.tag_and_name.ensures onward c.push.ensures.goes

@@ -13,4 +13,4 @@ pub returns : goal.returns
 unfolding events_in run
 returns c place is =
     let id = text_read _ Word _ c.args.levels _ word_leaf is in
-    ends_alike (rw part_slice at c.push_type.ensures onward c.move_to.ensures onward c.skip.ensures) (λ x. rw (id.0, ← id.1) refl) (rw (← id.1) refl)
+    ends_alike (rw part_slice at c.push_type.ensures.goes onward c.move_to.ensures.goes onward c.skip.ensures) (λ x. rw (id.0, ← id.1) refl) (rw (← id.1) refl)

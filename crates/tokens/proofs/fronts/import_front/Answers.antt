@@ -5,5 +5,5 @@ use Rattle.tokens.proofs.fronts.import_front.Goals as goal
 
 pub returns : goal.returns
 returns c =
-    c.format_leaf.ensures.leaf word_leaf onward c.push.ensures onward c.format_arguments.ensures onward c.push-2.ensures
-    onward c.format_leaf-2.ensures.leaf word_leaf onward c.push-3.ensures onward c.format_string.ensures onward c.spc_if_next.ensures
+    c.format_leaf.ensures.leaf word_leaf onward c.push.ensures.goes onward c.format_arguments.ensures onward c.push-2.ensures.goes
+    onward c.format_leaf-2.ensures.leaf word_leaf onward c.push-3.ensures.goes onward c.format_string.ensures onward c.spc_if_next.ensures.goes

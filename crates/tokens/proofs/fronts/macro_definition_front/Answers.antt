@@ -6,4 +6,4 @@ use Rattle.tokens.proofs.fronts.macro_definition_front.Goals as goal
 pub returns : goal.returns
 returns c =
     c.tag_and_name.ensures onward c.format_leaf.ensures.leaf char_leaf onward c.format_arguments.ensures
-    onward c.format_leaf-2.ensures.leaf char_leaf onward c.spc_if_next.ensures
+    onward c.format_leaf-2.ensures.leaf char_leaf onward c.spc_if_next.ensures.goes

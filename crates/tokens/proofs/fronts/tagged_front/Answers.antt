@@ -7,4 +7,4 @@ use Rattle.tokens.proofs.fronts.tagged_front.Goals as goal
 
 pub returns : goal.returns
 unfolding built field_trees fields_end events_in
-returns c = c.format_tagged.ensures onward c.push.ensures
+returns c = c.format_tagged.ensures onward c.push.ensures.goes

@@ -10,4 +10,4 @@ use Rattle.tokens.proofs.plain.format_assert.Goals as goal
 
 pub returns : goal.returns
 unfolding built field_trees fields_end events_in bit_at run
-returns c = rw (← c.stands.ensures) (runs_alike (c.format_tagged.ensures onward c.spc_if_next.ensures onward c.format_string.ensures) (λ x. refl))
+returns c = rw (← c.stands.ensures) (runs_alike (c.format_tagged.ensures onward c.spc_if_next.ensures.goes onward c.format_string.ensures) (λ x. refl))

@@ -14,6 +14,6 @@ pub returns : goal.returns
 unfolding built field_trees fields_end events_in run
 returns c =
     let values = ends_alike {others = λ page at. value_events page.context (read c.args.levels page.tree) c.args.printer.now.at} {behind = λ page at. at}
-    (c.push.ensures onward c.move_to.ensures onward c.format_arguments.ensures onward c.move_to-2.ensures) (λ x. refl) refl
+    (c.push.ensures.goes onward c.move_to.ensures.goes onward c.format_arguments.ensures onward c.move_to-2.ensures.goes) (λ x. refl) refl
     in
     there (c.skip.ensures onward c.format_leaf.ensures.leaf data_size_leaf onward values) refl refl

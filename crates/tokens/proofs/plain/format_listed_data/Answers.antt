@@ -13,5 +13,5 @@ pub returns : goal.returns
 unfolding events_in run
 returns c place is =
     let size = text_read _ DataSize _ _ _ data_size_leaf is in
-    ends_alike (rw part_slice at c.push_text.ensures onward c.push.ensures onward c.format_arguments.ensures onward c.move_to.ensures)
+    ends_alike (rw part_slice at c.push_text.ensures.goes onward c.push.ensures.goes onward c.format_arguments.ensures onward c.move_to.ensures.goes)
     (λ x. rw size.0 refl) (sym size.1)

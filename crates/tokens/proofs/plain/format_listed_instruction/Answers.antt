@@ -16,12 +16,12 @@ use Rattle.tokens.proofs.plain.format_listed_instruction.Goals.{then-stands, els
 pub returns : goal.returns
 unfolding events_in run
 returns c place is =
-    let text = runs_alike (rw part_slice at c.push_text.ensures onward c.move_to.ensures) (λ x. refl) in
+    let text = runs_alike (rw part_slice at c.push_text.ensures.goes onward c.move_to.ensures.goes) (λ x. refl) in
     let head = text_there Mnemonic _ mnemonic _ place mnemonic_leaf is text in
     elim c.if-stands.branch [
       | then-stands w ↦
           rw (← c.stands.ensures, w.if-stands.true)
-          (head onward w.spc_if_next.ensures onward w.format_operand.ensures onward (rw w.printer-is at c.clear_spc_if_next.ensures))
+          (head onward w.spc_if_next.ensures.goes onward w.format_operand.ensures onward (rw w.printer-is at c.clear_spc_if_next.ensures.goes))
       | else-stands w ↦
-          rw (← c.stands.ensures, w.if-stands.false) (runs_alike (head onward (rw w.printer-is at c.clear_spc_if_next.ensures)) (λ x. taken_back _))
+          rw (← c.stands.ensures, w.if-stands.false) (runs_alike (head onward (rw w.printer-is at c.clear_spc_if_next.ensures.goes)) (λ x. taken_back _))
     ]

@@ -9,5 +9,5 @@ use Rattle.tokens.proofs.plain.format_program_counter_definition.Goals as goal
 pub returns : goal.returns
 unfolding built field_trees fields_end events_in
 returns c =
-    c.format_leaf.ensures.leaf char_leaf onward c.push.ensures onward c.format_leaf-2.ensures.leaf char_leaf
-    onward c.push-2.ensures onward c.format_expression.ensures
+    c.format_leaf.ensures.leaf char_leaf onward c.push.ensures.goes onward c.format_leaf-2.ensures.leaf char_leaf
+    onward c.push-2.ensures.goes onward c.format_expression.ensures

@@ -8,4 +8,4 @@ use Rattle.tokens.proofs.plain.format_tagged.Goals as goal
 
 pub returns : goal.returns
 unfolding built field_trees fields_end events_in
-returns c = c.format_leaf.ensures.leaf word_leaf onward c.push.ensures onward c.format_expression.ensures
+returns c = c.format_leaf.ensures.leaf word_leaf onward c.push.ensures.goes onward c.format_expression.ensures

@@ -12,5 +12,5 @@ pub returns : goal.returns
 unfolding built field_trees fields_end events_in bit_at read
 returns c =
     rw (← c.stands.ensures)
-    (c.format_leaf.ensures.leaf word_leaf onward c.spc_if_next.ensures onward c.format_optional_leaf.ensures.leaf text_encoding_leaf
-    onward c.spc_if_next-2.ensures onward c.format_expression.ensures)
+    (c.format_leaf.ensures.leaf word_leaf onward c.spc_if_next.ensures.goes onward c.format_optional_leaf.ensures.leaf text_encoding_leaf
+    onward c.spc_if_next-2.ensures.goes onward c.format_expression.ensures)

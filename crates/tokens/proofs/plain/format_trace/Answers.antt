@@ -11,5 +11,5 @@ pub returns : goal.returns
 unfolding built field_trees fields_end events_in bit_at
 returns c =
     rw (← c.stands.ensures, ← c.stands-2.ensures)
-    (c.format_leaf.ensures.leaf word_leaf onward c.spc_if_next.ensures onward c.format_optional_leaf.ensures.leaf char_leaf
+    (c.format_leaf.ensures.leaf word_leaf onward c.spc_if_next.ensures.goes onward c.format_optional_leaf.ensures.leaf char_leaf
     onward c.format_arguments.ensures onward c.format_optional_leaf-2.ensures.leaf char_leaf)

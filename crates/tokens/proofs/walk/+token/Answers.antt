@@ -45,7 +45,7 @@ format_block-returns t c =
     let is = c.in-Some.is in
     let further_in = c.deeper-printer.ensures ∙ ap deeper (context_stays c.open_block.ensures) in
     let listed = on_page _ (rw further_in at c.format_tokens.ensures) in
-    let closing = c.trim_newlines.ensures onward c.push.ensures onward c.format_leaf.ensures.leaf close_brace_leaf in
+    let closing = c.trim_newlines.ensures.goes onward c.push.ensures.goes onward c.format_leaf.ensures.leaf close_brace_leaf in
     opened_kind c.open.ensures is (leaf plain) variant.Block (opened_one c.open.ensures is variant.Block refl refl refl) refl
     (there (c.open_block.ensures onward listed onward closing) refl refl)
 

@@ -7,7 +7,7 @@ use Rattle.tokens.proofs.walk.format_else.Goals as goal
 
 pub returns-in-SameLine : goal.returns-in-SameLine
 returns-in-SameLine c =
-    at_position else_front c.in-SameLine.is (c.push.ensures onward c.format_leaf.ensures.leaf word_leaf onward c.push-in-SameLine.ensures)
+    at_position else_front c.in-SameLine.is (c.push.ensures.goes onward c.format_leaf.ensures.leaf word_leaf onward c.push-in-SameLine.ensures.goes)
 
 pub returns-in-NewLine : goal.returns-in-NewLine
-returns-in-NewLine c = at_position else_front c.in-NewLine.is (c.push-in-NewLine.ensures onward c.format_leaf-in-NewLine.ensures.leaf word_leaf)
+returns-in-NewLine c = at_position else_front c.in-NewLine.is (c.push-in-NewLine.ensures.goes onward c.format_leaf-in-NewLine.ensures.leaf word_leaf)
