@@ -28,8 +28,8 @@ const UNSTORABLE: usize = 1048577;
 
 // A walk over a tree: what it reads and where it writes, how deep it stands, the used length of the room, the end of
 // the last chunk that is not exactly a newline, whether a space goes before the next text, the place that is read next,
-// and why the walk ended. Where it has ended nothing is printed or read any more; that a space is pending, that newlines
-// are dropped and the place are still set, as in a full state.
+// and why the walk ended. Where it has ended nothing is printed or read any more; a pending space, dropped newlines and
+// the place are still noted, as in a full state.
 #[derive(Drop)]
 pub struct Printer<'a> {
     pub tree: &'a [u8],
