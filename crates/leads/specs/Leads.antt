@@ -20,12 +20,23 @@ use Rattle.events.specs.Refusals.{head_refusal}
 use Rattle.events.specs.Trees.{stop_at, list_trivia, Before, first, behind, break_before}
 use Rattle.printers.specs.Going.{Page, answer_of, run_of, Goes, Holds}
 use Rattle.printers.specs.declared.Printer.{Printer}
+use Rattle.leads.specs.declared.Before as code
 use Rattle.leads.specs.declared.Lead.{Lead}
 
 -- what stood before, by the kind of the token before in the list
 abbrev pub before_of : Option Kind → Before
 before_of None = first
 before_of (Some kind) = behind (kind_number kind)
+
+-- and by the number of its kind
+abbrev pub before_said : code.Before → Before
+before_said said = cond said.first first (behind said.previous)
+
+-- two that the newline rule takes for the same, before a token of whatever kind
+abbrev pub BreaksAlike : Before → Before → Type 0
+BreaksAlike one other =
+    (context : Context) → (kind : Kind) → (block : Bool)
+    → break_before context one (kind_number kind) block ≡ break_before context other (kind_number kind) block
 
 -- the trivia of a token's head, and a newline by the rule
 abbrev pub lead_in : Context → Bool → Before → Tree → Events

@@ -10,7 +10,7 @@ ghost use Rattle.events.specs.Views.{block_bit};
 ghost use Rattle.events.specs.Trees as Trees;
 ghost use Rattle.leaves.specs.Items.{items_at};
 ghost use Rattle.printers.specs.Going.{Goes, GoesExact};
-ghost use Rattle.leads.specs.Leads.{before_of, token_read, LeadsIn};
+ghost use Rattle.leads.specs.Leads.{before_of, before_said, BreaksAlike, token_read, LeadsIn};
 
 use answers::Refusal;
 use printers::{Printer, record, trivia};
@@ -18,11 +18,43 @@ use tree::grammar::{Class, Kind};
 use tree::own::Own;
 use tree::{own, parts};
 
+// What stood before a token in its list: whether it is the first, and the number of the kind of the one before.
+#[derive(Clone, Copy)]
+pub struct Before {
+    pub first: bool,
+    pub previous: usize,
+}
+
+impl Before {
+    // The same as the printers below ask for it: the kind of the one before, none before the first.
+    pub fn stood(self) -> Option<Kind>
+        ensures { BreaksAlike (before_said self) (before_of result) }
+    {
+        if self.first {
+            return None;
+        }
+        Some(kind_before(self.previous))
+    }
+}
+
 // A token whose lead-in was printed: its own bytes, and those of its head.
 #[derive(Clone, Copy)]
 pub struct Lead {
     pub token: Own,
     pub head: Own,
+}
+
+// The kind of a number. One of no kind is like an `Error`, which is of no group, before every token.
+fn kind_before(number: usize) -> Kind
+    ensures { BreaksAlike (Trees.behind number) (Trees.behind (kind_number result)) }
+{
+    if 255 < number {
+        return Kind::Error;
+    }
+    match Kind::of_byte(number as u8) {
+        Some(kind) => kind,
+        None => Kind::Error,
+    }
 }
 
 // Whether a newline stands between two tokens of the same kind.
