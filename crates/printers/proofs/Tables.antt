@@ -10,9 +10,11 @@ use Rattle.text.specs.Literals.{ascii}
 use Rattle.options.specs.Casings.{cased}
 use Rattle.options.specs.declared.Casing.{Casing}
 use Rattle.printing.specs.declared.Context.{Context}
+use Rattle.events.specs.Printed.{mnemonics, registers, operators, data_sizes, encodings, variable_types, number_types, modifiers}
 use Rattle.events.specs.Printed.{Style, plain, mnemonic, register, operator, data_size, encoding, variable_type, number_type, modifier, printed}
 use Rattle.events.specs.Trees.{word}
 use Rattle.printers.specs.declared.Printer.{Printer}
+use Rattle.printers.specs.declared.texts.TheConstants.{MNEMONICS, REGISTERS, OPERATORS, DATA_SIZES, ENCODINGS, VARIABLE_TYPES, NUMBER_TYPES, MODIFIERS}
 use Rattle.printers.specs.Going.{GoesExact}
 use Rattle.printers.proofs.Exact.{exact_there}
 
@@ -61,3 +63,45 @@ module _ {before after : Printer} (text : List ℕ) {index : ℕ} (style : Style
     cased_goes casing prints goes =
         let whole = starts text first in
         exact_there goes (ap (word before.context) (rw (whole.1, prints whole.0) (ap (cased casing) (entry_of table index tied)))) refl
+
+-- ---- the tables of the code are those of the definition
+
+-- the names of the mnemonics are three letters each
+pub mnemonic_names : MNEMONICS ≡ map ascii mnemonics
+unfolding ascii mnemonics
+mnemonic_names = refl
+
+-- those of the registers are one letter each
+pub register_names : REGISTERS ≡ map ascii registers
+unfolding ascii registers
+register_names = refl
+
+-- the operators, of one or two bytes
+pub operator_texts : map (λ text. text.now) OPERATORS ≡ map ascii operators
+unfolding ascii operators
+operator_texts = refl
+
+-- the sizes of data
+pub data_size_texts : map (λ text. text.now) DATA_SIZES ≡ map ascii data_sizes
+unfolding ascii data_sizes
+data_size_texts = refl
+
+-- the encodings, of which the last has no text
+pub encoding_texts : map (λ text. text.now) ENCODINGS ≡ map ascii encodings
+unfolding ascii encodings
+encoding_texts = refl
+
+-- the ways to define a variable
+pub variable_type_texts : map (λ text. text.now) VARIABLE_TYPES ≡ map ascii variable_types
+unfolding ascii variable_types
+variable_type_texts = refl
+
+-- the signs of bases, of which decimal has none
+pub number_type_texts : map (λ text. text.now) NUMBER_TYPES ≡ map ascii number_types
+unfolding ascii number_types
+number_type_texts = refl
+
+-- the modifiers of an address
+pub modifier_texts : map (λ text. text.now) MODIFIERS ≡ map ascii modifiers
+unfolding ascii modifiers
+modifier_texts = refl

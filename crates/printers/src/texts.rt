@@ -39,6 +39,18 @@ static OPERATORS: [&str; 16] = [
     "+", "-", "*", "/", "%", "<<", ">>", "^", "==", "!=", ">", ">=", "<", "<=", "&&", "||",
 ];
 
+static DATA_SIZES: [&str; 3] = [".byte", ".word", ".dword"];
+
+// A text without an encoding prints none.
+static ENCODINGS: [&str; 4] = ["ascii", "petscii", "petscreen", ""];
+
+static VARIABLE_TYPES: [&str; 2] = [".const", ".var"];
+
+// Nor has a decimal number a sign.
+static NUMBER_TYPES: [&str; 3] = ["$", "", "%"];
+
+static MODIFIERS: [&str; 2] = [">", "<"];
+
 // Pushes the text of an index in a casing; past the last there is none.
 fn push_cased<const N: usize>(
     printer: &mut Printer,
@@ -86,10 +98,10 @@ pub fn push_text(printer: &mut Printer, style: Style, text: &[u8])
         Style::Mnemonic => push_cased(printer, &MNEMONICS, index, chosen.casing),
         Style::Register => push_cased(printer, &REGISTERS, index, chosen.register_casing),
         Style::Operator => push_entry(printer, &OPERATORS, index),
-        Style::DataSize => push_entry(printer, &[".byte", ".word", ".dword"], index),
-        Style::Encoding => push_entry(printer, &["ascii", "petscii", "petscreen", ""], index),
-        Style::VariableType => push_entry(printer, &[".const", ".var"], index),
-        Style::NumberType => push_entry(printer, &["$", "", "%"], index),
-        Style::Modifier => push_entry(printer, &[">", "<"], index),
+        Style::DataSize => push_entry(printer, &DATA_SIZES, index),
+        Style::Encoding => push_entry(printer, &ENCODINGS, index),
+        Style::VariableType => push_entry(printer, &VARIABLE_TYPES, index),
+        Style::NumberType => push_entry(printer, &NUMBER_TYPES, index),
+        Style::Modifier => push_entry(printer, &MODIFIERS, index),
     }
 }
