@@ -81,6 +81,12 @@ pub const BARE_CHARACTER: Leaf = Leaf {
     shown: false,
 };
 
+pub const MNEMONIC: Leaf = Leaf {
+    class: Class::Mnemonic,
+    style: Style::Mnemonic,
+    shown: false,
+};
+
 pub const DATA_SIZE: Leaf = Leaf {
     class: Class::DataSize,
     style: Style::DataSize,
