@@ -1,6 +1,6 @@
 -- Printers one behind the other with the state by itself, also where a chunk did not fit.
 use mathlib.Core.Path.{◌≡◌, refl, sym, ap, subst, ◌∙◌}
-use mathlib.Core.List.{List, []}
+use mathlib.Core.List.{List}
 use mathlib.Core.Bool.{Bool}
 use Prim.Native.Nat.{ℕ}
 use native.Mathlib.Omega.{arith}
@@ -11,11 +11,10 @@ use Rattle.chunks.specs.declared.append.Unappended.TheVariants.{NoRoom, NoChunk,
 use Rattle.chunks.specs.declared.stored.ChunkType.{ChunkType}
 use Rattle.printing.specs.Events.{Events, nothing, push, ◌▹◌}
 use Rattle.printing.specs.Running.{State, Run, going, run, at_start, filled, behind}
-use Rattle.printing.specs.declared.Context.{Context}
 use Rattle.printing.proofs.Pushing.{full_not_pushed}
 use Rattle.printing.proofs.Running.{ran_push}
 use Rattle.printers.specs.declared.Printer.{Printer}
-use Rattle.printers.specs.Going.{Page, page_of, ByRoom, lacking, held_of, Goes, Holds, GoesExact}
+use Rattle.printers.specs.Going.{Page, page_of, ByRoom, lacking, held_of, GoesExact}
 use Rattle.printers.proofs.Going.{◌onward◌, there, runs_alike, has_ended, stays}
 
 -- ---- the length that did not fit

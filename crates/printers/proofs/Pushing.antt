@@ -15,7 +15,6 @@ use Rattle.chunks.specs.Appending.{with_space, unstorable, capacity, appended, r
 use Rattle.chunks.specs.declared.append.Unappended.{Unappended}
 use Rattle.chunks.specs.declared.append.Unappended.TheVariants.{NoRoom, NoChunk, UsedPastRoom}
 use Rattle.chunks.specs.declared.stored.ChunkType.{ChunkType}
-use Rattle.chunks.specs.declared.stored.ChunkType.TheVariants.{Code}
 use Rattle.printing.specs.Events.{push}
 use Rattle.printing.specs.Running.{State, at_start, going, behind}
 use Rattle.printing.proofs.Pushing.{full_not_pushed, empty_not_pushed, is_pushed}
