@@ -10,6 +10,7 @@ use Rattle.std.specs.Prelude.{Option, Result, Some, None, Ok, Err}
 use Rattle.std.proofs.Common.{is_some}
 use Rattle.answers.specs.declared.Refusal.{Refusal}
 use Rattle.text.proofs.Choices.{by_test}
+use Rattle.tree.specs.Kinds as kinds
 use Rattle.tree.specs.Grammar.{all_kinds, kind_of, kind_number}
 use Rattle.tree.specs.declared.grammar.Kind.{Kind}
 use Rattle.tree.specs.declared.grammar.Kind.TheVariants as variant
@@ -39,7 +40,7 @@ past_kinds number past = let long : length (map Some all_kinds) ≤ number = ome
 
 -- the rule behind a token that it names nowhere, before one of another kind
 abbrev plainly : Kind → Bool → Bool
-plainly kind block = not (eqb (kind_number kind) 8) && cond (eqb (kind_number kind) 14) (block || false) true
+plainly kind block = not (eqb (kind_number kind) kinds.error) && cond (eqb (kind_number kind) kinds.label) (block || false) true
 
 -- behind an `Error`
 error_breaks : (kind : Kind) (block : Bool) → plainly kind block ≡ breaks (kind_number variant.Error) (kind_number kind) block
