@@ -18,7 +18,7 @@ use Rattle.printing.specs.declared.Context.{Context}
 use Rattle.events.specs.Views.{head_trivia, token_number, has_block}
 use Rattle.events.specs.Refusals.{head_refusal}
 use Rattle.events.specs.Trees.{stop_at, list_trivia, Before, first, behind, break_before}
-use Rattle.printers.specs.Going.{Page, answer_of, run_of, Goes, Holds}
+use Rattle.printers.specs.Going.{Page, answer_of, run_of, Goes, Keeps}
 use Rattle.printers.specs.declared.Printer.{Printer}
 use Rattle.leads.specs.declared.Before as code
 use Rattle.leads.specs.declared.Lead.{Lead}
@@ -83,10 +83,10 @@ lead_room before drops stood levels (Some lead) =
     room_of (settled (run (lead_in before.context drops stood (read levels before.tree.now BareToken before.at).tree) (run_of before)))
 
 -- and the state behind its lead-in is what that leaves, full or not
-abbrev pub HoldsLead : Printer → Printer → Bool → Before → ℕ → Option Lead → Type 0
-HoldsLead before after drops stood levels None = Unit
-HoldsLead before after drops stood levels (Some lead) =
-    Holds before after (λ page at. lead_in page.context drops stood (read levels page.tree BareToken at).tree) (λ page at. lead.token.end)
+abbrev pub KeepsLead : Printer → Printer → Bool → Before → ℕ → Option Lead → Type 0
+KeepsLead before after drops stood levels None = Unit
+KeepsLead before after drops stood levels (Some lead) =
+    Keeps before after (λ page at. lead_in page.context drops stood (read levels page.tree BareToken at).tree) (λ page at. lead.token.end)
 
 -- in document 01's numbers: 0 with the place behind the token's own bytes, or those of the answer
 abbrev pub numbers_lead : Option Lead → Printer → ℕ × ℕ
@@ -105,5 +105,5 @@ pub record LeadsIn (before after : Printer) (drops : Bool) (stood : Before) (lev
   pub leads : LeadsAs before after drops stood levels lead
   pub answer : lead ≡ lead_by before levels
   pub room : after.room.now ≡ lead_room before drops stood levels lead
-  pub held : HoldsLead before after drops stood levels lead
+  pub held : KeepsLead before after drops stood levels lead
   pub numbers : numbers_lead lead after ≡ lead_numbers before levels

@@ -52,14 +52,14 @@ unfolding run
     let same = one.goes.page in
     record {
       goes = one.goes onward other.goes;
-      holds = record {
+      keeps = record {
         state = λ by_room.
-            let on = other.holds.state (one.holds.by_room by_room) in
+            let on = other.keeps.state (one.keeps.by_room by_room) in
             let here = subst (λ (page : Page). run (next page between.at) start ≡ left) same on in
-            let placed = subst (λ (at : ℕ). run (next (page_of before) at) start ≡ left) one.holds.place here in
-            ap (run (next (page_of before) (end (page_of before) before.at))) (one.holds.state by_room) ∙ placed;
-        by_room = λ by_room. other.holds.by_room (one.holds.by_room by_room);
-        place = other.holds.place ∙ ap (λ (page : Page). behind page between.at) same ∙ ap (behind (page_of before)) one.holds.place;
+            let placed = subst (λ (at : ℕ). run (next (page_of before) at) start ≡ left) one.keeps.place here in
+            ap (run (next (page_of before) (end (page_of before) before.at))) (one.keeps.state by_room) ∙ placed;
+        by_room = λ by_room. other.keeps.by_room (one.keeps.by_room by_room);
+        place = other.keeps.place ∙ ap (λ (page : Page). behind page between.at) same ∙ ap (behind (page_of before)) one.keeps.place;
       };
     }
 
@@ -69,10 +69,10 @@ pub exact_there : {before after : Printer} {events others : Page → ℕ → Eve
     → GoesExact before after others behind
 exact_there {before} done same placed = record {
   goes = there done.goes same placed;
-  holds = record {
-    state = λ by_room. ap (λ events. run events (going before.room.now (held_of before))) (sym same) ∙ done.holds.state by_room;
-    by_room = done.holds.by_room;
-    place = done.holds.place ∙ placed;
+  keeps = record {
+    state = λ by_room. ap (λ events. run events (going before.room.now (held_of before))) (sym same) ∙ done.keeps.state by_room;
+    by_room = done.keeps.by_room;
+    place = done.keeps.place ∙ placed;
   };
 }
 
@@ -81,10 +81,10 @@ pub exact_alike : {before after : Printer} {events others : Page → ℕ → Eve
     → ((x : Run) → run (events (page_of before) before.at) x ≡ run (others (page_of before) before.at) x) → GoesExact before after others end
 exact_alike {before} done same = record {
   goes = runs_alike done.goes same;
-  holds = record {
-    state = λ by_room. sym (same (going before.room.now (held_of before))) ∙ done.holds.state by_room;
-    by_room = done.holds.by_room;
-    place = done.holds.place;
+  keeps = record {
+    state = λ by_room. sym (same (going before.room.now (held_of before))) ∙ done.keeps.state by_room;
+    by_room = done.keeps.by_room;
+    place = done.keeps.place;
   };
 }
 
@@ -92,14 +92,14 @@ exact_alike {before} done same = record {
 
 pub exact_stays : {printer : Printer} → GoesExact printer printer (λ page at. nothing) (λ page at. at)
 unfolding run
-exact_stays = record { goes = stays; holds = record { state = λ by_room. refl; by_room = λ by_room. by_room; place = refl } }
+exact_stays = record { goes = stays; keeps = record { state = λ by_room. refl; by_room = λ by_room. by_room; place = refl } }
 
 -- nothing is pushed where the walk has ended
 pub over_exact : {printer : Printer} {ty : ChunkType} {text : List ℕ} → is_some printer.ended ≡ true
     → GoesExact printer printer (λ page at. push ty page.context text) (λ page at. at)
 over_exact {printer} {ty} {text} some = record {
   goes = has_ended some;
-  holds = record {
+  keeps = record {
     state = λ by_room. (ran_push (full_not_pushed printer.room.now (held_of printer) ty printer.context text (lacks_some printer.ended some by_room))).ran;
     by_room = λ by_room. by_room;
     place = refl;

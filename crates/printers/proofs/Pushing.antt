@@ -71,7 +71,7 @@ empty_pushed {printer} {ty} {text} empty =
     let held = held_of printer in
     record {
       goes = steps refl refl refl (ran_push (empty_not_pushed room (state_of printer) ty page.context (text page) refl empty)) refl;
-      holds = record {
+      keeps = record {
         state = λ by_room.
             by_test (eqb held.full 0)
             (λ left. (ran_push (empty_not_pushed room held ty page.context (text page) (eqb-true _ _ left) empty)).ran)

@@ -68,7 +68,7 @@ abbrev pub held_of : Printer → State
 held_of printer = record { used = printer.used; solid = printer.solid; spaced = printer.spaced; full = lacking printer.ended }
 
 -- the events leave this state too, full or not: a full one is only told of spaces and of newlines that are dropped
-pub record Holds (before after : Printer) (events : Page → ℕ → Events) (end : Page → ℕ → ℕ) : Type 0 where
+pub record Keeps (before after : Printer) (events : Page → ℕ → Events) (end : Page → ℕ → ℕ) : Type 0 where
   pub state : ByRoom before.ended → run (events (page_of before) before.at) (going before.room.now (held_of before)) ≡ going after.room.now (held_of after)
   pub by_room : ByRoom before.ended → ByRoom after.ended
   pub place : after.at ≡ end (page_of before) before.at
@@ -76,4 +76,4 @@ pub record Holds (before after : Printer) (events : Page → ℕ → Events) (en
 -- both
 pub record GoesExact (before after : Printer) (events : Page → ℕ → Events) (end : Page → ℕ → ℕ) : Type 0 where
   pub goes : Goes before after events end
-  pub holds : Holds before after events end
+  pub keeps : Keeps before after events end

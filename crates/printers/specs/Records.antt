@@ -16,7 +16,7 @@ use Rattle.events.specs.Printed.{Style, plain}
 use Rattle.events.specs.Trees.{Place, leaf, trivia_events, skipping, events_in}
 use Rattle.leaves.specs.Leaves.{own_events}
 use Rattle.leaves.specs.Records.{field_trees, fields_end}
-use Rattle.printers.specs.Going.{answer_of, run_of, Goes, Holds}
+use Rattle.printers.specs.Going.{answer_of, run_of, Goes, Keeps}
 use Rattle.printers.specs.declared.Printer.{Printer}
 
 -- the record of a class
@@ -73,10 +73,10 @@ opened_room before shown (Some own) =
     room_of (settled (run (cond shown (trivia_events before.context (trivia_of before.tree.now own)) nothing) (run_of before)))
 
 -- and the state behind its trivia is what they leave, full or not
-abbrev pub HoldsOpened : Printer → Printer → Bool → Option Own → Type 0
-HoldsOpened before after shown None = Unit
-HoldsOpened before after shown (Some own) =
-    Holds before after (λ page at. cond shown (trivia_events page.context (trivia_of page.tree own)) nothing) (λ page at. own.end)
+abbrev pub KeepsOpened : Printer → Printer → Bool → Option Own → Type 0
+KeepsOpened before after shown None = Unit
+KeepsOpened before after shown (Some own) =
+    Keeps before after (λ page at. cond shown (trivia_events page.context (trivia_of page.tree own)) nothing) (λ page at. own.end)
 
 -- in document 01's numbers: 0 with the place behind the own bytes, or those of the answer
 abbrev pub numbers_opened : Option Own → Printer → ℕ × ℕ
@@ -91,7 +91,7 @@ pub record Opens (before after : Printer) (shown : Bool) (levels : ℕ) (class :
   pub opened : OpensAs before after shown levels class stands found
   pub answer : found ≡ opened_by before levels class stands
   pub room : after.room.now ≡ opened_room before shown found
-  pub held : HoldsOpened before after shown found
+  pub held : KeepsOpened before after shown found
   pub numbers : numbers_opened found after ≡ opened_numbers before levels class stands
 
 -- ---- a record that is skipped

@@ -25,7 +25,7 @@ returns-in-Ok c =
       leads = (is, done.goes);
       answer = rw (on, is) refl;
       room = room_left done.goes;
-      held = done.holds;
+      held = done.keeps;
       numbers = rw on (token_numbers _ _ _ is);
     }
 

@@ -28,7 +28,7 @@ returns-after-newline c =
     (sym c.in-Ok.is ∙ c.append_chunk.ensures.answer) c.append_chunk.ensures.room moved in
     record {
       goes = goes_on next on refl refl ran (not_over self.ended _ on) refl;
-      holds = record { state = λ by_room. rw (lacks_none self.ended on) ran.ran; by_room = λ by_room. by_room; place = refl };
+      keeps = record { state = λ by_room. rw (lacks_none self.ended on) ran.ran; by_room = λ by_room. by_room; place = refl };
     }
 
 pub returns-in-Err : goal.returns-in-Err
@@ -42,7 +42,7 @@ returns-in-Err c =
     let some = needs_some _ _ _ _ answered in
     record {
       goes = full_there on refl refl ran (needs (state_of self) newline c.in-Err.why) some (rw c.refused.ensures refl);
-      holds = record {
+      keeps = record {
         state = λ by_room. rw (lacks_none self.ended on, c.refused.ensures) (left_filled (state_of self) newline c.in-Err.why ran.ran);
         by_room = λ by_room. rw c.refused.ensures (refl, some);
         place = refl;

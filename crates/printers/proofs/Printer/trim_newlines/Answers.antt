@@ -8,5 +8,5 @@ pub returns : goal.returns
 unfolding run
 returns c = record {
   goes = steps refl refl refl (record { ran = refl }) refl;
-  holds = record { state = λ by_room. refl; by_room = λ by_room. by_room; place = refl };
+  keeps = record { state = λ by_room. refl; by_room = λ by_room. by_room; place = refl };
 }

@@ -30,7 +30,7 @@ returns-in-Ok c =
       opened = (some, is, rw c.in-Ok.is at read.fits, shown.goes);
       answer = rw (some, on, is) refl;
       room = room_left shown.goes;
-      held = shown.holds;
+      held = shown.keeps;
       numbers = rw (some, on) (rw c.in-Ok.is at read.numbers);
     }
 
