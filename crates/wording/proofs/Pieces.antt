@@ -8,7 +8,7 @@ use native.Mathlib.Numerals.{sub-one}
 use lib.ListN.{length, get_or, get_or-map, get_or-append}
 use lib.Dec.{ltb}
 use lib.Seq.{get_or-append_right}
-use borrow.Author.Tests.{lt-ltb, le-ltb, ltb-true, ltb-false}
+use borrow.Author.Tests.{lt-ltb, le-ltb, lt-leb, ltb-true, ltb-false}
 use Rattle.std.specs.Prelude.{Option, Some, None}
 use Rattle.std.proofs.lemmas.Grind.{common_steps}
 use Rattle.std.proofs.lemmas.List.{map_more}
@@ -67,6 +67,13 @@ unfolding put
 put_empty line =
     let same : line.used + 0 ≡ line.used = omega arith in
     by_test (fits line.buffer line.used []) (λ t. rw (t, same) refl) (λ t. rw t refl)
+
+-- no piece is put past a buffer's end
+pub past_end : (pieces : List (List ℕ)) (buffer : List ℕ) (at : ℕ) → length buffer < at → line_in buffer at ≡ puts pieces (line_in buffer at)
+unfolding puts put
+past_end [] buffer at past = refl
+past_end (piece ∷ pieces) buffer at past =
+    rw (lt-leb (at + length piece) (length buffer) (omega arith)) (past_end pieces buffer at past)
 
 -- what joins the pieces of calls
 pub ruleset joined = (common_steps, map_more, part_slice, puts_append, put_empty)

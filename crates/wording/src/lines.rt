@@ -23,6 +23,15 @@ impl<'a> Line<'a> {
         Line { buffer, used: 0 }
     }
 
+    // A line that holds what stands in a buffer up to a place.
+    pub(crate) fn resumed(buffer: &'a mut [u8], used: usize) -> Line<'a>
+        requires { used ≤ length buffer.old }
+        ensures line { line_of result ≡ line_in buffer.old used }
+        ensures lender { lender_of result ≡ buffer.entry.ghost_name }
+    {
+        Line { buffer, used }
+    }
+
     // How much of the buffer is used.
     pub fn used(&self) -> usize
         ensures used { result ≡ (line_of self.now).used }
