@@ -9,6 +9,11 @@ pub record AreAllOf (tree : List ℕ) (uses : Uses) : Type 0 where
   pub same_tree : uses.tree.now ≡ tree
   pub from_start : uses.from ≡ 0
 
+-- those at or after an offset
+pub record AreSince (offset : ℕ) (tree : List ℕ) (uses : Uses) : Type 0 where
+  pub same_tree : uses.tree.now ≡ tree
+  pub from_offset : uses.from ≡ offset
+
 -- a record with its letters is what `lost` tells from the offset that was come to, and the search goes on behind it; an
 -- offset has two bytes
 pub record IsTold (before after : Uses) (found : Loss) : Type 0 where

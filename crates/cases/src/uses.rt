@@ -1,7 +1,7 @@
 // The records of a tree that use one of the eight places, in the order in which they are stored.
 ghost use Rattle.std.specs.Prelude.{◌-◌};
 ghost use Rattle.std.specs.Iterator.{at_most};
-ghost use Rattle.cases.specs.Uses.{AreAllOf, TellsUse};
+ghost use Rattle.cases.specs.Uses.{AreAllOf, AreSince, TellsUse};
 
 use losses::Loss;
 
@@ -18,6 +18,13 @@ impl<'a> Uses<'a> {
         ensures { AreAllOf tree.now result }
     {
         Uses { tree, from: 0 }
+    }
+
+    // Those of a tree at or after an offset; none of one that is refused.
+    pub fn since(tree: &'a [u8], from: usize) -> Uses<'a>
+        ensures { AreSince from tree.now result }
+    {
+        Uses { tree, from }
     }
 }
 

@@ -167,12 +167,17 @@ fn note_places(noted: &mut [usize; 8], record: usize, letters: usize) {
 // A case of the search for lost comments: for each place the offset of its first record plus 1, or 0.
 fn answer_lost(out: &mut impl Write, bytes: &[u8], text: &[u8]) -> io::Result<()> {
     let flag = flag_of(text, 0, b"");
-    if let Err(refusal) = losses::lost(bytes, 0) {
-        return write_head(out, Err(refusal), flag);
-    }
+    let found = match losses::lost(bytes, 0) {
+        Ok(found) => found,
+        Err(refusal) => return write_head(out, Err(refusal), flag),
+    };
     let mut noted = [0; 8];
-    for loss in Uses::of(bytes) {
-        note_places(&mut noted, loss.place + 1, loss.letters);
+    // Each search reads all of the bytes: the first was made, and those behind it are searched for from there.
+    if let Some(first) = found {
+        note_places(&mut noted, first.place + 1, first.letters);
+        for loss in Uses::since(bytes, first.place + 1) {
+            note_places(&mut noted, loss.place + 1, loss.letters);
+        }
     }
     write_head(out, Ok(32), flag)?;
     for first in noted {
