@@ -211,11 +211,15 @@ fn answer_lost(
     options: &[u8],
     room: &mut [u8],
 ) -> io::Result<()> {
-    if let Err(refusal) = losses::lost(tree, 0) {
-        return write_refusal(out, refusal, tree, options, 0, room.len());
+    match losses::lost(tree, 0) {
+        Ok(Some(_)) => {
+            write_status(out, lost_status(tree))?;
+            show_losses(out, tree, room)
+        }
+        // Each search reads the whole tree, so where the first finds nothing there is no other.
+        Ok(None) => write_status(out, 0),
+        Err(refusal) => write_refusal(out, refusal, tree, options, 0, room.len()),
     }
-    write_status(out, lost_status(tree))?;
-    show_losses(out, tree, room)
 }
 
 // Answers a case by its command.
