@@ -45,7 +45,11 @@ impl TryFrom<u8> for Command {
 
 // The exit status, which begins an answer.
 fn write_status(out: &mut impl Write, status: usize) -> io::Result<()> {
-    writeln!(out, "{status}")
+    let mut room = [0u8; 32];
+    let mut line = Line::new(&mut room);
+    line.put_number(status);
+    line.put(b"\n");
+    out.write_all(line.written())
 }
 
 // A refusal: its number is the status, and its sentence follows.
