@@ -1,5 +1,6 @@
 // Runs of bytes, stored where the text has room for them.
 ghost use Rattle.std.specs.Prelude.{◌≡◌, ◌+◌, ◌*◌, ◌<◌, ◌≤◌, length};
+ghost use Rattle.std.proofs.Math.Seq.{slice};
 ghost use Rattle.std.proofs.lemmas.List.Edits.{sets};
 ghost use Rattle.text.specs.Ink.{spaces};
 ghost use Rattle.join.specs.Walk.{step_bytes, step_length};
@@ -45,6 +46,30 @@ fn store_ends<const N: usize>(text: &mut [u8], place: usize, bytes: &[u8])
     text[place + last..place + last + N].copy_from_slice(&bytes[last..last + N]);
 }
 
+// N bytes, from a place of others on.
+#[inline(always)]
+fn store_piece<const N: usize>(text: &mut [u8], place: usize, bytes: &[u8], at: usize)
+    requires { (at + N ≤ length bytes.now) × (place + N ≤ length text.old) }
+    ensures { text.new ≡ sets text.old place (slice at (at + N) bytes.now) }
+{
+    text[place..place + N].copy_from_slice(&bytes[at..at + N]);
+}
+
+// N bytes or more: by pieces of N, the last of which may overlap the one before. No `copy_from_slice` of any length
+// stands here: by it the archive for C would need `memmove` from outside (rust/felgutrosa/README.md).
+fn store_many<const N: usize>(text: &mut [u8], place: usize, bytes: &[u8])
+    requires { (0 < N) × (N ≤ length bytes.now) × (place + length bytes.now ≤ length text.old) }
+    ensures { text.new ≡ sets text.old place bytes.now }
+{
+    let last = bytes.len() - N;
+    let mut i = 0;
+    while i < last {
+        store_piece::<N>(text, place + i, bytes, i);
+        i += N;
+    }
+    store_piece::<N>(text, place + last, bytes, last);
+}
+
 // Any bytes. Most are few: by `copy_from_slice` for every length the column setter took up to a third more
 // instructions.
 #[inline(always)]
@@ -58,7 +83,7 @@ pub(crate) fn store_bytes(text: &mut [u8], place: usize, bytes: &[u8])
         4..=8 => store_ends::<4>(text, place, bytes),
         9..=16 => store_ends::<8>(text, place, bytes),
         17..=32 => store_ends::<16>(text, place, bytes),
-        _ => text[place..place + bytes.len()].copy_from_slice(bytes),
+        _ => store_many::<16>(text, place, bytes),
     }
 }
 

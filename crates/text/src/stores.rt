@@ -9,13 +9,16 @@ fn end_in(buffer: &[u8], at: usize, count: usize) -> Option<usize>
     at.checked_add(count).filter(|end| *end <= buffer.len())
 }
 
-// Copies bytes, a part of another slice for instance, to a place of a buffer.
+// Copies bytes, a part of another slice for instance, to a place of a buffer. By `copy_from_slice`, of a length that is
+// not known when it is compiled, the archive for C would need `memmove` from outside (rust/felgutrosa/README.md).
 pub fn copy(bytes: &[u8], buffer: &mut [u8], at: usize) -> Option<usize>
     ensures answer { result ≡ stored_end buffer.old at bytes.now }
     ensures buffer { buffer.new ≡ stored_buffer buffer.old at bytes.now }
 {
     let end = end_in(buffer, at, bytes.len())?;
-    buffer[at..end].copy_from_slice(bytes);
+    for (i, byte) in bytes.iter().enumerate() {
+        buffer[at + i] = *byte;
+    }
     Some(end)
 }
 

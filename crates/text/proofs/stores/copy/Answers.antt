@@ -1,8 +1,19 @@
-use Rattle.std.proofs.Common.{rules}
-use Rattle.text.proofs.Buffers.{part_stored}
+-- The front of the bytes with one byte more is the next front.
+use mathlib.Core.Path.{◌≡◌, sym, ◌∙◌}
+use mathlib.Core.List.{[], ◌∷◌}
+use Prim.Native.Nat.{suc, ◌+◌}
+use native.Mathlib.Omega.{arith}
+use lib.ListN.{length, get_or, take}
+use lib.Seq.{length-take-le, take-suc}
+use Rattle.text.proofs.Buffers.{sets_append}
 use Rattle.text.proofs.stores.copy.Goals as goal
 
-pub returns-clause-buffer : goal.returns-clause-buffer
-returns-clause-buffer c =
-    let e = c.in_ok-end.ensures in
-    rw c.copy_from_slice.ensures.after (part_stored c.args.buffer.now c.args.bytes.now c.args.at c.in_ok-end.end (search rules) (search rules))
+pub loop-i-preserved : goal.loop-i-preserved
+loop-i-preserved c =
+    let bytes = c.args.bytes.now in
+    let i = c.loop-i.i in
+    let front = take i bytes in
+    let count : length front ≡ i = length-take-le i bytes (omega arith) in
+    let next : i + 1 ≡ suc i = omega arith in
+    rw (c.loop-i.invariant, next, take-suc bytes i 0 c.loop-i-test.true)
+    (sym (sets_append c.args.buffer.now c.args.at front (get_or bytes i 0 ∷ []) ∙ rw count))
