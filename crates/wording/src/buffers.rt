@@ -1,5 +1,6 @@
-// What is put into a line, for a caller who keeps its own buffer: each takes the buffer and the place where the line goes
-// on, and answers the place behind it. Past the buffer's end there is no line, so nothing is put and the place stays.
+// What is put into a line, for a caller who keeps its own buffer: each takes the buffer and the place where the line
+// goes on, and answers the place behind it. Past the buffer's end there is no line, so nothing is put and the place
+// stays.
 ghost use Rattle.std.specs.Prelude.{◌≡◌, [], ◌∷◌};
 ghost use Rattle.wording.specs.Lines.{line_in, puts, decimal};
 ghost use Rattle.wording.specs.Records.{record_line, chunk_line};
