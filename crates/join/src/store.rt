@@ -55,8 +55,9 @@ fn store_piece<const N: usize>(text: &mut [u8], place: usize, bytes: &[u8], at: 
     text[place..place + N].copy_from_slice(&bytes[at..at + N]);
 }
 
-// N bytes or more: by pieces of N, the last of which may overlap the one before. No `copy_from_slice` of any length
-// stands here: by it the archive for C would need `memmove` from outside (rust/felgutrosa/README.md).
+// N bytes or more: by pieces of N, the last of which may overlap the one before. The longer the pieces, the fewer the
+// turns. No `copy_from_slice` of any length stands here: by it the archive for C would need `memmove` from outside
+// (rust/felgutrosa/README.md).
 fn store_many<const N: usize>(text: &mut [u8], place: usize, bytes: &[u8])
     requires { (0 < N) × (N ≤ length bytes.now) × (place + length bytes.now ≤ length text.old) }
     ensures { text.new ≡ sets text.old place bytes.now }
@@ -83,7 +84,8 @@ pub(crate) fn store_bytes(text: &mut [u8], place: usize, bytes: &[u8])
         4..=8 => store_ends::<4>(text, place, bytes),
         9..=16 => store_ends::<8>(text, place, bytes),
         17..=32 => store_ends::<16>(text, place, bytes),
-        _ => store_many::<16>(text, place, bytes),
+        33..=64 => store_many::<32>(text, place, bytes),
+        _ => store_many::<64>(text, place, bytes),
     }
 }
 
