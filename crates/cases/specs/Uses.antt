@@ -4,15 +4,14 @@ use Rattle.losses.specs.declared.search.Loss.{Loss}
 use Rattle.losses.specs.Lost.{lost_from}
 use Rattle.cases.specs.declared.uses.Uses.{Uses}
 
--- those of a tree, from its first byte on
-pub record AreAllOf (tree : List ℕ) (uses : Uses) : Type 0 where
-  pub same_tree : uses.tree.now ≡ tree
-  pub from_start : uses.from ≡ 0
-
--- those at or after an offset
+-- those of a tree at or after an offset
 pub record AreSince (offset : ℕ) (tree : List ℕ) (uses : Uses) : Type 0 where
   pub same_tree : uses.tree.now ≡ tree
   pub from_offset : uses.from ≡ offset
+
+-- all of them: from its first byte on
+abbrev pub AreAllOf : List ℕ → Uses → Type 0
+AreAllOf = AreSince 0
 
 -- a record with its letters is what `lost` tells from the offset that was come to, and the search goes on behind it; an
 -- offset has two bytes
