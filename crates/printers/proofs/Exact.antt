@@ -15,7 +15,7 @@ use Rattle.printing.proofs.Pushing.{full_not_pushed}
 use Rattle.printing.proofs.Running.{ran_push}
 use Rattle.printers.specs.declared.Printer.{Printer}
 use Rattle.printers.specs.Going.{Page, page_of, ByRoom, lacking, held_of, GoesExact}
-use Rattle.printers.proofs.Going.{◌onward◌, there, runs_alike, has_ended, stays}
+use Rattle.printers.proofs.Going.{◌onward◌, there, runs_alike, has_ended, steps}
 
 -- ---- the length that did not fit
 
@@ -88,11 +88,29 @@ exact_alike {before} done same = record {
   };
 }
 
--- ---- no step at all
+-- ---- steps that need no room: a walk that has ended takes them too
 
+-- the state with whatever length did not fit
+abbrev state_with : Printer → ℕ → State
+state_with printer full = record { used = printer.used; solid = printer.solid; spaced = printer.spaced; full = full }
+
+pub steps_exactly : {before after : Printer} {events : Page → ℕ → Events} {end : Page → ℕ → ℕ}
+    → page_of after ≡ page_of before → after.room ≡ before.room → after.ended ≡ before.ended
+    → ((full : ℕ) → run (events (page_of before) before.at) (going before.room.now (state_with before full)) ≡ going before.room.now (state_with after full))
+    → after.at ≡ end (page_of before) before.at → GoesExact before after events end
+steps_exactly {before} {after} page room over ran placed = record {
+  goes = steps page room over (record { ran = ran 0 }) placed;
+  keeps = record {
+    state = λ by_room. rw (room, over) (ran (lacking before.ended));
+    by_room = λ by_room. rw over by_room;
+    place = placed;
+  };
+}
+
+-- no step at all is one
 pub exact_stays : {printer : Printer} → GoesExact printer printer (λ page at. nothing) (λ page at. at)
 unfolding run
-exact_stays = record { goes = stays; keeps = record { state = λ by_room. refl; by_room = λ by_room. by_room; place = refl } }
+exact_stays = steps_exactly refl refl refl (λ full. refl) refl
 
 -- nothing is pushed where the walk has ended
 pub over_exact : {printer : Printer} {ty : ChunkType} {text : List ℕ} → is_some printer.ended ≡ true
